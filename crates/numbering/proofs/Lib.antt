@@ -1,0 +1,10 @@
+pub mod Vectors
+pub mod Rank
+pub mod Block
+pub mod Unrank
+pub mod Position
+pub mod Numbering
+pub mod Ordering
+pub mod Succession
+pub mod Twos
+pub mod Parents

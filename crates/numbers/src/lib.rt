@@ -1,0 +1,251 @@
+// The number of a point, the point of a number, and the order of level vectors.
+use numbering::Order;
+use points::Located;
+use points::Outcome;
+use points::Point;
+use refusals::Refusal;
+use refusals::Verdict;
+use shapes::Shape;
+
+ghost use mathlib.Core.Path.{_≡_};
+ghost use Prim.Native.Nat.{_+_, _^_, _≤_, _<_};
+ghost use lib.ListN.{length};
+ghost use Rattle.naturals.specs.Sum.{sumTo};
+ghost use Rattle.numbering.specs.declared.Order.the-variants.{Same};
+ghost use Rattle.numbering.specs.Count.{vectors, points};
+ghost use Rattle.numbering.specs.Point.{at, IsPoint};
+ghost use Rattle.numbering.specs.Number.{number, rank, position};
+ghost use Rattle.numbering.specs.Inverse.{levelOf};
+ghost use Rattle.numbering.specs.Order.{orderOfLevels};
+ghost use Rattle.points.specs.Points.{eight, pointAt};
+ghost use Rattle.numbers.specs.Numbers.{numberOfPoint, pointOfNumber};
+
+pub enum Numbered {
+    At(u64),
+    Refused(Refusal),
+}
+
+fn wide(x: u32) -> u64
+    ensures { λ r. ⌜ r ≡ x ⌝ }
+{
+    x as u64
+}
+
+// ---- from point to number
+
+// The level sum of the first axes.
+fn level_sum(axes: usize, levels: &[u32]) -> u32
+    requires { ⌜ (axes ≤ length (now levels)) × (sumTo (at (now levels)) axes ≤ 8) ⌝ }
+    ensures { λ r. ⌜ r ≡ sumTo (at (now (levels .entry))) axes ⌝ }
+{
+    let mut sum: u32 = 0;
+    for t in 0..axes {
+        sum += levels[t];
+    }
+    sum
+}
+
+// The rank of a level vector: two entries of the table for each axis that has a level.
+fn vector_rank(axes: usize, levels: &[u32]) -> u64
+    requires { ⌜ (axes ≤ 8) × (axes ≤ length (now levels)) × (sumTo (at (now levels)) axes ≤ 8) ⌝ }
+    ensures { λ r. ⌜ r ≡ rank (at (now (levels .entry))) axes ⌝ }
+{
+    let mut rank: u64 = 0;
+    let mut sum: u32 = 0;
+    let mut t: usize = 0;
+    while t < axes {
+        let next = sum + levels[t];
+        let row = (t + 1) as u32;
+        rank = rank + shapes::vector_count(row, next) - shapes::vector_count(row, sum);
+        sum = next;
+        t += 1;
+    }
+    rank
+}
+
+// The position of a point among those of its level vector.
+fn position_at(axes: usize, levels: &[u32], indices: &[u32]) -> u64
+    requires { ⌜ (axes ≤ length (now levels)) × (axes ≤ length (now indices)) × IsPoint axes 8 (at (now levels)) (at (now indices)) ⌝ }
+    ensures { λ r. ⌜ r ≡ position (at (now (levels .entry))) (at (now (indices .entry))) axes ⌝ }
+{
+    let mut position: u64 = 0;
+    let mut sum: u32 = 0;
+    let mut t: usize = 0;
+    while t < axes {
+        position += wide((indices[t] - 1) / 2) << sum;
+        sum += levels[t];
+        t += 1;
+    }
+    position
+}
+
+// The number of a point of these axes, whose levels sum to at most 8.
+pub fn number_at(axes: u32, levels: &[u32], indices: &[u32]) -> u64
+    requires { ⌜ (1 ≤ axes) × (axes ≤ 8) × (axes ≤ length (now levels)) × (axes ≤ length (now indices)) × IsPoint axes 8 (at (now levels)) (at (now indices)) ⌝ }
+    ensures { λ r. ⌜ r ≡ number axes (at (now (levels .entry))) (at (now (indices .entry))) ⌝ }
+{
+    let count = axes as usize;
+    let sum = level_sum(count, levels);
+    shapes::first_number(axes, sum) + (vector_rank(count, levels) << sum) + position_at(count, levels, indices)
+}
+
+// The number of a point.
+pub fn number_of_point(shape: Shape, levels: &[u32], indices: &[u32]) -> Numbered
+    ensures { λ r. ⌜ r ≡ numberOfPoint shape (now (levels .entry)) (now (indices .entry)) ⌝ }
+{
+    match points::check_point(shape, levels, indices) {
+        Verdict::Refused(r) => Numbered::Refused(r),
+        Verdict::Passed => Numbered::At(number_at(shape.axes, levels, indices)),
+    }
+}
+
+// ---- from number to point
+
+// What is found of a place among blocks: the block, and the place within it.
+struct Found {
+    block: u32,
+    rest: u64,
+}
+
+// The level sum of a point number, and how many points of that sum come before it.
+fn shell_of(axes: u32, level: u32, number: u64) -> Found
+    requires { ⌜ (1 ≤ axes) × (axes ≤ 8) × (level ≤ 8) × (number < points axes level) ⌝ }
+{
+    let mut sum: u32 = 0;
+    let mut rest = number;
+    loop {
+        let size = shapes::vector_count(axes, sum) << sum;
+        if rest < size {
+            return Found { block: sum, rest: rest };
+        }
+        rest -= size;
+        sum += 1;
+    }
+}
+
+// The last level of the level vector of axes + 1 axes with this rank and level sum, and the rank of the others.
+fn last_level(axes: u32, sum: u32, rank: u64) -> Found
+    requires { ⌜ (1 ≤ axes) × (axes < 8) × (sum ≤ 8) × (rank < vectors (axes + 1) sum) ⌝ }
+{
+    let mut level: u32 = 0;
+    let mut rest = rank;
+    loop {
+        let size = shapes::vector_count(axes, sum - level);
+        if rest < size {
+            return Found { block: level, rest: rest };
+        }
+        rest -= size;
+        level += 1;
+    }
+}
+
+// The level vector of this rank and level sum, from the last axis down.
+fn levels_of(axes: u32, sum: u32, rank: u64) -> [u32; 8]
+    requires { ⌜ (1 ≤ axes) × (axes ≤ 8) × (sum ≤ 8) × (rank < vectors axes sum) ⌝ }
+    ensures { λ r. ⌜ r ≡ eight (levelOf axes sum rank) ⌝ }
+{
+    let mut levels = [0u32; 8];
+    let mut k = axes - 1;
+    let mut left = sum;
+    let mut rest = rank;
+    while 0 < k {
+        let found = last_level(k, left, rest);
+        levels[k as usize] = found.block;
+        left -= found.block;
+        rest = found.rest;
+        k -= 1;
+    }
+    levels[0] = left;
+    levels
+}
+
+// The indices at a position among the points of a level vector: the digits of the position, axis 1 lowest, l_t bits for axis t.
+fn indices_of(axes: u32, levels: [u32; 8], position: u64) -> [u32; 8]
+    requires { ⌜ (axes ≤ 8) × (sumTo (at levels) axes ≤ 8) × (position < 2 ^ sumTo (at levels) axes) ⌝ }
+    ensures { λ r. ⌜ r ≡ eight (indicesOf axes levels position) ⌝ }
+{
+    let mut indices = [0u32; 8];
+    let mut rest = position;
+    let mut t: usize = 0;
+    while t < axes as usize {
+        let bits = levels[t];
+        let next = rest >> bits;
+        indices[t] = (2 * (rest - (next << bits)) + 1) as u32;
+        rest = next;
+        t += 1;
+    }
+    indices
+}
+
+// Point number `number` of these axes and top level.
+pub fn point_at(axes: u32, level: u32, number: u64) -> Point
+    requires { ⌜ (1 ≤ axes) × (axes ≤ 8) × (level ≤ 8) × (number < points axes level) ⌝ }
+    ensures { λ r. ⌜ r ≡ pointAt axes level number ⌝ }
+{
+    let shell = shell_of(axes, level, number);
+    let sum = shell.block;
+    let rest = shell.rest;
+    let rank = rest >> sum;
+    let levels = levels_of(axes, sum, rank);
+    let indices = indices_of(axes, levels, rest - (rank << sum));
+    Point {
+        levels: levels,
+        indices: indices,
+    }
+}
+
+// The point of a number.
+pub fn point_of_number(shape: Shape, number: u64) -> Located
+    ensures { λ r. ⌜ r ≡ pointOfNumber shape number ⌝ }
+{
+    if let Verdict::Refused(r) = shapes::check_shape(shape) {
+        return refused(r);
+    }
+    let axes = shape.axes;
+    let level = shape.level;
+    if shapes::first_number(axes, level + 1) <= number {
+        return refused(Refusal::PointNumber);
+    }
+    Located {
+        outcome: Outcome::Found,
+        point: point_at(axes, level, number),
+    }
+}
+
+// ---- the order of level vectors
+
+// Two level vectors in document 01's order: the smaller level sum first, then the smaller level on the last axis at which they differ.
+pub fn compare_levels(a: [u32; 8], b: [u32; 8]) -> Order
+    ensures { λ r. ⌜ r ≡ orderOfLevels 8 (at a) (at b) Same ⌝ }
+{
+    let x = total(a);
+    let y = total(b);
+    if x < y {
+        return Order::Before;
+    }
+    if y < x {
+        return Order::After;
+    }
+    let mut t: usize = 8;
+    while 0 < t {
+        t -= 1;
+        if a[t] < b[t] {
+            return Order::Before;
+        }
+        if b[t] < a[t] {
+            return Order::After;
+        }
+    }
+    Order::Same
+}
+
+// The sum of eight levels, whatever they are.
+fn total(levels: [u32; 8]) -> u64
+    ensures { λ r. ⌜ r ≡ sumTo (at levels) 8 ⌝ }
+{
+    let mut sum: u64 = 0;
+    for t in 0..8 {
+        sum += wide(levels[t]);
+    }
+    sum
+}

@@ -1,0 +1,4 @@
+pub mod Eight
+pub mod PointTest
+pub mod Tested
+pub mod Passed

@@ -1,0 +1,3 @@
+pub mod Binomials
+pub mod Totals
+pub mod Checked

@@ -1,0 +1,19 @@
+-- Shapes, and the count of their points (document 01, "Terms and limits").
+-- Assumes nothing.
+use mathlib.Core.Bool.{_&&_}
+use lib.Dec.{leb}
+use Rattle.refusals.specs.declared.Refusal.the-variants.{Axes, Level}
+use Rattle.refusals.specs.declared.Verdict.{Verdict}
+use Rattle.refusals.specs.Checks.{unless, _andThen_, answer}
+use Rattle.numbering.specs.Count.{points}
+use Rattle.shapes.specs.declared.Shape.{Shape}
+use Rattle.shapes.specs.declared.Counted.{Counted}
+use Rattle.shapes.specs.declared.Counted.the-variants.{Points, Refused}
+
+-- A shape has 1 to 8 axes and a top level of at most 8.
+unfoldable pub checkShape : Shape → Verdict
+checkShape s = unless (leb 1 (s .axes) && leb (s .axes) 8) Axes andThen unless (leb (s .level) 8) Level
+
+-- The count of the points of a shape.
+unfoldable pub counted : Shape → Counted
+counted s = answer Refused (checkShape s) (Points (points (s .axes) (s .level)))
