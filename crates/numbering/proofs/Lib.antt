@@ -4,6 +4,7 @@ pub mod Block
 pub mod Unrank
 pub mod Position
 pub mod Numbering
+pub mod Named
 pub mod Ordering
 pub mod Succession
 pub mod Twos

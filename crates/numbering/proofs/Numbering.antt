@@ -2,10 +2,9 @@
 -- numbers run from 0 without gap and name each point once. True axis by axis: level sum, rank and position are read off a number in turn.
 -- Assumes nothing.
 use mathlib.Core.Path.{_≡_, refl, ap, ap₂, sym, _∙_}
-use Prim.Native.Nat.{ℕ, zero, suc, _+_, _-_, _*_, _/_, _%_, _^_, _≤_, _<_}
+use Prim.Native.Nat.{ℕ, suc, _+_, _*_, _/_, _%_, _^_, _≤_, _<_}
 use native.Mathlib.Nat.{mul-suc, mul-comm, mul-le-mul-left, mod-lt, div-add-mod, div-lt-iff-lt-mul, mul-add-div, mul-add-mod-self-left, div-eq-of-lt, mod-eq-of-lt}
 use native.Mathlib.Omega.{arith}
-use lib.Dec.{ltb}
 use lib.Pow.{pow-pos}
 use borrow.Author.Tests.{lt-ltb, le-ltb}
 use Rattle.naturals.specs.Sum.{sumTo}
@@ -14,7 +13,7 @@ use Rattle.numbering.specs.Count.{vectors, shell, start, points}
 use Rattle.numbering.specs.Point.{IsPoint}
 use Rattle.numbering.specs.Number.{rank, position, number}
 use Rattle.numbering.specs.Inverse.{block, levelOf, sumAt, within, levelAt, indexOf, indexAt}
-use Rattle.numbering.proofs.Rank.{rank-lt, rank-cong}
+use Rattle.numbering.proofs.Rank.{rank-lt}
 use Rattle.numbering.proofs.Block.{block-is, block-le, block-low, block-high}
 use Rattle.numbering.proofs.Unrank.{level-of-rank, level-past, sum-of-level, rank-of-level}
 use Rattle.numbering.proofs.Position.{position-lt, index-of-position, position-of-index, position-cong, index-odd, index-below}
@@ -97,11 +96,11 @@ unfolding levelAt
 level-of-number {d} {n} {l} {i} p t h =
     ap₂ (λ (s r : ℕ). levelOf d s r t) (sum-at p) (rank-at p) ∙ level-of-rank l d t h
 
-index-in : (d n p t : ℕ) → t < d → indexAt d n p t ≡ indexOf (levelAt d n p) (within d n p % 2 ^ sumAt d n p) t
+pub index-in : (d n p t : ℕ) → t < d → indexAt d n p t ≡ indexOf (levelAt d n p) (within d n p % 2 ^ sumAt d n p) t
 unfolding indexAt
 index-in d n p t h = rw (lt-ltb t d h)
 
-index-cong : (l m : ℕ → ℕ) (q t : ℕ) → ((u : ℕ) → u ≤ t → l u ≡ m u) → indexOf l q t ≡ indexOf m q t
+pub index-cong : (l m : ℕ → ℕ) (q t : ℕ) → ((u : ℕ) → u ≤ t → l u ≡ m u) → indexOf l q t ≡ indexOf m q t
 unfolding indexOf
 index-cong l m q t same =
     ap₂ (λ (s k : ℕ). 2 * (q / 2 ^ s % 2 ^ k) + 1) (sumTo-cong l m t (λ u h. same u (omega arith))) (same t (omega arith))
@@ -145,7 +144,7 @@ module _ (d n p : ℕ) (lt : p < points d n) where
   unfolding within
   within-is = omega (arith, sum-low)
 
-  rank-within : within d n p / 2 ^ sumAt d n p < vectors d (sumAt d n p)
+  pub rank-within : within d n p / 2 ^ sumAt d n p < vectors d (sumAt d n p)
   rank-within =
       div-lt-iff-lt-mul (pow-pos (sumAt d n p)) .1
       (omega
@@ -155,7 +154,7 @@ module _ (d n p : ℕ) (lt : p < points d n) where
       start-suc d (sumAt d n p),
       mul-comm (2 ^ sumAt d n p) (vectors d (sumAt d n p))))
 
-  levels-sum : sumTo (levelAt d n p) d ≡ sumAt d n p
+  pub levels-sum : sumTo (levelAt d n p) d ≡ sumAt d n p
   unfolding levelAt
   levels-sum = sum-of-level d (sumAt d n p) (within d n p / 2 ^ sumAt d n p) rank-within
 

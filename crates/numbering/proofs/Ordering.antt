@@ -2,7 +2,7 @@
 -- True since each part of the number is below the step of the part before it.
 -- Assumes nothing.
 use mathlib.Core.Path.{_≡_, refl, ap, ap₂, sym, _∙_}
-use Prim.Native.Nat.{ℕ, zero, suc, _+_, _-_, _*_, _^_, _≤_, _<_}
+use Prim.Native.Nat.{ℕ, zero, suc, _+_, _-_, _*_, _^_, _<_}
 use native.Mathlib.Nat.{mul-suc, mul-le-mul-left}
 use native.Mathlib.Omega.{arith}
 use borrow.Author.Tests.{lt-ltb, le-ltb}
@@ -45,11 +45,11 @@ by-shift : (a b c x y : ℕ) (next : Order) → x ≡ a + c → y ≡ b + c → 
 by-shift a b c x y next ex ey =
     by-same a b x y next next (λ h. omega arith) (λ h. omega arith) (λ e. by-equal x y next (omega arith))
 
-levels-zero : (l m : ℕ → ℕ) (next : Order) → byLevels l m 0 next ≡ next
+pub levels-zero : (l m : ℕ → ℕ) (next : Order) → byLevels l m 0 next ≡ next
 unfolding byLevels
 levels-zero l m next = refl
 
-levels-suc : (l m : ℕ → ℕ) (k : ℕ) (next : Order) → byLevels l m (suc k) next ≡ by (l k) (m k) (byLevels l m k next)
+pub levels-suc : (l m : ℕ → ℕ) (k : ℕ) (next : Order) → byLevels l m (suc k) next ≡ by (l k) (m k) (byLevels l m k next)
 unfolding byLevels
 levels-suc l m k next = refl
 

@@ -4,12 +4,12 @@
 -- Assumes nothing.
 use mathlib.Core.Path.{_≡_, refl, ap, ap₂, sym, _∙_, fun-ext}
 use mathlib.Core.Bool.{Bool, true, false, _||_, true≢false}
-use Prim.Native.Nat.{ℕ, zero, suc, _+_, _-_, _*_, _/_, _%_, _^_, _≤_, _<_}
+use Prim.Native.Nat.{ℕ, zero, suc, _+_, _-_, _*_, _%_, _^_, _≤_, _<_}
 use native.Mathlib.Nat.{mul-comm, mul-assoc, mul-le-mul-right, one-mul, mul-one, lt-of-mul-lt-mul-right}
 use native.Mathlib.Omega.{arith}
 use lib.Dec.{eqb}
-use lib.Pow.{pow-pos, pow-mono, pow-add}
-use borrow.Author.Tests.{eq-eqb, ne-eqb, eqb-true, eqb-false}
+use lib.Pow.{pow-mono, pow-add}
+use borrow.Author.Tests.{eq-eqb, ne-eqb, eqb-false}
 use Rattle.naturals.specs.Sum.{sumTo}
 use Rattle.naturals.specs.Test.{if_then_else_}
 use Rattle.naturals.proofs.Cases.{eq-or-not, le-or-lt, true-or-false}
@@ -18,7 +18,7 @@ use Rattle.numbering.specs.declared.Side.{Side}
 use Rattle.numbering.specs.declared.Side.the-variants.{Left, Right}
 use Rattle.numbering.specs.Point.{IsPoint}
 use Rattle.numbering.specs.Number.{number}
-use Rattle.numbering.specs.Parent.{numerator, isBorder, twos, parentLevel, parentIndex, update, Neighbour, border, inner, moved, parent, beyond}
+use Rattle.numbering.specs.Parent.{numerator, isBorder, twos, parentLevel, parentIndex, update, border, inner, moved, parent, beyond}
 use Rattle.numbering.proofs.Twos.{zeros-divide, zeros-left-odd}
 use Rattle.numbering.proofs.Ordering.{smaller-sum}
 

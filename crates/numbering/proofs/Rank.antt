@@ -1,7 +1,7 @@
 -- The rank of a level vector among those of its level sum: how it is read off two counts for each axis, and that it is below their count.
 -- True since row k + 1 of the counts is the running sum of row k (Pascal's rule).
 -- Assumes nothing.
-use mathlib.Core.Path.{_≡_, refl, ap, _∙_}
+use mathlib.Core.Path.{_≡_, refl, ap}
 use Prim.Native.Nat.{ℕ, zero, suc, _+_, _-_, _≤_, _<_}
 use native.Mathlib.Nat.{sub-zero}
 use native.Mathlib.Omega.{arith}

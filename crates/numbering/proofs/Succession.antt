@@ -2,16 +2,16 @@
 -- at their last, the first level v above 0 that has an axis after it moves: one of it to the next axis, the rest to the first; this adds 1 to
 -- the rank. Where only the last axis has a level, the vector is the last of its level sum, and the first of the next sum follows.
 -- Assumes nothing.
-use mathlib.Core.Path.{_≡_, refl, ap, ap₂, sym, _∙_}
-use Prim.Native.Nat.{ℕ, zero, suc, _+_, _-_, _*_, _/_, _%_, _^_, _≤_, _<_}
-use native.Mathlib.Nat.{add-mul, zero-mul, one-mul, mul-comm, mul-zero, mul-suc}
+use mathlib.Core.Path.{_≡_, ap, sym}
+use Prim.Native.Nat.{ℕ, zero, suc, _-_, _*_, _/_, _^_, _≤_, _<_}
+use native.Mathlib.Nat.{zero-mul, mul-comm, mul-zero, mul-suc}
 use native.Mathlib.Omega.{arith}
 use Rattle.naturals.specs.Sum.{sumTo}
-use Rattle.naturals.proofs.Cases.{le-or-lt, eq-or-not}
+use Rattle.naturals.proofs.Cases.{eq-or-not}
 use Rattle.naturals.proofs.Sums.{sumTo-zero, sumTo-suc}
 use Rattle.numbering.specs.Count.{vectors, start}
 use Rattle.numbering.specs.Number.{ending, rank, position, number}
-use Rattle.numbering.proofs.Vectors.{pascal, vectors-zero, vectors-pos, vectors-one}
+use Rattle.numbering.proofs.Vectors.{pascal, vectors-zero, vectors-one}
 use Rattle.numbering.proofs.Rank.{rank-zero, rank-suc, rank-step}
 use Rattle.numbering.proofs.Position.{half, position-zero, position-suc, pow-sum}
 use Rattle.numbering.proofs.Numbering.{number-is, start-suc}
@@ -129,7 +129,6 @@ rank-last l k zeros =
 pub record NextLevels (d k : ℕ) (l m : ℕ → ℕ) : Type 0 where
   pub axis : suc k < d
   pub zeros : (t : ℕ) → t < k → l t ≡ 0
-  pub some : 0 < l k
   pub first : suc (m 0) ≡ l k
   pub cleared : (t : ℕ) → 0 < t → t < suc k → m t ≡ 0
   pub raised : m (suc k) ≡ suc (l (suc k))
@@ -189,22 +188,6 @@ pub next-rank : {d k : ℕ} {l m : ℕ → ℕ} → NextLevels d k l m → rank 
 next-rank {d} {k} {l} {m} s = next-rank-to d k l m s d (s .axis) (omega arith)
 
 -- ---- numbers
-
--- The next position on the same levels.
-pub number-next-index : {d t : ℕ} {l i j : ℕ → ℕ} → NextIndices d t l i j → number d l j ≡ suc (number d l i)
-number-next-index {d} {t} {l} {i} {j} s = omega (arith, number-is d l j, number-is d l i, next-position s)
-
--- The first position on the next levels, after the last position.
-pub number-next-levels : {d k : ℕ} {l m : ℕ → ℕ} (i j : ℕ → ℕ) → NextLevels d k l m →
-    suc (position l i d) ≡ 2 ^ sumTo l d → position m j d ≡ 0 → number d m j ≡ suc (number d l i)
-number-next-levels {d} {k} {l} {m} i j s last first =
-    omega
-    (arith,
-    number-is d m j,
-    number-is d l i,
-    ap (start d) (next-sum s),
-    ap₂ (λ (u r : ℕ). 2 ^ u * r) (next-sum s) (next-rank s),
-    mul-suc (2 ^ sumTo l d) (rank l d))
 
 -- The last point of a level sum: one below the first of the next.
 pub number-last : (d : ℕ) (l i : ℕ → ℕ) → suc (rank l d) ≡ vectors d (sumTo l d) → suc (position l i d) ≡ 2 ^ sumTo l d →

@@ -1,8 +1,8 @@
 -- Trailing zeros: a number is an odd number times two to the power of its trailing zeros. True digit by digit.
 -- Assumes nothing.
 use mathlib.Core.Path.{_≡_, refl, ap, ap₂, sym, _∙_}
-use Prim.Native.Nat.{ℕ, zero, suc, _+_, _-_, _*_, _/_, _%_, _^_, _≤_, _<_}
-use native.Mathlib.Nat.{pow-suc, pow-zero, mul-one, mul-assoc, mul-comm, div-one, div-div-eq-div-mul}
+use Prim.Native.Nat.{ℕ, zero, suc, _*_, _/_, _%_, _^_, _<_}
+use native.Mathlib.Nat.{pow-suc, mul-one, mul-assoc, mul-comm, div-one, div-div-eq-div-mul}
 use native.Mathlib.Omega.{arith}
 use lib.Count.{trailingZeros, under}
 use Rattle.naturals.proofs.Cases.{eq-or-not}
@@ -22,9 +22,6 @@ zeros-none m = refl
 -- Dividing by one power of two more is dividing the half.
 div-pow-suc : (m z : ℕ) → m / 2 ^ suc z ≡ m / 2 / 2 ^ z
 div-pow-suc m z = ap (λ (x : ℕ). m / x) (pow-suc 2 z ∙ mul-comm (2 ^ z) 2) ∙ sym (div-div-eq-div-mul m 2 (2 ^ z))
-
-div-pow-zero : (m : ℕ) → m / 2 ^ 0 ≡ m
-div-pow-zero m = div-one m
 
 pub zeros-divide : (k m : ℕ) → m / 2 ^ trailingZeros k m * 2 ^ trailingZeros k m ≡ m
 zeros-divide zero m = rw (zeros-none m) (mul-one (m / 1) ∙ div-one m)

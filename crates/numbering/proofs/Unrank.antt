@@ -1,11 +1,10 @@
 -- The level vector of a rank: from rank to vector and from vector to rank undo each other, axis by axis from the last.
 -- True since the rank of a vector lies in the block of those that end as it does.
 -- Assumes nothing.
-use mathlib.Core.Path.{_≡_, refl, ap, ap₂, sym, _∙_}
+use mathlib.Core.Path.{_≡_, refl, ap, ap₂, _∙_}
 use Prim.Native.Nat.{ℕ, zero, suc, _+_, _-_, _≤_, _<_}
-use native.Mathlib.Nat.{sub-self, sub-zero}
+use native.Mathlib.Nat.{sub-self}
 use native.Mathlib.Omega.{arith}
-use lib.Dec.{eqb}
 use borrow.Author.Tests.{eq-eqb, ne-eqb}
 use Rattle.naturals.specs.Sum.{sumTo}
 use Rattle.naturals.proofs.Cases.{eq-or-not}
@@ -18,14 +17,14 @@ use Rattle.numbering.proofs.Rank.{ending-is, ending-sum, rank-zero, ran
 use Rattle.numbering.proofs.Block.{block-is, block-le, block-low, block-high}
 
 -- What is left of a rank below the block of the last level.
-abbrev rest : ℕ → ℕ → ℕ → ℕ
+abbrev pub rest : ℕ → ℕ → ℕ → ℕ
 rest k s r = r - sumTo (ending k s) (lastLevel k s r)
 
-level-last : (k s r : ℕ) → levelOf (suc k) s r k ≡ lastLevel k s r
+pub level-last : (k s r : ℕ) → levelOf (suc k) s r k ≡ lastLevel k s r
 unfolding levelOf
 level-last k s r = rw (eq-eqb k k refl)
 
-level-before : (k s r t : ℕ) → t < k → levelOf (suc k) s r t ≡ levelOf k (s - lastLevel k s r) (rest k s r) t
+pub level-before : (k s r t : ℕ) → t < k → levelOf (suc k) s r t ≡ levelOf k (s - lastLevel k s r) (rest k s r) t
 unfolding levelOf
 level-before k s r t h = rw (ne-eqb t k (λ e. omega arith))
 
@@ -51,7 +50,7 @@ pub last-low : (k s r : ℕ) → sumTo (ending k s) (lastLevel k s r) ≤ r
 unfolding lastLevel
 last-low k s r = block-low (ending k s) s r
 
-all-endings : (k s : ℕ) → sumTo (ending k s) (suc s) ≡ vectors (suc k) s
+pub all-endings : (k s : ℕ) → sumTo (ending k s) (suc s) ≡ vectors (suc k) s
 all-endings k s =
     omega
     (arith,

@@ -3,7 +3,7 @@
 -- Assumes nothing.
 use mathlib.Core.Path.{_≡_, refl, ap, sym, _∙_}
 use Prim.Native.Nat.{ℕ, zero, suc, _+_, _≤_, _<_}
-use native.Mathlib.Nat.{zero-add, add-suc, suc-add, add-zero}
+use native.Mathlib.Nat.{zero-add, add-suc, suc-add}
 use native.Mathlib.Omega.{arith}
 use Rattle.numbering.specs.Binomial.{choose}
 use Rattle.numbering.specs.Count.{vectors}

@@ -4,7 +4,7 @@ use Prim.Native.Nat.{ℕ, zero, suc, _+_, _-_, _*_, _/_, _%_, _^_}
 use lib.Dec.{leb, ltb, eqb}
 use Rattle.naturals.specs.Sum.{sumTo}
 use Rattle.naturals.specs.Test.{if_then_else_}
-use Rattle.numbering.specs.Count.{vectors, shell, start}
+use Rattle.numbering.specs.Count.{shell, start}
 use Rattle.numbering.specs.Number.{ending}
 
 -- In which block place r lies, where block 0 has the first f 0 places, block 1 the next f 1 and so on: the largest j up to m whose first place

@@ -6,29 +6,23 @@ use points::Point;
 use refusals::Refusal;
 use refusals::Verdict;
 use shapes::Shape;
-
 ghost use mathlib.Core.Path.{_≡_};
-ghost use Prim.Native.Nat.{_+_, _^_, _≤_, _<_};
+ghost use Prim.Native.Nat.{suc, _%_, _^_, _≤_, _<_};
 ghost use lib.ListN.{length};
 ghost use Rattle.naturals.specs.Sum.{sumTo};
 ghost use Rattle.numbering.specs.declared.Order.the-variants.{Same};
-ghost use Rattle.numbering.specs.Count.{vectors, points};
+ghost use Rattle.numbering.specs.Count.{vectors, shell, points};
 ghost use Rattle.numbering.specs.Point.{at, IsPoint};
-ghost use Rattle.numbering.specs.Number.{number, rank, position};
+ghost use Rattle.numbering.specs.Number.{number, rank, position, ending};
 ghost use Rattle.numbering.specs.Inverse.{levelOf};
 ghost use Rattle.numbering.specs.Order.{orderOfLevels};
 ghost use Rattle.points.specs.Points.{eight, pointAt};
 ghost use Rattle.numbers.specs.Numbers.{numberOfPoint, pointOfNumber};
+ghost use Rattle.numbers.specs.Steps.{Lies, indicesOf};
 
 pub enum Numbered {
     At(u64),
     Refused(Refusal),
-}
-
-fn wide(x: u32) -> u64
-    ensures { λ r. ⌜ r ≡ x ⌝ }
-{
-    x as u64
 }
 
 // ---- from point to number
@@ -39,13 +33,15 @@ fn level_sum(axes: usize, levels: &[u32]) -> u32
     ensures { λ r. ⌜ r ≡ sumTo (at (now (levels .entry))) axes ⌝ }
 {
     let mut sum: u32 = 0;
-    for t in 0..axes {
+    let mut t: usize = 0;
+    while t < axes {
         sum += levels[t];
+        t += 1;
     }
     sum
 }
 
-// The rank of a level vector: two entries of the table for each axis that has a level.
+// The rank of a level vector: two entries of the table for each axis.
 fn vector_rank(axes: usize, levels: &[u32]) -> u64
     requires { ⌜ (axes ≤ 8) × (axes ≤ length (now levels)) × (sumTo (at (now levels)) axes ≤ 8) ⌝ }
     ensures { λ r. ⌜ r ≡ rank (at (now (levels .entry))) axes ⌝ }
@@ -55,7 +51,7 @@ fn vector_rank(axes: usize, levels: &[u32]) -> u64
     let mut t: usize = 0;
     while t < axes {
         let next = sum + levels[t];
-        let row = (t + 1) as u32;
+        let row = t as u32 + 1;
         rank = rank + shapes::vector_count(row, next) - shapes::vector_count(row, sum);
         sum = next;
         t += 1;
@@ -72,8 +68,10 @@ fn position_at(axes: usize, levels: &[u32], indices: &[u32]) -> u64
     let mut sum: u32 = 0;
     let mut t: usize = 0;
     while t < axes {
-        position += wide((indices[t] - 1) / 2) << sum;
-        sum += levels[t];
+        let half = (indices[t] - 1) / 2;
+        let bits = levels[t];
+        position += (half as u64) << sum;
+        sum += bits;
         t += 1;
     }
     position
@@ -86,7 +84,9 @@ pub fn number_at(axes: u32, levels: &[u32], indices: &[u32]) -> u64
 {
     let count = axes as usize;
     let sum = level_sum(count, levels);
-    shapes::first_number(axes, sum) + (vector_rank(count, levels) << sum) + position_at(count, levels, indices)
+    let rank = vector_rank(count, levels);
+    let position = position_at(count, levels, indices);
+    shapes::first_number(axes, sum) + (rank << sum) + position
 }
 
 // The number of a point.
@@ -101,38 +101,46 @@ pub fn number_of_point(shape: Shape, levels: &[u32], indices: &[u32]) -> Numbere
 
 // ---- from number to point
 
-// What is found of a place among blocks: the block, and the place within it.
-struct Found {
+// Where something lies among blocks: the block, and how much of it comes before.
+struct Place {
     block: u32,
     rest: u64,
 }
 
 // The level sum of a point number, and how many points of that sum come before it.
-fn shell_of(axes: u32, level: u32, number: u64) -> Found
+fn shell_of(axes: u32, level: u32, number: u64) -> Place
     requires { ⌜ (1 ≤ axes) × (axes ≤ 8) × (level ≤ 8) × (number < points axes level) ⌝ }
+    ensures { λ r. ⌜ Lies (shell axes) level number (r .block) (r .rest) ⌝ }
 {
     let mut sum: u32 = 0;
     let mut rest = number;
     loop {
         let size = shapes::vector_count(axes, sum) << sum;
         if rest < size {
-            return Found { block: sum, rest: rest };
+            return Place {
+                block: sum,
+                rest: rest,
+            };
         }
         rest -= size;
         sum += 1;
     }
 }
 
-// The last level of the level vector of axes + 1 axes with this rank and level sum, and the rank of the others.
-fn last_level(axes: u32, sum: u32, rank: u64) -> Found
-    requires { ⌜ (1 ≤ axes) × (axes < 8) × (sum ≤ 8) × (rank < vectors (axes + 1) sum) ⌝ }
+// The last level of the level vector of axes + 1 axes with this rank and level sum, and the rank of its other levels.
+fn last_level(axes: u32, sum: u32, rank: u64) -> Place
+    requires { ⌜ (1 ≤ axes) × (axes ≤ 8) × (sum ≤ 8) × (rank < vectors (suc axes) sum) ⌝ }
+    ensures { λ r. ⌜ Lies (ending axes sum) sum rank (r .block) (r .rest) ⌝ }
 {
     let mut level: u32 = 0;
     let mut rest = rank;
     loop {
         let size = shapes::vector_count(axes, sum - level);
         if rest < size {
-            return Found { block: level, rest: rest };
+            return Place {
+                block: level,
+                rest: rest,
+            };
         }
         rest -= size;
         level += 1;
@@ -145,33 +153,41 @@ fn levels_of(axes: u32, sum: u32, rank: u64) -> [u32; 8]
     ensures { λ r. ⌜ r ≡ eight (levelOf axes sum rank) ⌝ }
 {
     let mut levels = [0u32; 8];
-    let mut k = axes - 1;
+    let mut k = axes;
     let mut left = sum;
     let mut rest = rank;
-    while 0 < k {
-        let found = last_level(k, left, rest);
-        levels[k as usize] = found.block;
-        left -= found.block;
-        rest = found.rest;
+    while 1 < k {
         k -= 1;
+        let place = last_level(k, left, rest);
+        levels[k as usize] = place.block;
+        left -= place.block;
+        rest = place.rest;
     }
     levels[0] = left;
     levels
 }
 
+// The lowest bits of a number.
+fn low_bits(x: u64, bits: u32) -> u64
+    requires { ⌜ bits ≤ 8 ⌝ }
+    ensures { λ r. ⌜ r ≡ x % 2 ^ bits ⌝ }
+{
+    x - ((x >> bits) << bits)
+}
+
 // The indices at a position among the points of a level vector: the digits of the position, axis 1 lowest, l_t bits for axis t.
 fn indices_of(axes: u32, levels: [u32; 8], position: u64) -> [u32; 8]
-    requires { ⌜ (axes ≤ 8) × (sumTo (at levels) axes ≤ 8) × (position < 2 ^ sumTo (at levels) axes) ⌝ }
-    ensures { λ r. ⌜ r ≡ eight (indicesOf axes levels position) ⌝ }
+    requires { ⌜ (axes ≤ 8) × (sumTo (at levels) axes ≤ 8) ⌝ }
+    ensures { λ r. ⌜ r ≡ eight (indicesOf axes (at levels) position) ⌝ }
 {
     let mut indices = [0u32; 8];
     let mut rest = position;
     let mut t: usize = 0;
     while t < axes as usize {
         let bits = levels[t];
-        let next = rest >> bits;
-        indices[t] = (2 * (rest - (next << bits)) + 1) as u32;
-        rest = next;
+        let digit = low_bits(rest, bits);
+        indices[t] = (2 * digit + 1) as u32;
+        rest = rest >> bits;
         t += 1;
     }
     indices
@@ -182,12 +198,11 @@ pub fn point_at(axes: u32, level: u32, number: u64) -> Point
     requires { ⌜ (1 ≤ axes) × (axes ≤ 8) × (level ≤ 8) × (number < points axes level) ⌝ }
     ensures { λ r. ⌜ r ≡ pointAt axes level number ⌝ }
 {
-    let shell = shell_of(axes, level, number);
-    let sum = shell.block;
-    let rest = shell.rest;
-    let rank = rest >> sum;
-    let levels = levels_of(axes, sum, rank);
-    let indices = indices_of(axes, levels, rest - (rank << sum));
+    let place = shell_of(axes, level, number);
+    let sum = place.block;
+    let rest = place.rest;
+    let levels = levels_of(axes, sum, rest >> sum);
+    let indices = indices_of(axes, levels, low_bits(rest, sum));
     Point {
         levels: levels,
         indices: indices,
@@ -199,12 +214,12 @@ pub fn point_of_number(shape: Shape, number: u64) -> Located
     ensures { λ r. ⌜ r ≡ pointOfNumber shape number ⌝ }
 {
     if let Verdict::Refused(r) = shapes::check_shape(shape) {
-        return refused(r);
+        return points::nowhere(Outcome::Refused(r));
     }
     let axes = shape.axes;
     let level = shape.level;
     if shapes::first_number(axes, level + 1) <= number {
-        return refused(Refusal::PointNumber);
+        return points::nowhere(Outcome::Refused(Refusal::PointNumber));
     }
     Located {
         outcome: Outcome::Found,
@@ -213,6 +228,19 @@ pub fn point_of_number(shape: Shape, number: u64) -> Located
 }
 
 // ---- the order of level vectors
+
+// The sum of eight levels, whatever they are.
+fn total(levels: [u32; 8]) -> u64
+    ensures { λ r. ⌜ r ≡ sumTo (at levels) 8 ⌝ }
+{
+    let mut sum: u64 = 0;
+    let mut t: usize = 0;
+    while t < 8 {
+        sum += levels[t] as u64;
+        t += 1;
+    }
+    sum
+}
 
 // Two level vectors in document 01's order: the smaller level sum first, then the smaller level on the last axis at which they differ.
 pub fn compare_levels(a: [u32; 8], b: [u32; 8]) -> Order
@@ -237,15 +265,4 @@ pub fn compare_levels(a: [u32; 8], b: [u32; 8]) -> Order
         }
     }
     Order::Same
-}
-
-// The sum of eight levels, whatever they are.
-fn total(levels: [u32; 8]) -> u64
-    ensures { λ r. ⌜ r ≡ sumTo (at levels) 8 ⌝ }
-{
-    let mut sum: u64 = 0;
-    for t in 0..8 {
-        sum += wide(levels[t]);
-    }
-    sum
 }

@@ -3,15 +3,27 @@ use numbering::Side;
 use points::Located;
 use points::Outcome;
 use points::Point;
-use refusals::Refusal;
 use refusals::Verdict;
 use shapes::Shape;
-
 ghost use mathlib.Core.Path.{_≡_};
 ghost use Prim.Native.Nat.{_%_, _^_, _≤_, _<_, suc};
+ghost use Rattle.refusals.specs.Checks.{_andThen_};
 ghost use Rattle.numbering.specs.Point.{at};
-ghost use Rattle.numbering.specs.Parent.{parent};
+ghost use Rattle.numbering.specs.Parent.{numerator, parent};
+ghost use Rattle.shapes.specs.Shapes.{checkShape, checkAxis};
+ghost use Rattle.points.specs.Points.{checkLists};
 ghost use Rattle.parents.specs.Parents.{located, parentOf};
+
+// The numerator of the neighbour of an index.
+fn neighbour(side: Side, index: u32) -> u32
+    requires { ⌜ (1 ≤ index) × (index < 512) ⌝ }
+    ensures { λ r. ⌜ r ≡ numerator side index ⌝ }
+{
+    match side {
+        Side::Left => index - 1,
+        Side::Right => index + 1,
+    }
+}
 
 // The parent on axis t (from 0) of a point whose level there is at most 8 and whose index is one of its level.
 pub fn parent_on(t: usize, side: Side, p: Point) -> Located
@@ -21,10 +33,10 @@ pub fn parent_on(t: usize, side: Side, p: Point) -> Located
     let level = p.levels[t];
     let numerator = neighbour(side, p.indices[t]);
     if numerator == 0 {
-        return at_border();
+        return points::nowhere(Outcome::Border);
     }
     if numerator == (2 << level) {
-        return at_border();
+        return points::nowhere(Outcome::Border);
     }
     let up = u32::trailing_zeros(numerator);
     let mut parent = p;
@@ -36,9 +48,31 @@ pub fn parent_on(t: usize, side: Side, p: Point) -> Located
     }
 }
 
+// Refused with 1, 2, 5, 7 or 9. The check of the point tests the shape again, which has passed by then.
+fn check(shape: Shape, levels: &[u32], indices: &[u32], axis: u32) -> Verdict
+    ensures { λ r. ⌜ r ≡ checkShape shape andThen checkAxis shape axis andThen checkLists shape (now (levels .entry)) (now (indices .entry)) ⌝ }
+{
+    match shapes::check_shape(shape) {
+        Verdict::Refused(r) => Verdict::Refused(r),
+        Verdict::Passed => match shapes::check_axis(shape, axis) {
+            Verdict::Refused(r) => Verdict::Refused(r),
+            Verdict::Passed => points::check_point(shape, levels, indices),
+        },
+    }
+}
+
 // The parent of a point that is handed in as two lists.
 pub fn parent(shape: Shape, levels: &[u32], indices: &[u32], axis: u32, side: Side) -> Located
     ensures { λ r. ⌜ r ≡ parentOf shape (now (levels .entry)) (now (indices .entry)) axis side ⌝ }
 {
-    // to be written: check_shape, then the axis, then the lists
+    match check(shape, levels, indices, axis) {
+        Verdict::Refused(r) => points::nowhere(Outcome::Refused(r)),
+        Verdict::Passed => {
+            let p = Point {
+                levels: points::padded(levels),
+                indices: points::padded(indices),
+            };
+            parent_on((axis - 1) as usize, side, p)
+        }
+    }
 }

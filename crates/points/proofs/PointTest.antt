@@ -1,6 +1,6 @@
 -- The test of a point says what the fact says, both ways: each is made of the same sum, oddness and bounds.
 -- Assumes nothing.
-use mathlib.Core.Path.{_≡_, refl, sym, _∙_}
+use mathlib.Core.Path.{_≡_, sym, _∙_}
 use mathlib.Core.Bool.{true}
 use Prim.Native.Nat.{ℕ, suc, _*_, _%_, _^_, _≤_, _<_}
 use native.Mathlib.Nat.{pow-succ'}
@@ -17,21 +17,17 @@ use Rattle.numbering.specs.Point.{isIndex, indexed, isPoint, IsPoint}
 pub shifted : (l : ℕ) → l ≤ 8 → 2 * 2 ^ l % 2 ^ 32 ≡ 2 ^ suc l
 shifted l h = shl-exact {a = 2} 2 l 32 (lit< tt) (omega arith) ∙ sym (pow-succ' 2 l)
 
-pub index-odd : (l i : ℕ) → isIndex l i ≡ true → i % 2 ≡ 1
+pub passed-odd : (l i : ℕ) → isIndex l i ≡ true → i % 2 ≡ 1
 unfolding isIndex
-index-odd l i e = eqb-true (i % 2) 1 (and-left (eqb (i % 2) 1) (ltb i (2 ^ suc l)) e)
+passed-odd l i e = eqb-true (i % 2) 1 (and-left (eqb (i % 2) 1) (ltb i (2 ^ suc l)) e)
 
-pub index-below : (l i : ℕ) → isIndex l i ≡ true → i < 2 ^ suc l
+pub passed-below : (l i : ℕ) → isIndex l i ≡ true → i < 2 ^ suc l
 unfolding isIndex
-index-below l i e = ltb-true i (2 ^ suc l) (and-right (eqb (i % 2) 1) (ltb i (2 ^ suc l)) e)
+passed-below l i e = ltb-true i (2 ^ suc l) (and-right (eqb (i % 2) 1) (ltb i (2 ^ suc l)) e)
 
 pub index-passes : (l i : ℕ) → i % 2 ≡ 1 → i < 2 ^ suc l → isIndex l i ≡ true
 unfolding isIndex
 index-passes l i odd below = simp (eq-eqb (i % 2) 1 odd, lt-ltb i (2 ^ suc l) below)
-
-pub indexed-is : (l i : ℕ → ℕ) (t : ℕ) → indexed l i t ≡ isIndex (l t) (i t)
-unfolding indexed
-indexed-is l i t = refl
 
 pub is-point : {d n : ℕ} {l i : ℕ → ℕ} → isPoint d n l i ≡ true → IsPoint d n l i
 unfolding isPoint indexed
@@ -39,8 +35,8 @@ is-point {d} {n} {l} {i} e =
     let each = all-at (indexed l i) d (and-right (leb (sumTo l d) n) (all (indexed l i) d) e) in
     record {
       sum = leb-true (sumTo l d) n (and-left (leb (sumTo l d) n) (all (indexed l i) d) e);
-      odd = λ t h. index-odd (l t) (i t) (each t h);
-      below = λ t h. index-below (l t) (i t) (each t h);
+      odd = λ t h. passed-odd (l t) (i t) (each t h);
+      below = λ t h. passed-below (l t) (i t) (each t h);
     }
 
 pub point-passes : {d n : ℕ} {l i : ℕ → ℕ} → IsPoint d n l i → isPoint d n l i ≡ true

@@ -2,12 +2,11 @@
 use refusals::Refusal;
 use refusals::Verdict;
 use shapes::Shape;
-
 ghost use mathlib.Core.Path.{_≡_};
 ghost use Prim.Native.Nat.{_≤_};
 ghost use lib.ListN.{length};
 ghost use Rattle.numbering.specs.Point.{at, isIndex, isPoint};
-ghost use Rattle.points.specs.Points.{eight, none, checkLists, checkPoint, pointOf};
+ghost use Rattle.points.specs.Points.{eight, none, checkLists, checkPoint, pointOf, nowhere};
 
 // A level and an index on each axis; places past the last axis are 0.
 pub struct Point {
@@ -94,11 +93,10 @@ pub fn check_point(shape: Shape, levels: &[u32], indices: &[u32]) -> Verdict
 fn place(list: &[u32], t: usize) -> u32
     ensures { λ r. ⌜ r ≡ at (now (list .entry)) t ⌝ }
 {
-    if t < list.len() {
-        list[t]
-    } else {
-        0
+    if list.len() <= t {
+        return 0;
     }
+    list[t]
 }
 
 // The first eight numbers of a list, with zeros past its end.
@@ -117,8 +115,18 @@ pub fn padded(list: &[u32]) -> [u32; 8]
     ]
 }
 
+// No point, for this reason.
+pub fn nowhere(why: Outcome) -> Located
+    ensures { λ r. ⌜ r ≡ nowhere why ⌝ }
+{
+    Located {
+        outcome: why,
+        point: no_point(),
+    }
+}
+
 // All zeros.
-pub fn no_point() -> Point
+fn no_point() -> Point
     ensures { λ r. ⌜ r ≡ pointOf none none ⌝ }
 {
     Point {

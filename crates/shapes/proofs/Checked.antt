@@ -1,38 +1,43 @@
--- What a passed check of a shape tells: 1 to 8 axes and a top level of at most 8. And a shape so is passed.
+-- What a passed check of a shape tells: 1 to 8 axes and a top level of at most 8; and a shape so is passed. What a passed check of an axis tells.
 -- Assumes nothing.
-use mathlib.Core.Path.{_≡_, refl}
-use mathlib.Core.Bool.{Bool, true, false, _&&_}
-use Prim.Native.Nat.{_≤_}
+use mathlib.Core.Path.{_≡_}
+use mathlib.Core.Bool.{true, _&&_}
+use Prim.Native.Nat.{ℕ, _≤_}
 use lib.Dec.{leb}
 use borrow.Author.Tests.{leb-true, le-leb}
 use Rattle.naturals.proofs.Tests.{and-left, and-right}
-use Rattle.refusals.specs.declared.Refusal.the-variants.{Axes, Level}
+use Rattle.refusals.specs.declared.Refusal.the-variants.{Axes, Level, Axis}
 use Rattle.refusals.specs.declared.Verdict.the-variants.{Passed}
-use Rattle.refusals.specs.Checks.{unless, _andThen_}
+use Rattle.refusals.specs.Checks.{unless}
+use Rattle.refusals.proofs.Passing.{first-passed, next-passed, test-passed}
 use Rattle.shapes.specs.declared.Shape.{Shape}
-use Rattle.shapes.specs.Shapes.{checkShape}
+use Rattle.shapes.specs.Shapes.{checkShape, checkAxis}
 
 pub record InRange (s : Shape) : Type 0 where
   pub low : 1 ≤ s .axes
   pub high : s .axes ≤ 8
   pub top : s .level ≤ 8
 
-both : (a b : Bool) → unless a Axes andThen unless b Level ≡ Passed → (a ≡ true) × (b ≡ true)
-both true true e = (refl, refl)
-both true false e = (refl, cc)
-both false true e = (cc, refl)
-both false false e = (cc, cc)
+-- A number between two bounds, from the two tests.
+between : (a k b : ℕ) → leb a k && leb k b ≡ true → (a ≤ k) × (k ≤ b)
+between a k b e = (leb-true a k (and-left (leb a k) (leb k b) e), leb-true k b (and-right (leb a k) (leb k b) e))
 
 pub passed-in-range : (s : Shape) → checkShape s ≡ Passed → InRange s
 unfolding checkShape
 passed-in-range s e =
-    let tests = both (leb 1 (s .axes) && leb (s .axes) 8) (leb (s .level) 8) e in
+    let axes = unless (leb 1 (s .axes) && leb (s .axes) 8) Axes in
+    let level = unless (leb (s .level) 8) Level in
+    let bounds = between 1 (s .axes) 8 (test-passed (leb 1 (s .axes) && leb (s .axes) 8) Axes (first-passed axes level e)) in
     record {
-      low = leb-true 1 (s .axes) (and-left (leb 1 (s .axes)) (leb (s .axes) 8) (tests .0));
-      high = leb-true (s .axes) 8 (and-right (leb 1 (s .axes)) (leb (s .axes) 8) (tests .0));
-      top = leb-true (s .level) 8 (tests .1);
+      low = bounds .0;
+      high = bounds .1;
+      top = leb-true (s .level) 8 (test-passed (leb (s .level) 8) Level (next-passed axes level e));
     }
 
 pub in-range-passed : (s : Shape) → InRange s → checkShape s ≡ Passed
 unfolding checkShape
 in-range-passed s r = simp (le-leb 1 (s .axes) (r .low), le-leb (s .axes) 8 (r .high), le-leb (s .level) 8 (r .top))
+
+pub axis-in-range : (s : Shape) (axis : ℕ) → checkAxis s axis ≡ Passed → (1 ≤ axis) × (axis ≤ s .axes)
+unfolding checkAxis
+axis-in-range s axis e = between 1 axis (s .axes) (test-passed (leb 1 axis && leb axis (s .axes)) (Axis axis) e)

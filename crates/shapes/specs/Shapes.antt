@@ -1,8 +1,9 @@
 -- Shapes, and the count of their points (document 01, "Terms and limits").
 -- Assumes nothing.
 use mathlib.Core.Bool.{_&&_}
+use Prim.Native.Nat.{ℕ}
 use lib.Dec.{leb}
-use Rattle.refusals.specs.declared.Refusal.the-variants.{Axes, Level}
+use Rattle.refusals.specs.declared.Refusal.the-variants.{Axes, Level, Axis}
 use Rattle.refusals.specs.declared.Verdict.{Verdict}
 use Rattle.refusals.specs.Checks.{unless, _andThen_, answer}
 use Rattle.numbering.specs.Count.{points}
@@ -17,3 +18,7 @@ checkShape s = unless (leb 1 (s .axes) && leb (s .axes) 8) Axes andThen unless (
 -- The count of the points of a shape.
 unfoldable pub counted : Shape → Counted
 counted s = answer Refused (checkShape s) (Points (points (s .axes) (s .level)))
+
+-- An axis of a shape is one of 1 to d.
+unfoldable pub checkAxis : Shape → ℕ → Verdict
+checkAxis s axis = unless (leb 1 axis && leb axis (s .axes)) (Axis axis)

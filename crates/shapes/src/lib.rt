@@ -4,7 +4,7 @@ use refusals::Verdict;
 ghost use mathlib.Core.Path.{_≡_};
 ghost use Prim.Native.Nat.{_≤_};
 ghost use Rattle.numbering.specs.Count.{vectors, start};
-ghost use Rattle.shapes.specs.Shapes.{checkShape, counted};
+ghost use Rattle.shapes.specs.Shapes.{checkShape, checkAxis, counted};
 
 // A number of axes d and a top level n (document 01: a shape).
 pub struct Shape {
@@ -43,6 +43,19 @@ pub fn check_shape(shape: Shape) -> Verdict
     }
     if 8 < level {
         return Verdict::Refused(Refusal::Level);
+    }
+    Verdict::Passed
+}
+
+// Refused with 5.
+pub fn check_axis(shape: Shape, axis: u32) -> Verdict
+    ensures { λ r. ⌜ r ≡ checkAxis shape axis ⌝ }
+{
+    if axis < 1 {
+        return Verdict::Refused(Refusal::Axis(axis));
+    }
+    if shape.axes < axis {
+        return Verdict::Refused(Refusal::Axis(axis));
     }
     Verdict::Passed
 }

@@ -1,1 +1,2 @@
 pub mod Successor
+pub mod Steps

@@ -4,11 +4,12 @@ use points::Outcome;
 use points::Point;
 use refusals::Verdict;
 use shapes::Shape;
-
 ghost use mathlib.Core.Path.{_≡_};
-ghost use Prim.Native.Nat.{_≤_, _<_};
+ghost use Prim.Native.Nat.{_≤_};
+ghost use Rattle.naturals.specs.Sum.{sumTo};
 ghost use Rattle.numbering.specs.Point.{at, IsPoint};
 ghost use Rattle.numbering.specs.Number.{number};
+ghost use Rattle.successor.specs.Steps.{PointIn, reached, StepsIndices, StepsLevels};
 ghost use Rattle.successor.specs.Successor.{after, successorOf};
 
 // Eight numbers after a step, and whether the step went past the last.
@@ -19,6 +20,8 @@ struct Stepped {
 
 // The next indices on the same levels, axis 1 fastest; past the last, all are 1 again.
 fn next_indices(axes: usize, levels: [u32; 8], indices: [u32; 8]) -> Stepped
+    requires { ⌜ (axes ≤ 8) × IsPoint axes 8 (at levels) (at indices) ⌝ }
+    ensures { λ r. ⌜ StepsIndices axes levels indices (r .past) (r .numbers) ⌝ }
 {
     let mut next = indices;
     let mut t: usize = 0;
@@ -26,16 +29,24 @@ fn next_indices(axes: usize, levels: [u32; 8], indices: [u32; 8]) -> Stepped
         let raised = next[t] + 2;
         if raised < (2 << levels[t]) {
             next[t] = raised;
-            return Stepped { past: false, numbers: next };
+            return Stepped {
+                past: false,
+                numbers: next,
+            };
         }
         next[t] = 1;
         t += 1;
     }
-    Stepped { past: true, numbers: next }
+    Stepped {
+        past: true,
+        numbers: next,
+    }
 }
 
 // The next level vector of the same level sum. The first level v above 0 that has an axis after it: one moves there, the rest to axis 1.
 fn next_levels(axes: usize, levels: [u32; 8]) -> Stepped
+    requires { ⌜ (1 ≤ axes) × (axes ≤ 8) × (sumTo (at levels) axes ≤ 8) ⌝ }
+    ensures { λ r. ⌜ StepsLevels axes levels (r .past) (r .numbers) ⌝ }
 {
     let mut k: usize = 0;
     while k + 1 < axes {
@@ -45,24 +56,71 @@ fn next_levels(axes: usize, levels: [u32; 8]) -> Stepped
             next[k] = 0;
             next[0] = v - 1;
             next[k + 1] += 1;
-            return Stepped { past: false, numbers: next };
+            return Stepped {
+                past: false,
+                numbers: next,
+            };
         }
         k += 1;
     }
-    Stepped { past: true, numbers: levels }
+    Stepped {
+        past: true,
+        numbers: levels,
+    }
 }
 
-// The successor of a point of this shape.
+// A point that is there.
+fn located(levels: [u32; 8], indices: [u32; 8]) -> Located
+    ensures { λ r. ⌜ r ≡ reached levels indices ⌝ }
+{
+    Located {
+        outcome: Outcome::Found,
+        point: Point {
+            levels: levels,
+            indices: indices,
+        },
+    }
+}
+
+// The successor of a point of this shape. Past the last level vector of a level sum, the last axis holds the whole sum; the first vector of the
+// next sum has that on axis 1.
 pub fn next(axes: u32, level: u32, p: Point) -> Located
-    // requires: 1 ≤ axes ≤ 8, level ≤ 8, IsPoint axes level (at (p .levels)) (at (p .indices)), zero past the axes
+    requires { ⌜ (1 ≤ axes) × (axes ≤ 8) × (level ≤ 8) × PointIn axes level (p .levels) (p .indices) ⌝ }
     ensures { λ r. ⌜ r ≡ after axes level (number axes (at (p .levels)) (at (p .indices))) ⌝ }
 {
-    // next_indices; where that is past, next_levels with all indices 1; where that is past too: s = levels[axes - 1] is the level sum;
-    // End where s == level, else levels (s + 1, 0, .., 0) with all indices 1
+    let count = axes as usize;
+    let levels = p.levels;
+    let indices = p.indices;
+    let turned = next_indices(count, levels, indices);
+    let turned_to = turned.numbers;
+    if !turned.past {
+        return located(levels, turned_to);
+    }
+    let raised = next_levels(count, levels);
+    if !raised.past {
+        let raised_to = raised.numbers;
+        return located(raised_to, turned_to);
+    }
+    let sum = levels[count - 1] + 1;
+    if level < sum {
+        return points::nowhere(Outcome::End);
+    }
+    located([sum, 0, 0, 0, 0, 0, 0, 0], turned_to)
 }
 
+// The successor of a point, or the end after the last.
 pub fn successor(shape: Shape, levels: &[u32], indices: &[u32]) -> Located
     ensures { λ r. ⌜ r ≡ successorOf shape (now (levels .entry)) (now (indices .entry)) ⌝ }
 {
-    // points::check_point, then next(.., Point { levels: points::padded(levels), indices: points::padded(indices) })
+    match points::check_point(shape, levels, indices) {
+        Verdict::Refused(r) => points::nowhere(Outcome::Refused(r)),
+        Verdict::Passed => next(
+            shape.axes,
+            shape.level,
+            Point {
+                levels: points::padded(levels),
+                indices: points::padded(indices),
+            },
+        ),
+    }
 }

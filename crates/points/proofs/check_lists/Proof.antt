@@ -1,4 +1,4 @@
--- `points::check_lists` meets its contract: the lengths decide refusal 7, and of lists that are long enough the test of the point decides.
+-- `points::check_lists` meets its contract: the lengths decide refusal 7, and of lists of the right length the test of the point decides.
 -- Assumes nothing.
 use mathlib.Core.Path.{sym, _∙_}
 use borrow.Author.Needs.{needs}

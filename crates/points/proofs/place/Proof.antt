@@ -3,9 +3,11 @@
 use mathlib.Core.Path.{sym}
 use borrow.Author.Needs.{needs}
 use lib.ListN.{List·getD-eq-default}
-use denote.Ref.{now}
 use Rattle.points.proofs.place.Statement.{statement}
 use Rattle.points.proofs.place.Tie as tie
+
+returns : tie.Need-returns
+returns c = sym (List·getD-eq-default (c .before .args .list .now) 0 (c .if1 .taken))
 
 mul-result : tie.Need-mul-result
 mul-result c = search needs
@@ -13,11 +15,8 @@ mul-result c = search needs
 shared-slice-read-result : tie.Need-shared-slice-read-result
 shared-slice-read-result c = search needs
 
-returns : tie.Need-returns
-returns c = search needs
-
 returns-2 : tie.Need-returns-2
-returns-2 c = sym (List·getD-eq-default (now (c .before .args .list)) 0 (c .if1 .left))
+returns-2 c = search needs
 
 pub place-spec : {M : Type 1} → statement M
-place-spec = tie.close (tie.spec mul-result shared-slice-read-result returns returns-2)
+place-spec = tie.close (tie.spec returns mul-result shared-slice-read-result returns-2)

@@ -1,12 +1,10 @@
-use mathlib.Core.Path.{_≡_, refl, sym, subst, ap, _∙_}
-use Prim.Native.Nat.{ℕ, zero, suc, _+_, _-_, _*_, _/_, _%_, _^_, _≤_, _<_}
-use native.Mathlib.Omega.{arith}
+-- `refusals::refusal_number` meets its contract: each arm is given its case, at which `numberOf` computes.
+-- Assumes nothing.
+use mathlib.Core.Path.{sym, ap}
 use borrow.Author.Needs.{needs}
 use Rattle.refusals.specs.Refusals.{numberOf}
 use Rattle.refusals.proofs.refusal_number.Statement.{statement}
 use Rattle.refusals.proofs.refusal_number.Tie as tie
-use Rattle.refusals.proofs.refusal_number.Reads as reads
-use Rattle.refusals.proofs.refusal_number.Lts as lts
 
 enum-told : tie.Need-enum-told
 enum-told c = search needs

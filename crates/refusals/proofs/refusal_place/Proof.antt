@@ -1,13 +1,10 @@
-use mathlib.Core.Path.{_≡_, refl, sym, subst, ap, _∙_}
-use Prim.Native.Nat.{ℕ, zero, suc, _+_, _-_, _*_, _/_, _%_, _^_, _≤_, _<_}
-use native.Mathlib.Omega.{arith}
+-- `refusals::refusal_place` meets its contract: each arm is given its case with the place that it holds, at which `placeOf` computes.
+-- Assumes nothing.
+use mathlib.Core.Path.{sym, ap, _∙_}
 use borrow.Author.Needs.{needs}
 use Rattle.refusals.specs.Refusals.{placeOf}
 use Rattle.refusals.proofs.refusal_place.Statement.{statement}
 use Rattle.refusals.proofs.refusal_place.Tie as tie
-use Rattle.refusals.proofs.refusal_place.Reads as reads
-use Rattle.refusals.proofs.refusal_place.Lts as lts
-use Rattle.refusals.proofs.wide.Reads as wide-reads
 
 enum-told : tie.Need-enum-told
 enum-told c = search needs

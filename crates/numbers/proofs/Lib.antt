@@ -1,0 +1,13 @@
+pub mod Summed
+pub mod Widths
+pub mod Ranked
+pub mod Packed
+pub mod Parts
+pub mod Searched
+pub mod Places
+pub mod Unranked
+pub mod Unpacked
+pub mod Read
+pub mod Answers
+pub mod Compared
+pub mod RoundTrips

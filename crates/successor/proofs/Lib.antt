@@ -1,0 +1,5 @@
+pub mod Indices
+pub mod Levels
+pub mod Reached
+pub mod Onward
+pub mod Padded

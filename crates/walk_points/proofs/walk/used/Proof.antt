@@ -1,0 +1,19 @@
+-- `walk_points::walk::used` is safe: the part that it lends is within the list.
+-- Assumes nothing.
+use native.Mathlib.Omega.{arith}
+use lib.ListN.{length-take}
+use borrow.Author.Needs.{needs}
+use Rattle.walk_points.proofs.walk.used.Statement.{statement}
+use Rattle.walk_points.proofs.walk.used.Tie as tie
+
+returns : tie.Need-returns
+returns c = search needs
+
+slice-aggregate-result : tie.Need-slice-aggregate-result
+slice-aggregate-result c = simp length-take (omega arith)
+
+returns-2 : tie.Need-returns-2
+returns-2 c = search needs
+
+pub used-spec : {M : Type 1} → statement M
+used-spec = tie.close (tie.spec returns slice-aggregate-result returns-2)
