@@ -12,4 +12,3 @@ if false then a else b = b
 unfoldable pub all : (ℕ → Bool) → ℕ → Bool
 all f zero = true
 all f (suc m) = all f m && f m
-

@@ -17,10 +17,10 @@ pub record Named (d n : ℕ) (l i : ℕ → ℕ) : Type 0 where
 
 pub named : (d n p : ℕ) → p < points d n → Named d n (levelAt d n p) (indexAt d n p)
 named d n p h =
-    record
-    { point = point-of-number d n p h
-    ; levels = level-zero d n p
-    ; indices = index-zero d n p
+    record {
+      point = point-of-number d n p h;
+      levels = level-zero d n p;
+      indices = index-zero d n p;
     }
 
 pub levels-again : {d n : ℕ} {l i : ℕ → ℕ} → Named d n l i → levelAt d n (number d l i) ≡ l

@@ -47,21 +47,23 @@ number-is d l i = refl
 
 pub number-in-shell : {d n : ℕ} {l i : ℕ → ℕ} → IsPoint d n l i → number d l i < start d (suc (sumTo l d))
 number-in-shell {d} {l = l} {i = i} p =
-    omega
-    (arith,
-    number-is d l i,
-    start-suc d (sumTo l d),
-    position-lt p d (omega arith),
-    mul-suc (2 ^ sumTo l d) (rank l d),
-    mul-le-mul-left (2 ^ sumTo l d) (rank-lt l d))
+    omega (
+      arith,
+      number-is d l i,
+      start-suc d (sumTo l d),
+      position-lt p d (omega arith),
+      mul-suc (2 ^ sumTo l d) (rank l d),
+      mul-le-mul-left (2 ^ sumTo l d) (rank-lt l d),
+    )
 
 pub number-lt : {d n : ℕ} {l i : ℕ → ℕ} → IsPoint d n l i → number d l i < points d n
 number-lt {d} {n} {l} p =
-    omega
-    (arith,
-    number-in-shell p,
-    points-is d n,
-    start-mono d (suc (sumTo l d)) (suc n) (omega (arith, p .sum)))
+    omega (
+      arith,
+      number-in-shell p,
+      points-is d n,
+      start-mono d (suc (sumTo l d)) (suc n) (omega (arith, p .sum)),
+    )
 
 -- ---- from point to number and back
 
@@ -131,10 +133,11 @@ module _ (d n p : ℕ) (lt : p < points d n) where
   sum-high : p < start d (suc (sumAt d n p))
   unfolding sumAt
   sum-high =
-      omega
-      (arith,
-      start-is d (suc (block (shell d) n p)),
-      block-high (shell d) n p (omega (arith, points-is d n, start-is d (suc n))))
+      omega (
+        arith,
+        start-is d (suc (block (shell d) n p)),
+        block-high (shell d) n p (omega (arith, points-is d n, start-is d (suc n))),
+      )
 
   sum-le : sumAt d n p ≤ n
   unfolding sumAt
@@ -147,12 +150,13 @@ module _ (d n p : ℕ) (lt : p < points d n) where
   pub rank-within : within d n p / 2 ^ sumAt d n p < vectors d (sumAt d n p)
   rank-within =
       div-lt-iff-lt-mul (pow-pos (sumAt d n p)) .1
-      (omega
-      (arith,
-      sum-high,
-      within-is,
-      start-suc d (sumAt d n p),
-      mul-comm (2 ^ sumAt d n p) (vectors d (sumAt d n p))))
+      (omega (
+        arith,
+        sum-high,
+        within-is,
+        start-suc d (sumAt d n p),
+        mul-comm (2 ^ sumAt d n p) (vectors d (sumAt d n p)),
+      ))
 
   pub levels-sum : sumTo (levelAt d n p) d ≡ sumAt d n p
   unfolding levelAt
@@ -171,22 +175,23 @@ module _ (d n p : ℕ) (lt : p < points d n) where
   -- Every number below N is that of a point, which is the point of the number.
   pub point-of-number : IsPoint d n (levelAt d n p) (indexAt d n p)
   point-of-number =
-      record
-      { sum = omega (arith, levels-sum, sum-le)
-      ; odd = λ t h. ap (λ (x : ℕ). x % 2) (index-in d n p t h) ∙ index-odd (levelAt d n p) _ t
-      ; below = λ t h. rw (index-in d n p t h) (index-below (levelAt d n p) _ t)
+      record {
+        sum = omega (arith, levels-sum, sum-le);
+        odd = λ t h. ap (λ (x : ℕ). x % 2) (index-in d n p t h) ∙ index-odd (levelAt d n p) _ t;
+        below = λ t h. rw (index-in d n p t h) (index-below (levelAt d n p) _ t);
       }
 
   pub number-of-point : number d (levelAt d n p) (indexAt d n p) ≡ p
   number-of-point =
-      omega
-      (arith,
-      number-is d (levelAt d n p) (indexAt d n p),
-      ap (start d) levels-sum,
-      ap₂ (λ (s r : ℕ). 2 ^ s * r) levels-sum levels-rank,
-      indices-position,
-      within-is,
-      div-add-mod (within d n p) (2 ^ sumAt d n p))
+      omega (
+        arith,
+        number-is d (levelAt d n p) (indexAt d n p),
+        ap (start d) levels-sum,
+        ap₂ (λ (s r : ℕ). 2 ^ s * r) levels-sum levels-rank,
+        indices-position,
+        within-is,
+        div-add-mod (within d n p) (2 ^ sumAt d n p),
+      )
 
 -- Two points with one number are one point.
 pub same-levels : {d n : ℕ} {l i m j : ℕ → ℕ} → IsPoint d n l i → IsPoint d n m j → number d l i ≡ number d m j →

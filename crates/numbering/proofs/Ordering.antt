@@ -58,16 +58,17 @@ rank-less : (l m : ℕ → ℕ) (k : ℕ) → sumTo l (suc k) ≡ sumTo m (suc k
 rank-less l m k e h =
     let s : ℕ = sumTo l (suc k) in
     let left : s - l k ≡ sumTo l k = omega (arith, sumTo-suc l k) in
-    omega
-    (arith,
-    rank-suc l k,
-    rank-suc m k,
-    rank-lt l k,
-    sumTo-suc (ending k s) (l k),
-    ending-is k s (l k),
-    ap (vectors k) left,
-    sumTo-mono (ending k s) (suc (l k)) (m k) h,
-    ap (λ (u : ℕ). sumTo (ending k u) (m k)) e)
+    omega (
+      arith,
+      rank-suc l k,
+      rank-suc m k,
+      rank-lt l k,
+      sumTo-suc (ending k s) (l k),
+      ending-is k s (l k),
+      ap (vectors k) left,
+      sumTo-mono (ending k s) (suc (l k)) (m k) h,
+      ap (λ (u : ℕ). sumTo (ending k u) (m k)) e,
+    )
 
 -- At the same level sum, ranks are ordered as the levels are from the last axis down.
 rank-order : (l m : ℕ → ℕ) (k : ℕ) (next : Order) → sumTo l k ≡ sumTo m k →
@@ -88,15 +89,16 @@ rank-order l m (suc k) next e =
 pub same-sum : {d n : ℕ} {l i m j : ℕ → ℕ} → IsPoint d n l i → IsPoint d n m j → sumTo l d ≡ sumTo m d → rank l d < rank m d →
     number d l i < number d m j
 same-sum {d} {l = l} {i = i} {m = m} {j = j} p q e h =
-    omega
-    (arith,
-    number-is d l i,
-    number-is d m j,
-    position-lt p d (omega arith),
-    mul-suc (2 ^ sumTo l d) (rank l d),
-    mul-le-mul-left (2 ^ sumTo l d) h,
-    ap (start d) e,
-    ap (λ (s : ℕ). 2 ^ s * rank m d) e)
+    omega (
+      arith,
+      number-is d l i,
+      number-is d m j,
+      position-lt p d (omega arith),
+      mul-suc (2 ^ sumTo l d) (rank l d),
+      mul-le-mul-left (2 ^ sumTo l d) h,
+      ap (start d) e,
+      ap (λ (s : ℕ). 2 ^ s * rank m d) e,
+    )
 
 pub smaller-sum : {d n : ℕ} {l i m j : ℕ → ℕ} → IsPoint d n l i → IsPoint d n m j → sumTo l d < sumTo m d →
     number d l i < number d m j

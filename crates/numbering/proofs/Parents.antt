@@ -91,13 +91,14 @@ module _ (l m : ℕ) (small : l ≤ 8) (h : Inside l m) where
   twos-le =
       le-or-lt (twos m) l (λ le. le)
       (λ gt.
-      omega
-      (arith,
-      h .below,
-      index-times,
-      pow-mono {i = suc l} {j = twos m} gt,
-      mul-le-mul-right {m = 1} {n = parentIndex m} (2 ^ twos m) (omega (arith, index-odd-up)),
-      one-mul (2 ^ twos m)))
+      omega (
+        arith,
+        h .below,
+        index-times,
+        pow-mono {i = suc l} {j = twos m} gt,
+        mul-le-mul-right {m = 1} {n = parentIndex m} (2 ^ twos m) (omega (arith, index-odd-up)),
+        one-mul (2 ^ twos m),
+      ))
 
   -- The level falls.
   pub level-falls : parentLevel l m < l
@@ -133,21 +134,23 @@ update-sum f t v zero h = omega arith
 update-sum f t v (suc d) h =
     eq-or-not t d
     (λ e.
-    omega
-    (arith,
-    sumTo-suc (update f t v) d,
-    sumTo-suc f d,
-    sumTo-cong (update f t v) f d (λ u lt. update-other f t v u (λ same. omega arith)),
-    ap (update f t v) e,
-    ap f e,
-    update-same f t v))
+    omega (
+      arith,
+      sumTo-suc (update f t v) d,
+      sumTo-suc f d,
+      sumTo-cong (update f t v) f d (λ u lt. update-other f t v u (λ same. omega arith)),
+      ap (update f t v) e,
+      ap f e,
+      update-same f t v,
+    ))
     (λ e.
-    omega
-    (arith,
-    sumTo-suc (update f t v) d,
-    sumTo-suc f d,
-    update-sum f t v d (omega arith),
-    update-other f t v d (λ same. e (sym same))))
+    omega (
+      arith,
+      sumTo-suc (update f t v) d,
+      sumTo-suc f d,
+      update-sum f t v d (omega arith),
+      update-other f t v d (λ same. e (sym same)),
+    ))
 
 update-swap : (f : ℕ → ℕ) (t s v w : ℕ) → (t ≡ s → ⊥) → update (update f t v) s w ≡ update (update f s w) t v
 update-swap f t s v w ne = fun-ext λ u. at-place u
@@ -199,36 +202,38 @@ module _ {d n : ℕ} {l i : ℕ → ℕ} (p : IsPoint d n l i) (few : n ≤ 8) (
 
   parent-sum : sumTo (update l t (parentLevel (l t) (numerator side (i t)))) d < sumTo l d
   parent-sum =
-      omega
-      (arith,
-      update-sum l t (parentLevel (l t) (numerator side (i t))) d axis,
-      level-falls (l t) (numerator side (i t)) level-small within-borders)
+      omega (
+        arith,
+        update-sum l t (parentLevel (l t) (numerator side (i t))) d axis,
+        level-falls (l t) (numerator side (i t)) level-small within-borders,
+      )
 
   -- It is a point of the same shape.
   pub parent-is-point : IsPoint d n (update l t (parentLevel (l t) (numerator side (i t)))) (update i t (parentIndex (numerator side (i t))))
   parent-is-point =
-      record
-      { sum = omega (arith, parent-sum, p .sum)
-      ; odd =
-          λ u h.
-          eq-or-not u t
-          (λ same.
-          rw same
-          (ap (λ (x : ℕ). x % 2) (update-same i t (parentIndex (numerator side (i t))))
-          ∙ index-odd-up (l t) (numerator side (i t)) level-small within-borders))
-          (λ other. ap (λ (x : ℕ). x % 2) (update-other i t (parentIndex (numerator side (i t))) u other) ∙ p .odd u h)
-      ; below =
-          λ u h.
-          eq-or-not u t
-          (λ same.
-          rw same
-          (rw (update-same i t (parentIndex (numerator side (i t))), update-same l t (parentLevel (l t) (numerator side (i t))))
-          (index-below-up (l t) (numerator side (i t)) level-small within-borders)))
-          (λ other.
-          rw
-          (update-other i t (parentIndex (numerator side (i t))) u other,
-          update-other l t (parentLevel (l t) (numerator side (i t))) u other)
-          (p .below u h))
+      record {
+        sum = omega (arith, parent-sum, p .sum);
+        odd =
+            λ u h.
+            eq-or-not u t
+            (λ same.
+            rw same
+            (ap (λ (x : ℕ). x % 2) (update-same i t (parentIndex (numerator side (i t))))
+            ∙ index-odd-up (l t) (numerator side (i t)) level-small within-borders))
+            (λ other. ap (λ (x : ℕ). x % 2) (update-other i t (parentIndex (numerator side (i t))) u other) ∙ p .odd u h);
+        below =
+            λ u h.
+            eq-or-not u t
+            (λ same.
+            rw same
+            (rw (update-same i t (parentIndex (numerator side (i t))), update-same l t (parentLevel (l t) (numerator side (i t))))
+            (index-below-up (l t) (numerator side (i t)) level-small within-borders)))
+            (λ other.
+            rw (
+              update-other i t (parentIndex (numerator side (i t))) u other,
+              update-other l t (parentLevel (l t) (numerator side (i t))) u other,
+            )
+            (p .below u h));
       }
 
   -- Its number is smaller.

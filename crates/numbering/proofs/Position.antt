@@ -37,12 +37,13 @@ half-lt {l = l} {i = i} p t h = omega (arith, p .odd t h, p .below t h, pow-suc 
 pub position-lt : {d n : ℕ} {l i : ℕ → ℕ} → IsPoint d n l i → (k : ℕ) → k ≤ d → position l i k < 2 ^ sumTo l k
 position-lt {l = l} {i = i} p zero h = omega (arith, position-zero l i, pow-pos (sumTo l 0))
 position-lt {l = l} {i = i} p (suc k) h =
-    omega
-    (arith,
-    position-suc l i k,
-    pow-sum l k,
-    mul-comm (2 ^ sumTo l k) (2 ^ l k),
-    digits-lt (half-lt p k h) (position-lt p k (omega arith)))
+    omega (
+      arith,
+      position-suc l i k,
+      pow-sum l k,
+      mul-comm (2 ^ sumTo l k) (2 ^ l k),
+      digits-lt (half-lt p k h) (position-lt p k (omega arith)),
+    )
 
 -- The lowest digits of the position are those of the first axes.
 pow-split : (l : ℕ → ℕ) (k m : ℕ) → k ≤ m → 2 ^ sumTo l m ≡ 2 ^ (sumTo l m - sumTo l k) * 2 ^ sumTo l k
@@ -94,13 +95,14 @@ position-of-digits : (l : ℕ → ℕ) (q k : ℕ) → position l (indexOf l q) 
 position-of-digits l q zero =
     omega (arith, position-zero l (indexOf l q), ap (λ (n : ℕ). q % 2 ^ n) (sumTo-zero l))
 position-of-digits l q (suc k) =
-    omega
-    (arith,
-    position-suc l (indexOf l q) k,
-    position-of-digits l q k,
-    ap (λ (x : ℕ). x * 2 ^ sumTo l k) (half-of-index l q k),
-    ap (λ (n : ℕ). q % 2 ^ n) (sumTo-suc l k ∙ add-comm (sumTo l k) (l k)),
-    mod-pow-add q (l k) (sumTo l k))
+    omega (
+      arith,
+      position-suc l (indexOf l q) k,
+      position-of-digits l q k,
+      ap (λ (x : ℕ). x * 2 ^ sumTo l k) (half-of-index l q k),
+      ap (λ (n : ℕ). q % 2 ^ n) (sumTo-suc l k ∙ add-comm (sumTo l k) (l k)),
+      mod-pow-add q (l k) (sumTo l k),
+    )
 
 pub position-of-index : (l : ℕ → ℕ) (q d : ℕ) → q < 2 ^ sumTo l d → position l (indexOf l q) d ≡ q
 position-of-index l q d h = position-of-digits l q d ∙ mod-eq-of-lt h
@@ -119,9 +121,10 @@ pub position-cong : (l i m j : ℕ → ℕ) (k : ℕ) →
     ((t : ℕ) → t < k → l t ≡ m t) → ((t : ℕ) → t < k → i t ≡ j t) → position l i k ≡ position m j k
 position-cong l i m j zero lm ij = omega (arith, position-zero l i, position-zero m j)
 position-cong l i m j (suc k) lm ij =
-    omega
-    (arith,
-    position-suc l i k,
-    position-suc m j k,
-    position-cong l i m j k (λ t h. lm t (omega arith)) (λ t h. ij t (omega arith)),
-    ap₂ (λ (x s : ℕ). (x - 1) / 2 * 2 ^ s) (ij k (omega arith)) (sumTo-cong l m k (λ t h. lm t (omega arith))))
+    omega (
+      arith,
+      position-suc l i k,
+      position-suc m j k,
+      position-cong l i m j k (λ t h. lm t (omega arith)) (λ t h. ij t (omega arith)),
+      ap₂ (λ (x s : ℕ). (x - 1) / 2 * 2 ^ s) (ij k (omega arith)) (sumTo-cong l m k (λ t h. lm t (omega arith))),
+    )

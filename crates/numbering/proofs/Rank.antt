@@ -28,14 +28,15 @@ pub ending-sum : (k s m : ℕ) → m ≤ s → sumTo (ending k s) m + vectors (s
 ending-sum k s zero h = omega (arith, sumTo-zero (ending k s), ap (vectors (suc k)) (sub-zero s))
 ending-sum k s (suc m) h =
     let e : s - m ≡ suc (s - suc m) = omega arith in
-    omega
-    (arith,
-    sumTo-suc (ending k s) m,
-    ending-is k s m,
-    ending-sum k s m (omega arith),
-    pascal k (s - suc m),
-    ap (vectors (suc k)) e,
-    ap (vectors k) e)
+    omega (
+      arith,
+      sumTo-suc (ending k s) m,
+      ending-is k s m,
+      ending-sum k s m (omega arith),
+      pascal k (s - suc m),
+      ap (vectors (suc k)) e,
+      ap (vectors k) e,
+    )
 
 -- Two counts for each axis give the rank: it rises by the difference of row k + 1 at the two level sums.
 pub rank-step : (l : ℕ → ℕ) (k : ℕ) →
@@ -54,10 +55,11 @@ rank-lt l (suc k) = omega (arith, rank-step l k, rank-lt l k, vectors-more k (su
 pub rank-cong : (l m : ℕ → ℕ) (k : ℕ) → ((t : ℕ) → t < k → l t ≡ m t) → rank l k ≡ rank m k
 rank-cong l m zero same = omega (arith, rank-zero l, rank-zero m)
 rank-cong l m (suc k) same =
-    omega
-    (arith,
-    rank-step l k,
-    rank-step m k,
-    rank-cong l m k (λ t h. same t (omega arith)),
-    ap (vectors (suc k)) (sumTo-cong l m k (λ t h. same t (omega arith))),
-    ap (vectors (suc k)) (sumTo-cong l m (suc k) same))
+    omega (
+      arith,
+      rank-step l k,
+      rank-step m k,
+      rank-cong l m k (λ t h. same t (omega arith)),
+      ap (vectors (suc k)) (sumTo-cong l m k (λ t h. same t (omega arith))),
+      ap (vectors (suc k)) (sumTo-cong l m (suc k) same),
+    )

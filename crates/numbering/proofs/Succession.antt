@@ -22,26 +22,28 @@ use Rattle.numbering.proofs.Numbering.{number-is, start-suc}
 pub last-position : (l i : ℕ → ℕ) (k : ℕ) → ((t : ℕ) → t < k → suc (half i t) ≡ 2 ^ l t) → suc (position l i k) ≡ 2 ^ sumTo l k
 last-position l i zero full = omega (arith, position-zero l i, ap (λ (s : ℕ). 2 ^ s) (sumTo-zero l))
 last-position l i (suc k) full =
-    omega
-    (arith,
-    position-suc l i k,
-    last-position l i k (λ t h. full t (omega arith)),
-    pow-sum l k,
-    ap (λ (x : ℕ). 2 ^ sumTo l k * x) (sym (full k (omega arith))),
-    mul-suc (2 ^ sumTo l k) (half i k),
-    mul-comm (2 ^ sumTo l k) (half i k))
+    omega (
+      arith,
+      position-suc l i k,
+      last-position l i k (λ t h. full t (omega arith)),
+      pow-sum l k,
+      ap (λ (x : ℕ). 2 ^ sumTo l k * x) (sym (full k (omega arith))),
+      mul-suc (2 ^ sumTo l k) (half i k),
+      mul-comm (2 ^ sumTo l k) (half i k),
+    )
 
 -- Indices that are all 1: the position is the first.
 pub first-position : (l i : ℕ → ℕ) (k : ℕ) → ((t : ℕ) → t < k → i t ≡ 1) → position l i k ≡ 0
 first-position l i zero ones = position-zero l i
 first-position l i (suc k) ones =
     let h : half i k ≡ 0 = omega (arith, ones k (omega arith)) in
-    omega
-    (arith,
-    position-suc l i k,
-    first-position l i k (λ t lt. ones t (omega arith)),
-    ap (λ (x : ℕ). x * 2 ^ sumTo l k) h,
-    zero-mul (2 ^ sumTo l k))
+    omega (
+      arith,
+      position-suc l i k,
+      first-position l i k (λ t lt. ones t (omega arith)),
+      ap (λ (x : ℕ). x * 2 ^ sumTo l k) h,
+      zero-mul (2 ^ sumTo l k),
+    )
 
 -- The indices j are the next after i: those before axis t were last and are first again, that of axis t is the next odd one.
 pub record NextIndices (d t : ℕ) (l i j : ℕ → ℕ) : Type 0 where
@@ -57,28 +59,30 @@ next-position-to d t l i j s zero lt le = omega arith
 next-position-to d t l i j s (suc k) lt le =
     eq-or-not t k
     (λ e.
-    omega
-    (arith,
-    position-suc l j k,
-    position-suc l i k,
-    ap (position l j) e,
-    ap (position l i) e,
-    first-position l j t (s .ones),
-    last-position l i t (s .full),
-    ap (λ (u : ℕ). 2 ^ sumTo l u) e,
-    ap (λ (u : ℕ). half j u * 2 ^ sumTo l k) e,
-    ap (λ (u : ℕ). suc (half i u) * 2 ^ sumTo l k) e,
-    ap (λ (x : ℕ). x * 2 ^ sumTo l k) (s .raised),
-    mul-comm (suc (half i k)) (2 ^ sumTo l k),
-    mul-suc (2 ^ sumTo l k) (half i k),
-    mul-comm (half i k) (2 ^ sumTo l k)))
+    omega (
+      arith,
+      position-suc l j k,
+      position-suc l i k,
+      ap (position l j) e,
+      ap (position l i) e,
+      first-position l j t (s .ones),
+      last-position l i t (s .full),
+      ap (λ (u : ℕ). 2 ^ sumTo l u) e,
+      ap (λ (u : ℕ). half j u * 2 ^ sumTo l k) e,
+      ap (λ (u : ℕ). suc (half i u) * 2 ^ sumTo l k) e,
+      ap (λ (x : ℕ). x * 2 ^ sumTo l k) (s .raised),
+      mul-comm (suc (half i k)) (2 ^ sumTo l k),
+      mul-suc (2 ^ sumTo l k) (half i k),
+      mul-comm (half i k) (2 ^ sumTo l k),
+    ))
     (λ e.
-    omega
-    (arith,
-    position-suc l j k,
-    position-suc l i k,
-    next-position-to d t l i j s k (omega arith) (omega arith),
-    ap (λ (x : ℕ). (x - 1) / 2 * 2 ^ sumTo l k) (s .kept k (omega arith) le)))
+    omega (
+      arith,
+      position-suc l j k,
+      position-suc l i k,
+      next-position-to d t l i j s k (omega arith) (omega arith),
+      ap (λ (x : ℕ). (x - 1) / 2 * 2 ^ sumTo l k) (s .kept k (omega arith) le),
+    ))
 
 pub next-position : {d t : ℕ} {l i j : ℕ → ℕ} → NextIndices d t l i j → position l j d ≡ suc (position l i d)
 next-position {d} {t} {l} {i} {j} s = next-position-to d t l i j s d (s .axis) (omega arith)
@@ -94,23 +98,25 @@ sum-zeros l (suc k) zeros =
 pub sum-first : (l : ℕ → ℕ) (k : ℕ) → ((t : ℕ) → 0 < t → t < suc k → l t ≡ 0) → sumTo l (suc k) ≡ l 0
 sum-first l zero zeros = omega (arith, sumTo-suc l 0, sumTo-zero l)
 sum-first l (suc k) zeros =
-    omega
-    (arith,
-    sumTo-suc l (suc k),
-    zeros (suc k) (omega arith) (omega arith),
-    sum-first l k (λ t pos h. zeros t pos (omega arith)))
+    omega (
+      arith,
+      sumTo-suc l (suc k),
+      zeros (suc k) (omega arith) (omega arith),
+      sum-first l k (λ t pos h. zeros t pos (omega arith)),
+    )
 
 pub rank-first : (l : ℕ → ℕ) (k : ℕ) → ((t : ℕ) → 0 < t → t < k → l t ≡ 0) → rank l k ≡ 0
 rank-first l zero zeros = rank-zero l
 rank-first l (suc zero) zeros =
     omega (arith, rank-step l 0, rank-zero l, vectors-one (sumTo l 0), vectors-one (sumTo l 1))
 rank-first l (suc (suc k)) zeros =
-    omega
-    (arith,
-    rank-suc l (suc k),
-    rank-first l (suc k) (λ t pos h. zeros t pos (omega arith)),
-    ap (sumTo (ending (suc k) (sumTo l (suc (suc k))))) (zeros (suc k) (omega arith) (omega arith)),
-    sumTo-zero (ending (suc k) (sumTo l (suc (suc k)))))
+    omega (
+      arith,
+      rank-suc l (suc k),
+      rank-first l (suc k) (λ t pos h. zeros t pos (omega arith)),
+      ap (sumTo (ending (suc k) (sumTo l (suc (suc k))))) (zeros (suc k) (omega arith) (omega arith)),
+      sumTo-zero (ending (suc k) (sumTo l (suc (suc k)))),
+    )
 
 -- Only the last axis has a level: the vector is the last of its level sum.
 pub sum-last : (l : ℕ → ℕ) (k : ℕ) → ((t : ℕ) → t < k → l t ≡ 0) → sumTo l (suc k) ≡ l k
@@ -118,12 +124,13 @@ sum-last l k zeros = omega (arith, sumTo-suc l k, sum-zeros l k zeros)
 
 pub rank-last : (l : ℕ → ℕ) (k : ℕ) → ((t : ℕ) → t < k → l t ≡ 0) → suc (rank l (suc k)) ≡ vectors (suc k) (sumTo l (suc k))
 rank-last l k zeros =
-    omega
-    (arith,
-    rank-step l k,
-    rank-first l k (λ t pos h. zeros t h),
-    ap (vectors (suc k)) (sum-zeros l k zeros),
-    vectors-zero (suc k))
+    omega (
+      arith,
+      rank-step l k,
+      rank-first l k (λ t pos h. zeros t h),
+      ap (vectors (suc k)) (sum-zeros l k zeros),
+      vectors-zero (suc k),
+    )
 
 -- The levels m are the next after l, of the same level sum: axis k is the first with a level, and has an axis after it.
 pub record NextLevels (d k : ℕ) (l m : ℕ → ℕ) : Type 0 where
@@ -140,18 +147,19 @@ module _ (d k : ℕ) (l m : ℕ → ℕ) (s : NextLevels d k l m) where
   next-sum-to (suc j) lt le =
       eq-or-not (suc k) j
       (λ e.
-      omega
-      (arith,
-      sumTo-suc m j,
-      sumTo-suc l j,
-      ap (sumTo m) e,
-      ap (sumTo l) e,
-      sum-first m k (s .cleared),
-      sum-last l k (s .zeros),
-      ap m e,
-      ap l e,
-      s .raised,
-      s .first))
+      omega (
+        arith,
+        sumTo-suc m j,
+        sumTo-suc l j,
+        ap (sumTo m) e,
+        ap (sumTo l) e,
+        sum-first m k (s .cleared),
+        sum-last l k (s .zeros),
+        ap m e,
+        ap l e,
+        s .raised,
+        s .first,
+      ))
       (λ e. omega (arith, sumTo-suc m j, sumTo-suc l j, next-sum-to j (omega arith) (omega arith), s .kept j (omega arith) le))
 
   next-rank-to : (j : ℕ) → suc k < j → j ≤ d → rank m j ≡ suc (rank l j)
@@ -160,26 +168,28 @@ module _ (d k : ℕ) (l m : ℕ → ℕ) (s : NextLevels d k l m) where
       eq-or-not (suc k) j
       (λ e.
       let before : suc (sumTo m (suc k)) ≡ sumTo l (suc k) = omega (arith, sum-first m k (s .cleared), sum-last l k (s .zeros), s .first) in
-      omega
-      (arith,
-      ap (λ (u : ℕ). rank m (suc u)) e,
-      ap (λ (u : ℕ). rank l (suc u)) e,
-      rank-step m (suc k),
-      rank-step l (suc k),
-      rank-first m (suc k) (s .cleared),
-      rank-last l k (s .zeros),
-      pascal (suc k) (sumTo m (suc k)),
-      ap (vectors (suc (suc k))) before,
-      ap (vectors (suc k)) before,
-      ap (vectors (suc (suc k))) (next-sum-to (suc (suc k)) (omega arith) (omega arith))))
+      omega (
+        arith,
+        ap (λ (u : ℕ). rank m (suc u)) e,
+        ap (λ (u : ℕ). rank l (suc u)) e,
+        rank-step m (suc k),
+        rank-step l (suc k),
+        rank-first m (suc k) (s .cleared),
+        rank-last l k (s .zeros),
+        pascal (suc k) (sumTo m (suc k)),
+        ap (vectors (suc (suc k))) before,
+        ap (vectors (suc k)) before,
+        ap (vectors (suc (suc k))) (next-sum-to (suc (suc k)) (omega arith) (omega arith)),
+      ))
       (λ e.
-      omega
-      (arith,
-      rank-step m j,
-      rank-step l j,
-      next-rank-to j (omega arith) (omega arith),
-      ap (vectors (suc j)) (next-sum-to j (omega arith) (omega arith)),
-      ap (vectors (suc j)) (next-sum-to (suc j) (omega arith) le)))
+      omega (
+        arith,
+        rank-step m j,
+        rank-step l j,
+        next-rank-to j (omega arith) (omega arith),
+        ap (vectors (suc j)) (next-sum-to j (omega arith) (omega arith)),
+        ap (vectors (suc j)) (next-sum-to (suc j) (omega arith) le),
+      ))
 
 pub next-sum : {d k : ℕ} {l m : ℕ → ℕ} → NextLevels d k l m → sumTo m d ≡ sumTo l d
 next-sum {d} {k} {l} {m} s = next-sum-to d k l m s d (s .axis) (omega arith)
@@ -193,12 +203,13 @@ next-rank {d} {k} {l} {m} s = next-rank-to d k l m s d (s .axis) (omega arith)
 pub number-last : (d : ℕ) (l i : ℕ → ℕ) → suc (rank l d) ≡ vectors d (sumTo l d) → suc (position l i d) ≡ 2 ^ sumTo l d →
     suc (number d l i) ≡ start d (suc (sumTo l d))
 number-last d l i lastRank last =
-    omega
-    (arith,
-    number-is d l i,
-    start-suc d (sumTo l d),
-    ap (λ (r : ℕ). 2 ^ sumTo l d * r) (sym lastRank),
-    mul-suc (2 ^ sumTo l d) (rank l d))
+    omega (
+      arith,
+      number-is d l i,
+      start-suc d (sumTo l d),
+      ap (λ (r : ℕ). 2 ^ sumTo l d * r) (sym lastRank),
+      mul-suc (2 ^ sumTo l d) (rank l d),
+    )
 
 -- The first point of a level sum.
 pub number-first : (d : ℕ) (l i : ℕ → ℕ) → rank l d ≡ 0 → position l i d ≡ 0 → number d l i ≡ start d (sumTo l d)

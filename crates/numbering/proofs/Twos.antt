@@ -30,11 +30,12 @@ zeros-divide (suc k) m =
     (λ e.
     let z : ℕ = trailingZeros k (m / 2) in
     rw (zeros-even k m e)
-    (omega
-    (arith,
-    ap₂ (λ (q p : ℕ). q * p) (div-pow-suc m z) (pow-suc 2 z),
-    mul-assoc (m / 2 / 2 ^ z) (2 ^ z) 2,
-    zeros-divide k (m / 2))))
+    (omega (
+      arith,
+      ap₂ (λ (q p : ℕ). q * p) (div-pow-suc m z) (pow-suc 2 z),
+      mul-assoc (m / 2 / 2 ^ z) (2 ^ z) 2,
+      zeros-divide k (m / 2),
+    )))
     (λ e. rw (zeros-odd k m (omega arith)) (mul-one (m / 1) ∙ div-one m))
 
 pub zeros-left-odd : (k m : ℕ) → 0 < m → m < 2 ^ k → m / 2 ^ trailingZeros k m % 2 ≡ 1

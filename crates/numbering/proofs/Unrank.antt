@@ -52,25 +52,27 @@ last-low k s r = block-low (ending k s) s r
 
 pub all-endings : (k s : ℕ) → sumTo (ending k s) (suc s) ≡ vectors (suc k) s
 all-endings k s =
-    omega
-    (arith,
-    sumTo-suc (ending k s) s,
-    ending-is k s s,
-    ending-sum k s s (omega arith),
-    ap (vectors k) (sub-self s),
-    ap (vectors (suc k)) (sub-self s),
-    vectors-zero k,
-    vectors-zero (suc k))
+    omega (
+      arith,
+      sumTo-suc (ending k s) s,
+      ending-is k s s,
+      ending-sum k s s (omega arith),
+      ap (vectors k) (sub-self s),
+      ap (vectors (suc k)) (sub-self s),
+      vectors-zero k,
+      vectors-zero (suc k),
+    )
 
 pub rest-lt : (k s r : ℕ) → r < vectors (suc k) s → rest k s r < vectors k (s - lastLevel k s r)
 unfolding lastLevel
 rest-lt k s r h =
-    omega
-    (arith,
-    block-high (ending k s) s r (omega (arith, all-endings k s)),
-    block-low (ending k s) s r,
-    sumTo-suc (ending k s) (block (ending k s) s r),
-    ending-is k s (block (ending k s) s r))
+    omega (
+      arith,
+      block-high (ending k s) s r (omega (arith, all-endings k s)),
+      block-low (ending k s) s r,
+      sumTo-suc (ending k s) (block (ending k s) s r),
+      ending-is k s (block (ending k s) s r),
+    )
 
 -- A vector's last level is read off its rank, and what is left is the rank of the other axes.
 last-of-rank : (l : ℕ → ℕ) (k : ℕ) → lastLevel k (sumTo l (suc k)) (rank l (suc k)) ≡ l k
@@ -115,13 +117,14 @@ sum-of-level (suc k) (suc s) r h =
 rank-of-levels : (k s r : ℕ) → r < vectors (suc k) s →
     rank (levelOf k (s - lastLevel k s r) (rest k s r)) k ≡ rest k s r → rank (levelOf (suc k) s r) (suc k) ≡ r
 rank-of-levels k s r h below =
-    omega
-    (arith,
-    rank-suc (levelOf (suc k) s r) k,
-    rank-cong (levelOf (suc k) s r) (levelOf k (s - lastLevel k s r) (rest k s r)) k (level-before k s r),
-    ap (λ (n : ℕ). sumTo (ending k n) (levelOf (suc k) s r k)) (sum-of-level (suc k) s r h),
-    ap (sumTo (ending k s)) (level-last k s r),
-    last-low k s r)
+    omega (
+      arith,
+      rank-suc (levelOf (suc k) s r) k,
+      rank-cong (levelOf (suc k) s r) (levelOf k (s - lastLevel k s r) (rest k s r)) k (level-before k s r),
+      ap (λ (n : ℕ). sumTo (ending k n) (levelOf (suc k) s r k)) (sum-of-level (suc k) s r h),
+      ap (sumTo (ending k s)) (level-last k s r),
+      last-low k s r,
+    )
 
 pub rank-of-level : (k s r : ℕ) → r < vectors k s → rank (levelOf k s r) k ≡ r
 rank-of-level zero zero r h = omega (arith, rank-zero (levelOf 0 0 r), vectors-zero 0)

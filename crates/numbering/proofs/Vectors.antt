@@ -41,24 +41,26 @@ vectors-suc k j = refl
 -- Pascal's rule: a level vector of sum j + 1 has the last level 0, or is one of sum j with the last level raised.
 pub pascal : (k j : ℕ) → vectors (suc k) (suc j) ≡ vectors (suc k) j + vectors k (suc j)
 pascal zero j =
-    omega
-    (arith,
-    no-axes j,
-    vectors-suc 0 j,
-    vectors-suc 0 (suc j),
-    ap (λ (n : ℕ). choose n j) (zero-add j),
-    ap (λ (n : ℕ). choose n (suc j)) (zero-add (suc j)),
-    choose-suc j j,
-    choose-over j (suc j) (omega arith))
+    omega (
+      arith,
+      no-axes j,
+      vectors-suc 0 j,
+      vectors-suc 0 (suc j),
+      ap (λ (n : ℕ). choose n j) (zero-add j),
+      ap (λ (n : ℕ). choose n (suc j)) (zero-add (suc j)),
+      choose-suc j j,
+      choose-over j (suc j) (omega arith),
+    )
 pascal (suc k) j =
-    omega
-    (arith,
-    vectors-suc (suc k) (suc j),
-    vectors-suc (suc k) j,
-    vectors-suc k (suc j),
-    ap (λ (n : ℕ). choose n (suc j)) (add-suc (suc k) j),
-    ap (λ (n : ℕ). choose n (suc j)) (add-suc k j ∙ sym (suc-add k j)),
-    choose-suc (suc k + j) j)
+    omega (
+      arith,
+      vectors-suc (suc k) (suc j),
+      vectors-suc (suc k) j,
+      vectors-suc k (suc j),
+      ap (λ (n : ℕ). choose n (suc j)) (add-suc (suc k) j),
+      ap (λ (n : ℕ). choose n (suc j)) (add-suc k j ∙ sym (suc-add k j)),
+      choose-suc (suc k + j) j,
+    )
 
 -- More level vectors have a larger sum, and more axes.
 pub vectors-step : (k j : ℕ) → vectors (suc k) j ≤ vectors (suc k) (suc j)

@@ -49,10 +49,10 @@ answered s ls is k e = go (checkPoint s ls is) refl e
 -- The lists of a passed point, with nothing past their ends, name it.
 passed-named : (s : Shape) (ls is : List ℕ) → Passes s ls is → Named (s .axes) (s .level) (at ls) (at is)
 passed-named s ls is p =
-    record
-    { point = p .point
-    ; levels = λ t h. List·getD-eq-default ls 0 (omega (arith, p .levels))
-    ; indices = λ t h. List·getD-eq-default is 0 (omega (arith, p .indices))
+    record {
+      point = p .point;
+      levels = λ t h. List·getD-eq-default ls 0 (omega (arith, p .levels));
+      indices = λ t h. List·getD-eq-default is 0 (omega (arith, p .indices));
     }
 
 shape-passed : (s : Shape) (ls is : List ℕ) → checkPoint s ls is ≡ Passed → checkShape s ≡ Passed
@@ -67,12 +67,13 @@ number-then-point s ls is k e =
     let a = answered s ls is k e in
     let p = point-passed s ls is (a .0) in
     let name = passed-named s ls is p in
-    rw
-    (shape-passed s ls is (a .0),
-    lt-ltb k (points (s .axes) (s .level)) (omega (arith, number-lt (p .point), a .1)),
-    ← a .1,
-    levels-again name,
-    indices-again name)
+    rw (
+      shape-passed s ls is (a .0),
+      lt-ltb k (points (s .axes) (s .level)) (omega (arith, number-lt (p .point), a .1)),
+      ← a .1,
+      levels-again name,
+      indices-again name,
+    )
 
 first-length : (d : ℕ) (f : ℕ → ℕ) → d ≤ 8 → length (take d (eight f)) ≡ d
 first-length d f few = length-take-le d (eight f) (omega (arith, eight-length f))
@@ -107,17 +108,18 @@ point-then-number s k p e =
     let a = located-at s k p e in
     let shape = first-passed (checkShape s) (unless (ltb k (points (s .axes) (s .level))) PointNumber) (a .0) in
     let small =
-        ltb-true k (points (s .axes) (s .level))
-        (test-passed (ltb k (points (s .axes) (s .level))) PointNumber
-        (next-passed (checkShape s) (unless (ltb k (points (s .axes) (s .level))) PointNumber) (a .0))) in
+    ltb-true k (points (s .axes) (s .level))
+    (test-passed (ltb k (points (s .axes) (s .level))) PointNumber
+    (next-passed (checkShape s) (unless (ltb k (points (s .axes) (s .level))) PointNumber) (a .0))) in
     let few = passed-in-range s shape .high in
     let name = named (s .axes) (s .level) k small in
-    rw
-    (a .1,
-    first-places (s .axes) (levelAt (s .axes) (s .level) k) few (name .levels),
-    first-places (s .axes) (indexAt (s .axes) (s .level) k) few (name .indices),
-    shape,
-    eq-eqb (length (take (s .axes) (eight (levelAt (s .axes) (s .level) k)))) (s .axes) (first-length (s .axes) (levelAt (s .axes) (s .level) k) few),
-    eq-eqb (length (take (s .axes) (eight (indexAt (s .axes) (s .level) k)))) (s .axes) (first-length (s .axes) (indexAt (s .axes) (s .level) k) few),
-    point-passes (name .point),
-    number-of-point (s .axes) (s .level) k small)
+    rw (
+      a .1,
+      first-places (s .axes) (levelAt (s .axes) (s .level) k) few (name .levels),
+      first-places (s .axes) (indexAt (s .axes) (s .level) k) few (name .indices),
+      shape,
+      eq-eqb (length (take (s .axes) (eight (levelAt (s .axes) (s .level) k)))) (s .axes) (first-length (s .axes) (levelAt (s .axes) (s .level) k) few),
+      eq-eqb (length (take (s .axes) (eight (indexAt (s .axes) (s .level) k)))) (s .axes) (first-length (s .axes) (indexAt (s .axes) (s .level) k) few),
+      point-passes (name .point),
+      number-of-point (s .axes) (s .level) k small,
+    )

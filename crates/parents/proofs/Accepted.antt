@@ -51,9 +51,9 @@ accepted s ls is axis e =
     let rest = next-passed (checkShape s) (checkAxis s axis andThen checkLists s ls is) e in
     let one = axis-in-range s axis (first-passed (checkAxis s axis) (checkLists s ls is) rest) in
     let p =
-        point-passed s ls is
-        (rw (first-passed (checkShape s) (checkAxis s axis andThen checkLists s ls is) e)
-        (next-passed (checkAxis s axis) (checkLists s ls is) rest)) in
+    point-passed s ls is
+    (rw (first-passed (checkShape s) (checkAxis s axis andThen checkLists s ls is) e)
+    (next-passed (checkAxis s axis) (checkLists s ls is) rest)) in
     record {
       low = one .0;
       levels = omega (arith, p .shape .high, p .levels);
