@@ -132,3 +132,12 @@ rank-of-level zero (suc s) r h = omega (arith, no-axes s)
 rank-of-level (suc k) zero r h = rank-of-levels k 0 r h (rank-of-level k (0 - lastLevel k 0 r) (rest k 0 r) (rest-lt k 0 r h))
 rank-of-level (suc k) (suc s) r h =
     rank-of-levels k (suc s) r h (rank-of-level k (suc s - lastLevel k (suc s) r) (rest k (suc s) r) (rest-lt k (suc s) r h))
+
+-- No level of a vector is more than the level sum.
+pub level-le : (k s r t : ℕ) → levelOf k s r t ≤ s
+unfolding levelOf
+level-le zero s r t = omega arith
+level-le (suc k) s r t =
+    eq-or-not t k
+    (λ e. rw (eq-eqb t k e) (last-le k s r))
+    (λ ne. rw (ne-eqb t k ne) (omega (arith, level-le k (s - lastLevel k s r) (rest k s r) t)))

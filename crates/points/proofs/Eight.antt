@@ -1,11 +1,13 @@
 -- The list of a number for each of eight axes: its length, what it holds at a place, and that a list of eight places is known by what it holds.
 -- Assumes nothing.
-use mathlib.Core.Path.{_≡_, refl, sym, _∙_}
+use mathlib.Core.Path.{_≡_, refl, sym, _∙_, fun-ext}
 use mathlib.Core.List.{List}
-use Prim.Native.Nat.{ℕ, zero, suc, _<_}
+use Prim.Native.Nat.{ℕ, zero, suc, _≤_, _<_}
 use native.Mathlib.Omega.{arith}
-use lib.ListN.{length, getD}
+use lib.ListN.{length, getD, List·getD-eq-default}
 use lib.Seq.{ext-getD}
+use Rattle.naturals.proofs.Cases.{le-or-lt}
+use Rattle.numbering.specs.Point.{at}
 use Rattle.points.specs.Points.{eight}
 
 pub eight-length : (f : ℕ → ℕ) → length (eight f) ≡ 8
@@ -32,3 +34,10 @@ eight-ext f xs e each =
 -- Numbers that agree on the eight axes make the same list.
 pub eight-cong : (f g : ℕ → ℕ) → ((t : ℕ) → t < 8 → f t ≡ g t) → eight f ≡ eight g
 eight-cong f g same = eight-ext g (eight f) (eight-length f) (λ t h. eight-at f t h ∙ same t h)
+
+-- Of numbers that are 0 past the eight axes the list holds every one.
+pub eight-whole : (f : ℕ → ℕ) → ((t : ℕ) → 8 ≤ t → f t ≡ 0) → at (eight f) ≡ f
+eight-whole f past = fun-ext λ t. le-or-lt 8 t (λ h. beyond t h ∙ sym (past t h)) (λ h. eight-at f t h)
+  where
+    beyond : (t : ℕ) → 8 ≤ t → at (eight f) t ≡ 0
+    beyond t h = List·getD-eq-default (eight f) 0 (omega (arith, eight-length f))

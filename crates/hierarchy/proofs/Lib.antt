@@ -1,0 +1,9 @@
+pub mod Turned
+pub mod Closed
+pub mod Inverse
+pub mod Bounds
+pub mod Values
+pub mod Steps
+pub mod Work
+pub mod Sums
+pub mod Sweeps

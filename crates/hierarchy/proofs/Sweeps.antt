@@ -1,0 +1,232 @@
+-- A turn in one table, by number. Forward goes down: when a point is turned, its parents, whose numbers are smaller, hold what they held, so the
+-- step is ready and the theorem on orders of work says what the table then holds. Back goes up: the parents then hold the result already.
+-- A back turn that stops half-way is undone by the forward steps of the points that it had reached.
+-- Assumes nothing.
+use mathlib.Core.Path.{_≡_, refl, ap, ap₂, sym, _∙_, fun-ext}
+use mathlib.Core.Logic.{inl, inr}
+use mathlib.Core.List.{List}
+use Prim.Native.Nat.{ℕ, zero, suc, _≤_, _<_}
+use native.Mathlib.Nat.{suc-inj}
+use native.Mathlib.Omega.{arith}
+use lib.Dec.{leb}
+use lib.IntN.{ℤ, pos, _+ℤ_, _-ℤ_, -ℤ-+ℤ-cancel}
+use lib.ListN.{length, set}
+use lib.Seq.{getD-set-same, getD-set-other}
+use borrow.Author.Tests.{le-leb, lt-leb}
+use Rattle.naturals.specs.Test.{if_then_else_}
+use Rattle.naturals.proofs.Cases.{eq-or-not, le-or-lt}
+use Rattle.numbering.specs.declared.Side.{Side}
+use Rattle.numbering.specs.declared.Side.the-variants.{Left, Right}
+use Rattle.integers.specs.Half.{half}
+use Rattle.hierarchy.specs.Grid.{Neighbours, Grid}
+use Rattle.hierarchy.specs.Turns.{valueAt, valuesOf, sumOn, forward, backward}
+use Rattle.hierarchy.specs.Work.{put, worked, Ready, mixed}
+use Rattle.hierarchy.proofs.Inverse.{forward-is, forward-zero, backward-zero, forward-of-back}
+use Rattle.hierarchy.proofs.Values.{value-zero, value-suc, values-of-value}
+use Rattle.hierarchy.proofs.Work.{put-same, put-other, Stages, Holds, step-holds}
+
+-- ---- a table with two halves
+
+pub mixed-low : (k : ℕ) (f g : ℕ → ℤ) (p : ℕ) → p ≤ k → mixed k f g p ≡ f p
+unfolding mixed
+mixed-low k f g p h = rw (le-leb p k h)
+
+pub mixed-high : (k : ℕ) (f g : ℕ → ℤ) (p : ℕ) → k < p → mixed k f g p ≡ g p
+unfolding mixed
+mixed-high k f g p h = rw (lt-leb p k h)
+
+-- A store into the list is a value put at a code.
+pub value-set : (xs : List ℤ) (k : ℕ) (v : ℤ) → k < length xs → valueAt (set xs k v) ≡ put (valueAt xs) (suc k) v
+value-set xs k v h = fun-ext at-code
+  where
+    at-code : (p : ℕ) → valueAt (set xs k v) p ≡ put (valueAt xs) (suc k) v p
+    at-code zero = value-zero (set xs k v) ∙ sym (put-other (valueAt xs) (suc k) v 0 (λ e. omega arith) ∙ value-zero xs)
+    at-code (suc p) =
+        eq-or-not p k
+        (λ e.
+        value-suc (set xs k v) p
+        ∙ rw e (getD-set-same xs k v (pos 0) h ∙ sym (put-same (valueAt xs) (suc k) v)))
+        (λ ne.
+        value-suc (set xs k v) p
+        ∙ getD-set-other xs k p v (pos 0) ne
+        ∙ sym (put-other (valueAt xs) (suc k) v (suc p) (λ e. ne (suc-inj e)) ∙ value-suc xs p))
+
+-- A list is known by what it holds at every code.
+pub list-of-values : (m : ℕ) (xs : List ℤ) (f : ℕ → ℤ) → length xs ≡ m → ((p : ℕ) → valueAt xs p ≡ f p) → xs ≡ valuesOf m f
+list-of-values m xs f len holds = sym (values-of-value m xs len) ∙ ap (valuesOf m) (fun-ext holds)
+
+-- ---- one axis of a grid in which parents have smaller numbers
+
+module _ (m : ℕ) (nb : Neighbours) (depth : ℕ → ℕ → ℕ) (grid : Grid m nb depth) (t : ℕ)
+    (earlier : (b : Side) (p : ℕ) → (nb t b p ≡ 0 → ⊥) → nb t b p < p) where
+  -- ---- forward, from point number k − 1 down
+
+  -- The tables after each turn of the axis.
+  turns : (ℕ → ℤ) → ℕ → ℕ → ℤ
+  turns f zero = f
+  turns f (suc k) = forward nb t (turns f k)
+
+  turns-zero : (f : ℕ → ℤ) → f 0 ≡ pos 0 → (k : ℕ) → turns f k 0 ≡ pos 0
+  unfolding turns
+  turns-zero f z zero = z
+  turns-zero f z (suc k) = forward-zero m nb depth grid t (turns f k) (turns-zero f z k)
+
+  one-axis : ℕ → ℕ
+  one-axis k = t
+
+  stages : (f : ℕ → ℤ) → f 0 ≡ pos 0 → Stages nb one-axis (turns f)
+  unfolding turns one-axis
+  stages f z = record { next = λ k p. refl; border = turns-zero f z }
+
+  -- Points above k and up to `from` are turned.
+  done : ℕ → ℕ → ℕ → ℕ
+  done from k p = if leb p k then 0 else (if leb p from then 1 else 0)
+
+  not-done : (from k p : ℕ) → p ≤ k → done from k p ≡ 0
+  unfolding done
+  not-done from k p h = rw (le-leb p k h)
+
+  is-done : (from k p : ℕ) → k < p → p ≤ from → done from k p ≡ 1
+  unfolding done
+  is-done from k p h le = rw (lt-leb p k h, le-leb p from le)
+
+  beyond-done : (from k p : ℕ) → k < p → from < p → done from k p ≡ 0
+  unfolding done
+  beyond-done from k p h gt = rw (lt-leb p k h, lt-leb p from gt)
+
+  -- The next point down is ready.
+  ready : (from k : ℕ) → Ready nb one-axis (record { stage = 0; point = suc k }) (done from (suc k))
+  unfolding one-axis
+  ready from k =
+      record {
+        point = not-done from (suc k) (suc k) (omega arith);
+        parents =
+            λ b.
+            eq-or-not (nb t b (suc k)) 0
+            (λ e. inl e)
+            (λ ne. inr (not-done from (suc k) (nb t b (suc k)) (omega (arith, earlier b (suc k) ne))));
+      }
+
+  done-put : (from k : ℕ) → suc k ≤ from → (p : ℕ) → put (done from (suc k)) (suc k) 1 p ≡ done from k p
+  done-put from k le p =
+      eq-or-not p (suc k)
+      (λ e. rw e (put-same (done from (suc k)) (suc k) 1 ∙ sym (is-done from k (suc k) (omega arith) le)))
+      (λ ne.
+      put-other (done from (suc k)) (suc k) 1 p ne
+      ∙ le-or-lt p k
+      (λ low. not-done from (suc k) p (omega arith) ∙ sym (not-done from k p low))
+      (λ high.
+      le-or-lt p from
+      (λ in-range. is-done from (suc k) p (omega arith) in-range ∙ sym (is-done from k p high in-range))
+      (λ past. beyond-done from (suc k) p (omega arith) past ∙ sym (beyond-done from k p high past))))
+
+  -- The table part of the way down: points up to k still hold what they held, those above and up to `from` are turned.
+  pub record Sweeping (f : ℕ → ℤ) (from k : ℕ) (g : ℕ → ℤ) : Type 0 where
+    pub low : (p : ℕ) → p ≤ k → g p ≡ f p
+    pub turned : (p : ℕ) → k < p → p ≤ from → g p ≡ forward nb t f p
+    pub high : (p : ℕ) → from < p → g p ≡ f p
+
+  as-held : (f : ℕ → ℤ) (from k : ℕ) (g : ℕ → ℤ) → k ≤ from → Sweeping f from k g → Holds nb one-axis (turns f) (done from k) g
+  unfolding turns
+  as-held f from k g le s p =
+      le-or-lt p k
+      (λ low. s .low p low ∙ ap (λ (j : ℕ). turns f j p) (sym (not-done from k p low)))
+      (λ high.
+      le-or-lt p from
+      (λ in-range. s .turned p high in-range ∙ ap (λ (j : ℕ). turns f j p) (sym (is-done from k p high in-range)))
+      (λ past. s .high p past ∙ ap (λ (j : ℕ). turns f j p) (sym (beyond-done from k p high past))))
+
+  as-swept : (f : ℕ → ℤ) (from k : ℕ) (g : ℕ → ℤ) → k ≤ from → Holds nb one-axis (turns f) (done from k) g → Sweeping f from k g
+  unfolding turns
+  as-swept f from k g le h =
+      record {
+        low = λ p low. h p ∙ ap (λ (j : ℕ). turns f j p) (not-done from k p low);
+        turned = λ p high in-range. h p ∙ ap (λ (j : ℕ). turns f j p) (is-done from k p high in-range);
+        high = λ p past. h p ∙ ap (λ (j : ℕ). turns f j p) (beyond-done from k p (omega arith) past);
+      }
+
+  pub sweep-starts : (f : ℕ → ℤ) (from : ℕ) → Sweeping f from from f
+  sweep-starts f from = record { low = λ p h. refl; turned = λ p h le. absurd (omega arith); high = λ p h. refl }
+
+  -- One step down, by the theorem on orders of work.
+  pub sweep-steps : (f : ℕ → ℤ) (from k : ℕ) (g : ℕ → ℤ) → f 0 ≡ pos 0 → suc k ≤ from → Sweeping f from (suc k) g →
+      Sweeping f from k (put g (suc k) (g (suc k) -ℤ half (sumOn nb t g (suc k))))
+  unfolding worked one-axis
+  sweep-steps f from k g z le s =
+      as-swept f from k (put g (suc k) (g (suc k) -ℤ half (sumOn nb t g (suc k)))) (omega arith)
+      (λ p.
+      step-holds nb one-axis (turns f) (stages f z) (record { stage = 0; point = suc k }) (done from (suc k)) g (ready from k)
+      (as-held f from (suc k) g le s) p
+      ∙ ap (λ (j : ℕ). turns f j p) (done-put from k le p))
+
+  pub sweep-ends : (f : ℕ → ℤ) (from : ℕ) (g : ℕ → ℤ) → f 0 ≡ pos 0 → Sweeping f from 0 g → (p : ℕ) → g p ≡ mixed from (forward nb t f) f p
+  sweep-ends f from g z s zero =
+      s .low 0 (omega arith) ∙ z ∙ sym (mixed-low from (forward nb t f) f 0 (omega arith) ∙ forward-zero m nb depth grid t f z)
+  sweep-ends f from g z s (suc p) =
+      le-or-lt (suc p) from
+      (λ le. s .turned (suc p) (omega arith) le ∙ sym (mixed-low from (forward nb t f) f (suc p) le))
+      (λ gt. s .high (suc p) gt ∙ sym (mixed-high from (forward nb t f) f (suc p) gt))
+
+  -- ---- back, from point number 0 up
+
+  module _ (k : ℕ) (shallow : (p : ℕ) → depth t p < k) (x : ℕ → ℤ) (z : x 0 ≡ pos 0) where
+    -- The result at a point is its value plus half the sum of the result at its parents.
+    pub result-at : (p : ℕ) → backward nb k t x p ≡ x p +ℤ half (sumOn nb t (backward nb k t x) p)
+    unfolding sumOn
+    result-at p =
+        sym
+        (ap (λ (v : ℤ). v +ℤ half (backward nb k t x (nb t Left p) +ℤ backward nb k t x (nb t Right p)))
+        (sym (forward-of-back m nb depth grid t k x z p (shallow p)) ∙ forward-is m nb depth grid t (backward nb k t x) p)
+        ∙ -ℤ-+ℤ-cancel (backward nb k t x p) (half (backward nb k t x (nb t Left p) +ℤ backward nb k t x (nb t Right p))))
+
+    -- Part of the way up, the parents of the next point hold the result.
+    pub parents-filled : (j : ℕ) (g : ℕ → ℤ) → ((p : ℕ) → g p ≡ mixed j (backward nb k t x) x p) →
+        sumOn nb t g (suc j) ≡ sumOn nb t (backward nb k t x) (suc j)
+    unfolding sumOn
+    parents-filled j g holds = ap₂ _+ℤ_ (filled Left) (filled Right)
+      where
+        filled : (b : Side) → g (nb t b (suc j)) ≡ backward nb k t x (nb t b (suc j))
+        filled b =
+            holds (nb t b (suc j))
+            ∙ mixed-low j (backward nb k t x) x (nb t b (suc j))
+            (eq-or-not (nb t b (suc j)) 0 (λ e. omega arith) (λ ne. omega (arith, earlier b (suc j) ne)))
+
+    pub fill-starts : (p : ℕ) → x p ≡ mixed 0 (backward nb k t x) x p
+    fill-starts zero = z ∙ sym (mixed-low 0 (backward nb k t x) x 0 (omega arith) ∙ backward-zero m nb depth grid t k x z)
+    fill-starts (suc p) = sym (mixed-high 0 (backward nb k t x) x (suc p) (omega arith))
+
+    pub fill-steps : (j : ℕ) (g : ℕ → ℤ) → ((p : ℕ) → g p ≡ mixed j (backward nb k t x) x p) →
+        (p : ℕ) → put g (suc j) (g (suc j) +ℤ half (sumOn nb t g (suc j))) p ≡ mixed (suc j) (backward nb k t x) x p
+    fill-steps j g holds p =
+        eq-or-not p (suc j)
+        (λ e.
+        rw e
+        (put-same g (suc j) _
+        ∙ ap₂ (λ (v w : ℤ). v +ℤ half w) (holds (suc j) ∙ mixed-high j (backward nb k t x) x (suc j) (omega arith)) (parents-filled j g holds)
+        ∙ sym (result-at (suc j))
+        ∙ sym (mixed-low (suc j) (backward nb k t x) x (suc j) (omega arith))))
+        (λ ne.
+        put-other g (suc j) _ p ne
+        ∙ holds p
+        ∙ le-or-lt p j
+        (λ low. mixed-low j (backward nb k t x) x p low ∙ sym (mixed-low (suc j) (backward nb k t x) x p (omega arith)))
+        (λ high. mixed-high j (backward nb k t x) x p high ∙ sym (mixed-high (suc j) (backward nb k t x) x p (omega arith))))
+
+    -- The forward steps of the points that were reached give back what stood.
+    pub undone : (j : ℕ) (g : ℕ → ℤ) → ((p : ℕ) → g p ≡ mixed j (backward nb k t x) x p) → (p : ℕ) → mixed j (forward nb t g) g p ≡ x p
+    undone j g holds p =
+        le-or-lt p j
+        (λ low.
+        mixed-low j (forward nb t g) g p low
+        ∙ forward-is m nb depth grid t g p
+        ∙ ap₂ (λ (v w : ℤ). v -ℤ half w) (reached p low) (ap₂ _+ℤ_ (at-parent-reached low Left) (at-parent-reached low Right))
+        ∙ sym (forward-is m nb depth grid t (backward nb k t x) p)
+        ∙ forward-of-back m nb depth grid t k x z p (shallow p))
+        (λ high. mixed-high j (forward nb t g) g p high ∙ holds p ∙ mixed-high j (backward nb k t x) x p high)
+      where
+        reached : (q : ℕ) → q ≤ j → g q ≡ backward nb k t x q
+        reached q le = holds q ∙ mixed-low j (backward nb k t x) x q le
+
+        at-parent-reached : p ≤ j → (b : Side) → g (nb t b p) ≡ backward nb k t x (nb t b p)
+        at-parent-reached low b =
+            reached (nb t b p) (eq-or-not (nb t b p) 0 (λ e. omega arith) (λ ne. omega (arith, earlier b p ne)))

@@ -1,0 +1,3 @@
+pub mod Linear
+pub mod Halves
+pub mod Sizes

@@ -1,0 +1,83 @@
+// The state of a table: its shape and the axes that are forward, one bit for each.
+use refusals::Refusal;
+use refusals::Verdict;
+use shapes::Shape;
+ghost use mathlib.Core.Path.{_≡_};
+ghost use Prim.Native.Nat.{_≤_, _<_, _+_, _-_, _^_};
+ghost use mathlib.Core.Bool.{true, false};
+ghost use Rattle.states.specs.States.{has, marked, cleared, checkContents, checkState};
+
+// Bit t − 1 of `forward` says that axis t is forward.
+pub struct State {
+    pub shape: Shape,
+    pub forward: u8,
+}
+
+// What a call answers that opens or turns a table: the state that it leaves, or why it was refused.
+pub enum Answer {
+    Done(State),
+    Refused(Refusal),
+}
+
+// Place t is in the set of forward axes.
+pub fn has_axis(forward: u8, t: u32) -> bool
+    requires { ⌜ t < 8 ⌝ }
+    ensures { λ r. ⌜ r ≡ has forward t ⌝ }
+{
+    (forward >> t) & 1 == 1
+}
+
+// The set with place t, which it did not have.
+pub fn with_axis(state: State, t: u32) -> State
+    requires { ⌜ (t < 8) × (has (state .forward) t ≡ false) ⌝ }
+    ensures { λ r. ⌜ r ≡ marked state t ⌝ }
+{
+    let shape = state.shape;
+    let forward = state.forward;
+    State {
+        shape: shape,
+        forward: forward | (1 << t),
+    }
+}
+
+// The set without place t, which it had.
+pub fn without_axis(state: State, t: u32) -> State
+    requires { ⌜ (t < 8) × (has (state .forward) t ≡ true) ⌝ }
+    ensures { λ r. ⌜ r ≡ cleared state t ⌝ }
+{
+    let shape = state.shape;
+    let forward = state.forward;
+    State {
+        shape: shape,
+        forward: forward ^ (1 << t),
+    }
+}
+
+// Refused with 14 or 3.
+fn check_contents(state: State, places: usize) -> Verdict
+    requires { ⌜ (1 ≤ state .shape .axes) × (state .shape .axes ≤ 8) × (state .shape .level ≤ 8) ⌝ }
+    ensures { λ r. ⌜ r ≡ checkContents state places ⌝ }
+{
+    let shape = state.shape;
+    let axes = shape.axes;
+    let level = shape.level;
+    let forward = state.forward as u32;
+    if 1 << axes <= forward {
+        return Verdict::Refused(Refusal::StrayBit);
+    }
+    if places as u64 != shapes::first_number(axes, level + 1) {
+        return Verdict::Refused(Refusal::TableLength);
+    }
+    Verdict::Passed
+}
+
+// Refused with 1, 2, 14 or 3.
+pub fn check_state(state: State, places: usize) -> Verdict
+    ensures { λ r. ⌜ r ≡ checkState state places ⌝ }
+{
+    let shape = state.shape;
+    match shapes::check_shape(shape) {
+        Verdict::Refused(r) => Verdict::Refused(r),
+        Verdict::Passed => check_contents(state, places),
+    }
+}

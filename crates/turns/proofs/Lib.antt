@@ -1,0 +1,10 @@
+pub mod Checking
+pub mod Accepting
+pub mod AtPoint
+pub mod Sweeping
+pub mod Filling
+pub mod Former
+pub mod Answering
+pub mod Undoing
+pub mod BothWays
+pub mod Lines

@@ -1,0 +1,186 @@
+-- `turns::dehierarchize` meets its contract: the checks that refuse answer in their order. Where the way up stops, the former table is not accepted and the
+-- sweep of the points reached gives back the table; where it comes to the end, the table is the former one, and it is accepted.
+-- Assumes nothing.
+use mathlib.Core.Path.{_≡_, ap, ap₂, sym, _∙_}
+use mathlib.Core.Bool.{true}
+use Prim.Native.Nat.{_-_, _≤_}
+use native.Mathlib.Omega.{arith}
+use borrow.Author.Needs.{needs}
+use borrow.Author.Tests.{not-true, not-false}
+use lib.ListN.{length}
+use Rattle.refusals.specs.declared.Refusal.the-variants.{Contents}
+use Rattle.refusals.specs.declared.Verdict.the-variants.{Passed}
+use Rattle.numbering.specs.Count.{points}
+use Rattle.states.specs.States.{has}
+use Rattle.states.specs.declared.Answer.the-variants.{Done, Refused}
+use Rattle.turns.specs.Steps.{OnAxis, Filled}
+use Rattle.states.specs.After.{after}
+use Rattle.turns.specs.Turns.{formerTable, isAccepted, checkTurn}
+use Rattle.turns.proofs.Accepting.{passed-limited}
+use Rattle.turns.proofs.Answering.{on-axis, back-unchecked, back-not-forward, back-refused, back-done}
+use Rattle.turns.proofs.Checking.{MayTurn, place-of, turn-passed}
+use Rattle.turns.proofs.Former.{past-limit-refuses, filled-length, reached-limited, given-back, stopped-refuses, end-holds, end-accepted}
+use Rattle.turns.proofs.dehierarchize.Statement.{statement}
+use Rattle.turns.proofs.dehierarchize.Tie as tie
+
+-- the checks passed
+passed : (c : tie.After-enum-told) →
+    let a = c .before .before .before .args in checkTurn (a .state) (length (a .table .now)) (a .axis) ≡ Passed
+passed c = sym (c .before .before .check-turn .ensures) ∙ c .enum-told .given .1
+
+may : (c : tie.After-enum-told) → let a = c .before .before .before .args in MayTurn (a .state) (length (a .table .now)) (a .axis)
+may c = let a = c .before .before .before .args in turn-passed (a .state) (length (a .table .now)) (a .axis) (passed c)
+
+-- the axis is forward
+set : (c : tie.Else1) → let a = c .before .before .before .before .before .args in has (a .state .forward) (a .axis - 1) ≡ true
+set c = sym (c .before .has-axis .ensures) ∙ not-false _ (c .if1 .left)
+
+axis : (c : tie.After-enum-told) →
+    let a = c .before .before .before .args in OnAxis (a .state .shape .axes) (a .state .shape .level) (a .axis - 1) (a .table .now)
+axis c = on-axis (may c)
+
+-- what the way up left
+filled : (c : tie.After-table) →
+    let a = c .before .before .before .before .before .before .before .before .before .before .before .before .args in
+    Filled (a .state .shape .axes) (a .state .shape .level) (a .axis - 1) (a .table .now) (c .before .fill .result) (c .before .fill .last .1 .0)
+filled c = c .before .fill .ensures
+
+long : (c : tie.After-table) →
+    let a = c .before .before .before .before .before .before .before .before .before .before .before .before .args in
+    length (c .before .fill .last .1 .0) ≡ points (a .state .shape .axes) (a .state .shape .level)
+long c =
+    let told = c .before .before .before .before .before .before .before .before .before in
+    filled-length _ _ _ _ (axis told) _ _ (filled c)
+
+-- the sweep gave back the table
+kept-table : (c : tie.After-sweep) →
+    let a = c .before .before .before .before .before .before .before .before .before .before .before .before .before .before .before .args in
+    c .sweep .last .1 .0 ≡ a .table .now
+kept-table c =
+    let up = c .before .before .before in
+    let told = up .before .before .before .before .before .before .before .before .before in
+    c .sweep .ensures ∙ given-back _ _ _ _ (axis told) _ _ (filled up)
+
+check-turn-requires : tie.Need-check-turn-requires
+check-turn-requires c κs = search needs
+
+enum-known-r : tie.Need-enum-known-r
+enum-known-r c = search needs
+
+returns : tie.Need-returns
+returns c =
+    let a = c .before .before .before .before .args in
+    rw
+    (back-unchecked (a .state) (a .table .now) (a .axis) (c .before .r .given .0 .0)
+    (sym (c .before .before .before .check-turn .ensures) ∙ c .before .r .given .1))
+
+enum-told : tie.Need-enum-told
+enum-told c = search needs
+
+sub-place : tie.Need-sub-place
+sub-place c = may c .first
+
+has-axis-requires : tie.Need-has-axis-requires
+has-axis-requires c κs = omega (arith, place-of (may c), may c .range)
+
+returns-2 : tie.Need-returns-2
+returns-2 c =
+    let told = c .before .before in
+    let a = told .before .before .before .args in
+    rw (back-not-forward (a .state) (a .table .now) (a .axis) (passed told) (sym (c .before .has-axis .ensures) ∙ not-true _ (c .if1 .taken)))
+
+all-in-limit-requires : tie.Need-all-in-limit-requires
+all-in-limit-requires c κs = search needs
+
+same-length : tie.Need-same-length
+same-length c = search needs
+
+returns-3 : tie.Need-returns-3
+unfolding isAccepted formerTable
+returns-3 c =
+    let other = c .before .before .before .before in
+    let told = other .before .before in
+    let a = told .before .before .before .args in
+    rw
+    (back-refused (a .state) (a .table .now) (a .axis) (passed told) (set other)
+    (past-limit-refuses _ _ _ _ (axis told) (sym (c .before .all-in-limit .ensures) ∙ not-true _ (c .if2 .taken))))
+
+fill-requires : tie.Need-fill-requires
+fill-requires c κs =
+    let tested = c .before .before in
+    let told = tested .before .before .before .before .before in
+    (axis told, passed-limited _ (sym (tested .all-in-limit .ensures) ∙ not-false _ (c .before .if2 .left)))
+
+sweep-requires : tie.Need-sweep-requires
+sweep-requires c κs =
+    let up = c .before .before in
+    let told = up .before .before .before .before .before .before .before .before .before in
+    let on = axis told in (
+      record { few = on .few; low = on .low; place = on .place; long = long up },
+      reached-limited _ _ _ _ on _ _ (filled up),
+      filled up .within,
+    )
+
+same-length-2 : tie.Need-same-length-2
+same-length-2 c = search needs
+
+returns-4 : tie.Need-returns-4
+unfolding isAccepted formerTable
+returns-4 c =
+    let up = c .before .before .before .before in
+    let other = up .before .before .before .before .before .before .before in
+    let told = other .before .before in
+    let a = told .before .before .before .args in
+    rw
+    (back-refused (a .state) (a .table .now) (a .axis) (passed told) (set other)
+    (stopped-refuses _ _ _ _ (axis told) _ _ (filled up) (omega (arith, long up, c .before .before .before .if3 .taken))))
+    (ap (after (Refused Contents)) (kept-table (c .before)))
+
+without-axis-requires : tie.Need-without-axis-requires
+without-axis-requires c κs =
+    let other = c .before .before .before .before .before .before .before .before in
+    let told = other .before .before in
+    (omega (arith, place-of (may told), may told .range), set other)
+
+same-length-3 : tie.Need-same-length-3
+same-length-3 c = search needs
+
+-- the way up came to the end
+at-end : (c : tie.Else3) →
+    let a = c .before .before .before .before .before .before .before .before .before .before .before .before .before .args in
+    points (a .state .shape .axes) (a .state .shape .level) ≤ c .before .before .fill .result
+at-end c = omega (arith, long (c .before), c .if3 .left)
+
+returns-5 : tie.Need-returns-5
+unfolding isAccepted formerTable
+returns-5 c =
+    let up = c .before .before in
+    let other = up .before .before .before .before .before .before .before in
+    let told = other .before .before in
+    let a = told .before .before .before .args in
+    rw
+    (back-done (a .state) (a .table .now) (a .axis) (passed told) (set other)
+    (end-accepted _ _ _ _ (axis told) _ _ (filled up) (at-end (c .before))))
+    (ap₂ after (ap Done (c .without-axis .ensures)) (end-holds _ _ _ _ (axis told) _ _ (filled up) (at-end (c .before))))
+
+pub dehierarchize-spec : {M : Type 1} → statement M
+dehierarchize-spec =
+    tie.close
+    (tie.spec
+    check-turn-requires
+    enum-known-r
+    returns
+    enum-told
+    sub-place
+    has-axis-requires
+    returns-2
+    all-in-limit-requires
+    same-length
+    returns-3
+    fill-requires
+    sweep-requires
+    same-length-2
+    returns-4
+    without-axis-requires
+    same-length-3
+    returns-5)
