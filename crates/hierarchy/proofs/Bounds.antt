@@ -1,7 +1,7 @@
 -- No table of a set passes the content limit: each axis makes a value at most four times as large, so eight axes take a rate, at most 2^31,
 -- to at most 2^47, which is the limit.
 -- Assumes nothing.
-use mathlib.Core.Path.{_≡_, ap}
+use mathlib.Core.Path.{_≡_, ap, _∙_}
 use mathlib.Core.Bool.{Bool, true}
 use Prim.Native.Nat.{ℕ, zero, suc, _*_, _^_, _≤_}
 use native.Mathlib.Nat.{le-of-eq}
@@ -14,7 +14,8 @@ use Rattle.integers.specs.Half.{limit, inLimit}
 use Rattle.integers.proofs.Linear.{leaf, _⊕_, ⊖_, size, size-of}
 use Rattle.hierarchy.specs.Grid.{Neighbours}
 use Rattle.hierarchy.proofs.Turned.{twice, turned}
-use Rattle.hierarchy.proofs.Closed.{closed}
+use Rattle.hierarchy.specs.Sets.{tableOf}
+use Rattle.hierarchy.proofs.Closed.{closed, table-closed}
 
 grow : ℕ → ℕ → ℕ
 grow zero b = b
@@ -66,3 +67,8 @@ module _ (nb : Neighbours) where
   pub in-limit : (set : ℕ → Bool) (d : ℕ) (r : ℕ → ℤ) → d ≤ 8 → ((p : ℕ) → natAbs (r p) ≤ 2 ^ 31) → (p : ℕ) → inLimit (closed nb set d r p) ≡ true
   unfolding inLimit
   in-limit set d r h small p = le-leb (natAbs (closed nb set d r p)) limit (omega (arith, closed-size set d (2 ^ 31) r small p, eight-axes d h))
+
+  -- So is the table of a set.
+  pub table-in-limit : (set : ℕ → Bool) (d : ℕ) (r : ℕ → ℤ) → d ≤ 8 → ((p : ℕ) → natAbs (r p) ≤ 2 ^ 31) → (p : ℕ) →
+      inLimit (tableOf nb d set r p) ≡ true
+  table-in-limit set d r h small p = ap (λ (f : ℕ → ℤ). inLimit (f p)) (table-closed nb d set r) ∙ in-limit set d r h small p

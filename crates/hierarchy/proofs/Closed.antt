@@ -3,17 +3,18 @@
 -- Assumes nothing.
 use mathlib.Core.Path.{_≡_, refl, ap, ap₂, sym, _∙_, fun-ext}
 use mathlib.Core.Bool.{Bool, true, false}
-use Prim.Native.Nat.{ℕ, zero, suc, _+_, _*_, _^_, _<_}
+use Prim.Native.Nat.{ℕ, zero, suc, _+_, _*_, _^_, _<_, _-_}
 use native.Mathlib.Nat.{pow-suc, mul-assoc, mul-one, add-zero}
 use native.Mathlib.Omega.{arith}
 use lib.IntN.{ℤ, pos, negsuc, negℤ, _+ℤ_, _*ℤ_}
 use Rattle.naturals.specs.Test.{if_then_else_}
 use Rattle.naturals.proofs.Cases.{eq-or-not, true-or-false}
 use Rattle.integers.proofs.Linear.{leaf, _⊕_, ⊖_, equal}
+use Rattle.integers.specs.Half.{isEven}
 use Rattle.hierarchy.specs.Grid.{Neighbours, Grid}
-use Rattle.hierarchy.specs.Turns.{forward}
+use Rattle.hierarchy.specs.Turns.{sumOn, forward}
 use Rattle.hierarchy.specs.Sets.{scaled, swept, tableOf}
-use Rattle.hierarchy.proofs.Turned.{twice, turned, forward-twice, turned-twice, turned-swap}
+use Rattle.hierarchy.proofs.Turned.{twice, turned, forward-twice, turned-twice, turned-swap, twice-even}
 
 -- A table doubled k times.
 unfoldable pub doubled : ℕ → (ℕ → ℤ) → ℕ → ℤ
@@ -92,6 +93,18 @@ module _ (nb : Neighbours) where
       ∙ forward-twice nb k (doubled j (closed set k r))
       ∙ turned-doubled k j (closed set k r)))
       (λ e. rw e (below ∙ sym (doubled-twice j (closed set k r))))
+
+  -- Every half in the table of a set is whole: the sums that the turn of axis k meets, after the axes before it, are even.
+  pub halves-whole : (d : ℕ) (set : ℕ → Bool) (k : ℕ) (r : ℕ → ℤ) (p : ℕ) → k < d →
+      isEven (sumOn nb k (swept nb set k (scaled d r)) p) ≡ true
+  halves-whole d set k r p h =
+      let j : ℕ = d - suc k in
+      let e : d ≡ k + suc j = omega arith in
+      ap (λ (f : ℕ → ℤ). isEven (sumOn nb k f p))
+      (ap (swept nb set k) (scaled-doubled d r ∙ ap (λ (n : ℕ). doubled n r) e)
+      ∙ swept-closed set k (suc j) r
+      ∙ doubled-suc j (closed set k r))
+      ∙ twice-even nb k (doubled j (closed set k r)) p
 
   -- The table of a set in closed form.
   pub table-closed : (d : ℕ) (set : ℕ → Bool) (r : ℕ → ℤ) → tableOf nb d set r ≡ closed set d r

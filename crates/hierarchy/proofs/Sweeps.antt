@@ -4,7 +4,7 @@
 -- Assumes nothing.
 use mathlib.Core.Path.{_≡_, refl, ap, ap₂, sym, _∙_, fun-ext}
 use mathlib.Core.Logic.{inl, inr}
-use mathlib.Core.List.{List}
+use mathlib.Core.List.{List, [], _∷_}
 use Prim.Native.Nat.{ℕ, zero, suc, _≤_, _<_}
 use native.Mathlib.Nat.{suc-inj}
 use native.Mathlib.Omega.{arith}
@@ -20,10 +20,10 @@ use Rattle.numbering.specs.declared.Side.the-variants.{Left, Right}
 use Rattle.integers.specs.Half.{half}
 use Rattle.hierarchy.specs.Grid.{Neighbours, Grid}
 use Rattle.hierarchy.specs.Turns.{valueAt, valuesOf, sumOn, forward, backward}
-use Rattle.hierarchy.specs.Work.{put, worked, Ready, mixed}
+use Rattle.hierarchy.specs.Work.{put, Item, worked, Ready, allWorked, countsAfter, Legal, mixed}
 use Rattle.hierarchy.proofs.Inverse.{forward-is, forward-zero, backward-zero, forward-of-back}
 use Rattle.hierarchy.proofs.Values.{value-zero, value-suc, values-of-value}
-use Rattle.hierarchy.proofs.Work.{put-same, put-other, Stages, Holds, step-holds}
+use Rattle.hierarchy.proofs.Work.{put-same, put-other, Stages, Holds, step-holds, order-of-work}
 
 -- ---- a table with two halves
 
@@ -62,7 +62,7 @@ module _ (m : ℕ) (nb : Neighbours) (depth : ℕ → ℕ → ℕ) (grid : Grid 
   -- ---- forward, from point number k − 1 down
 
   -- The tables after each turn of the axis.
-  turns : (ℕ → ℤ) → ℕ → ℕ → ℤ
+  unfoldable pub turns : (ℕ → ℤ) → ℕ → ℕ → ℤ
   turns f zero = f
   turns f (suc k) = forward nb t (turns f k)
 
@@ -71,7 +71,7 @@ module _ (m : ℕ) (nb : Neighbours) (depth : ℕ → ℕ → ℕ) (grid : Grid 
   turns-zero f z zero = z
   turns-zero f z (suc k) = forward-zero m nb depth grid t (turns f k) (turns-zero f z k)
 
-  one-axis : ℕ → ℕ
+  unfoldable pub one-axis : ℕ → ℕ
   one-axis k = t
 
   stages : (f : ℕ → ℤ) → f 0 ≡ pos 0 → Stages nb one-axis (turns f)
@@ -79,7 +79,7 @@ module _ (m : ℕ) (nb : Neighbours) (depth : ℕ → ℕ → ℕ) (grid : Grid 
   stages f z = record { next = λ k p. refl; border = turns-zero f z }
 
   -- Points above k and up to `from` are turned.
-  done : ℕ → ℕ → ℕ → ℕ
+  unfoldable pub done : ℕ → ℕ → ℕ → ℕ
   done from k p = if leb p k then 0 else (if leb p from then 1 else 0)
 
   not-done : (from k p : ℕ) → p ≤ k → done from k p ≡ 0
@@ -119,6 +119,26 @@ module _ (m : ℕ) (nb : Neighbours) (depth : ℕ → ℕ → ℕ) (grid : Grid 
       le-or-lt p from
       (λ in-range. is-done from (suc k) p (omega arith) in-range ∙ sym (is-done from k p high in-range))
       (λ past. beyond-done from (suc k) p (omega arith) past ∙ sym (beyond-done from k p high past))))
+
+  -- The steps of the first k points, from the last down, and that this order is legal.
+  unfoldable pub downFrom : ℕ → List Item
+  downFrom zero = []
+  downFrom (suc k) = record { stage = 0; point = suc k } ∷ downFrom k
+
+  pub down-legal : (from k : ℕ) → k ≤ from → Legal nb one-axis (downFrom k) (done from k)
+  unfolding downFrom
+  down-legal from zero h = tt
+  down-legal from (suc k) h = (ready from k, rw (fun-ext (done-put from k h)) (down-legal from k (omega arith)))
+
+  -- So the theorem on orders of work says what the table holds after them.
+  pub swept-in-order : (f : ℕ → ℤ) (from : ℕ) → f 0 ≡ pos 0 →
+      Holds nb one-axis (turns f) (countsAfter nb one-axis (downFrom from) (done from from)) (allWorked nb one-axis (downFrom from) f)
+  unfolding turns
+  swept-in-order f from z =
+      order-of-work nb one-axis (turns f) (stages f z) (downFrom from) (done from from) f (down-legal from from (omega arith))
+      (λ p.
+      ap (λ (j : ℕ). turns f j p)
+      (sym (le-or-lt p from (λ low. not-done from from p low) (λ high. beyond-done from from p high high))))
 
   -- The table part of the way down: points up to k still hold what they held, those above and up to `from` are turned.
   pub record Sweeping (f : ℕ → ℤ) (from k : ℕ) (g : ℕ → ℤ) : Type 0 where

@@ -13,7 +13,7 @@ use Rattle.numbering.specs.declared.Side.{Side}
 use Rattle.numbering.specs.declared.Side.the-variants.{Left, Right}
 use Rattle.hierarchy.specs.Grid.{Neighbours}
 use Rattle.hierarchy.specs.Turns.{sumOn, forward}
-use Rattle.hierarchy.specs.Work.{put, Item, worked, Ready, allWorked, counted, Legal}
+use Rattle.hierarchy.specs.Work.{put, Item, worked, Ready, allWorked, countsAfter, Legal}
 
 pub put-same : {A : Type 0} (f : ℕ → A) (p : ℕ) (v : A) → put f p v p ≡ v
 unfolding put
@@ -68,8 +68,8 @@ module _ (nb : Neighbours) (axis : ℕ → ℕ) where
 
     -- The theorem.
     pub order-of-work : (is : List Item) (count : ℕ → ℕ) (f : ℕ → ℤ) → Legal nb axis is count → Holds after count f →
-        Holds after (counted nb axis is count) (allWorked nb axis is f)
-    unfolding allWorked counted
+        Holds after (countsAfter nb axis is count) (allWorked nb axis is f)
+    unfolding allWorked countsAfter
     order-of-work [] count f legal holds = holds
     order-of-work (i ∷ is) count f legal holds =
         order-of-work is (put count (i .point) (suc (i .stage))) (worked nb axis i f) (legal .1) (step-holds i count f (legal .0) holds)

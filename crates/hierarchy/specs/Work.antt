@@ -37,9 +37,9 @@ module _ (nb : Neighbours) (axis : ℕ → ℕ) where
   allWorked [] f = f
   allWorked (i ∷ is) f = allWorked is (worked i f)
 
-  unfoldable pub counted : List Item → (ℕ → ℕ) → ℕ → ℕ
-  counted [] c = c
-  counted (i ∷ is) c = counted is (put c (i .point) (suc (i .stage)))
+  unfoldable pub countsAfter : List Item → (ℕ → ℕ) → ℕ → ℕ
+  countsAfter [] c = c
+  countsAfter (i ∷ is) c = countsAfter is (put c (i .point) (suc (i .stage)))
 
   -- A list is legal if each step is ready when its turn comes.
   abbrev pub Legal : List Item → (ℕ → ℕ) → Type 0

@@ -1,12 +1,13 @@
 -- A test of every place below a bound passes exactly where it passes at each such place.
 -- Assumes nothing.
 use mathlib.Core.Path.{_≡_, refl, sym, _∙_, ap}
-use mathlib.Core.Bool.{Bool, true, false, _&&_}
+use mathlib.Core.Bool.{Bool, true, false, _&&_, false≢true}
 use mathlib.Core.Logic.{⊎-elim}
 use Prim.Native.Nat.{ℕ, zero, suc, _<_}
 use native.Mathlib.Nat.{eq-or-lt-of-le, le-of-suc-le-suc, not-suc-le-zero}
 use native.Mathlib.Omega.{arith}
 use Rattle.naturals.specs.Test.{all}
+use Rattle.naturals.proofs.Cases.{true-or-false}
 
 pub and-left : (a b : Bool) → a && b ≡ true → a ≡ true
 and-left true b e = refl
@@ -38,3 +39,7 @@ all-at f (suc m) e k h =
 pub all-from : (f : ℕ → Bool) (m : ℕ) → ((k : ℕ) → k < m → f k ≡ true) → all f m ≡ true
 all-from f zero each = all-zero f
 all-from f (suc m) each = rw (all-suc, all-from f m (λ k h. each k (omega arith)), each m (omega arith))
+
+-- One place that fails decides.
+pub all-fails : (f : ℕ → Bool) (m k : ℕ) → k < m → f k ≡ false → all f m ≡ false
+all-fails f m k h e = true-or-false (all f m) (λ pass. absurd (false≢true (sym e ∙ all-at f m pass k h))) (λ fail. fail)

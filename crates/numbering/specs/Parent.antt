@@ -17,7 +17,7 @@ numerator Right i = i + 1
 unfoldable pub isBorder : ℕ → ℕ → Bool
 isBorder l m = eqb m 0 || eqb m (2 ^ suc l)
 
--- How many factors of two a numerator has.
+-- How many factors of two a numerator has: its trailing zeros, of the 32 bits that an index has (numerators of the shapes are below 2^10).
 unfoldable pub twos : ℕ → ℕ
 twos m = trailingZeros 32 m
 

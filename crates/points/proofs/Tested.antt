@@ -2,15 +2,14 @@
 -- At the last axis that is the test of the point; where an axis fails, so does the test of the point, since a sum is no less than one of its terms.
 -- Assumes nothing.
 use mathlib.Core.Path.{_≡_, ap}
-use mathlib.Core.Bool.{Bool, true, false, and-false}
+use mathlib.Core.Bool.{true, false, and-false}
 use Prim.Native.Nat.{ℕ, suc, _+_, _-_, _≤_, _<_}
 use native.Mathlib.Omega.{arith}
 use borrow.Author.Tests.{le-leb, lt-leb}
 use Rattle.naturals.specs.Sum.{sumTo}
 use Rattle.naturals.specs.Test.{all}
 use Rattle.naturals.proofs.Sums.{sumTo-zero, sumTo-suc, sumTo-mono}
-use Rattle.naturals.proofs.Tests.{all-zero, all-suc, all-at}
-use Rattle.naturals.proofs.Cases.{true-or-false}
+use Rattle.naturals.proofs.Tests.{all-zero, all-suc, all-fails}
 use Rattle.numbering.specs.Point.{isIndex, indexed, isPoint}
 
 pub record Tested (d n : ℕ) (l i : ℕ → ℕ) (t left : ℕ) : Type 0 where
@@ -21,10 +20,6 @@ pub record Tested (d n : ℕ) (l i : ℕ → ℕ) (t left : ℕ) : Type 0 where
 pub tested-starts : (d n : ℕ) (l i : ℕ → ℕ) → Tested d n l i 0 n
 tested-starts d n l i =
     record { place = omega arith; rest = omega (arith, sumTo-zero l); passed = all-zero (indexed l i) }
-
--- A test that fails at one place fails.
-all-fails : (f : ℕ → Bool) (m k : ℕ) → k < m → f k ≡ false → all f m ≡ false
-all-fails f m k h e = true-or-false (all f m) (λ p. let q = all-at f m p k h in cc) (λ p. p)
 
 module _ {d n : ℕ} {l i : ℕ → ℕ} {t left : ℕ} (tested : Tested d n l i t left) where
   pub tested-steps : t < d → l t ≤ left → isIndex (l t) (i t) ≡ true → Tested d n l i (suc t) (left - l t)

@@ -29,7 +29,7 @@ module _ (s : Shape) (range : InRange s) (r : ℕ → ℤ) (rates : Rates (point
     pub table :
         ran .table ≡ valuesOf (points (s .axes) (s .level)) (tableOf (neighbour (s .axes) (s .level)) (s .axes) (modelAfter (s .axes) set calls) r)
 
-  run-from : (calls : List Turn) (set : Axes) (byte : ℕ) (xs : List ℤ) → Agrees s range r rates set byte xs → AsModel calls set (run calls (stateOf s byte) xs)
+  pub run-from : (calls : List Turn) (set : Axes) (byte : ℕ) (xs : List ℤ) → Agrees s range r rates set byte xs → AsModel calls set (run calls (stateOf s byte) xs)
   unfolding run modelAnswers modelAfter
   run-from [] set byte xs a =
       record { answers = refl; shape = refl; few = a .few; bits = a .bits; table = a .table }

@@ -32,11 +32,11 @@ changed set (Forward axis) = put set (axis - 1) true
 changed set (Back axis) = put set (axis - 1) false
 
 -- A refused call leaves the set alone.
-abbrev pub left : Axes → Refusal → Axes
-left set r = set
+abbrev pub unchanged : Axes → Refusal → Axes
+unchanged set r = set
 
 unfoldable pub modelSet : ℕ → Axes → Turn → Axes
-modelSet d set call = answer (left set) (modelAnswer d set call) (changed set call)
+modelSet d set call = answer (unchanged set) (modelAnswer d set call) (changed set call)
 
 -- All answers to a list of calls, and the set after it.
 unfoldable pub modelAnswers : ℕ → Axes → List Turn → List Verdict

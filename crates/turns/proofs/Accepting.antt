@@ -8,9 +8,8 @@ use Prim.Native.Nat.{ℕ, zero, suc, _<_}
 use native.Mathlib.Omega.{arith}
 use lib.IntN.{ℤ, _+ℤ_, _-ℤ_}
 use lib.ListN.{length}
-use Rattle.naturals.specs.Test.{all}
 use Rattle.naturals.proofs.Cases.{le-or-lt, true-or-false}
-use Rattle.naturals.proofs.Tests.{and-left, all-at, all-from}
+use Rattle.naturals.proofs.Tests.{and-left, all-at, all-from, all-fails}
 use Rattle.integers.specs.Half.{half, isEven, inLimit}
 use Rattle.numbering.specs.Count.{points}
 use Rattle.hierarchy.specs.Turns.{valueAt, sumOn, forward, acceptedAt, accepted}
@@ -18,10 +17,6 @@ use Rattle.hierarchy.proofs.Values.{value-zero, value-past}
 use Rattle.zero_border.specs.ZeroBorder.{neighbour}
 use Rattle.turns.specs.Steps.{Limited, limitAt, allLimited, movesOn}
 use Rattle.turns.proofs.AtPoint.{zero-in-limit, AtParents}
-
--- One place that fails decides.
-pub all-fails : (f : ℕ → Bool) (m k : ℕ) → k < m → f k ≡ false → all f m ≡ false
-all-fails f m k h e = true-or-false (all f m) (λ yes. absurd (false≢true (sym e ∙ all-at f m yes k h))) (λ no. no)
 
 -- ---- values within the limit
 

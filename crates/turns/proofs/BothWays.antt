@@ -1,14 +1,15 @@
 -- Forward then back, and back then forward, give the table and the state that stood before, wherever the first turn was not refused.
 -- Assumes nothing.
-use mathlib.Core.Path.{_≡_, refl, ap, sym}
-use mathlib.Core.Bool.{Bool, true, false, not}
+use mathlib.Core.Path.{_≡_, refl, ap, sym, _∙_}
+use mathlib.Core.Bool.{true, false, not}
 use mathlib.Core.List.{List}
-use Prim.Native.Nat.{ℕ, _-_, _^_}
+use Prim.Native.Nat.{ℕ, _-_, _^_, _≤_}
 use native.Mathlib.Nat.{add-sub-cancel, sub-add-cancel}
 use native.Mathlib.Omega.{arith}
 use lib.IntN.{ℤ}
 use lib.ListN.{length}
 use borrow.Author.Tests.{not-true}
+use Rattle.naturals.proofs.Cases.{true-or-false}
 use Rattle.refusals.specs.declared.Refusal.the-variants.{Contents, AlreadyForward, NotForward}
 use Rattle.refusals.specs.declared.Verdict.{Verdict}
 use Rattle.refusals.specs.declared.Verdict.the-variants as verdict
@@ -21,7 +22,8 @@ use Rattle.states.specs.declared.Answer.the-variants.{Done, Refused}
 use Rattle.states.specs.After.{After, after, kept}
 use Rattle.turns.specs.Turns.{turnedTable, formerTable, isAccepted, checkTurn, forwardTurn, backTurn}
 use Rattle.turns.proofs.Checking.{MayTurn, place-of, turn-passed, may-turn}
-use Rattle.turns.proofs.Undoing.{turned-length, former-length, turned-of-former, former-of-turned}
+use Rattle.turns.proofs.Undoing.{turned-length, former-length, turned-of-former, former-of-turned, LeadsTo, none-leads, refused-where-none}
+use Rattle.turns.proofs.Answering.{back-done, back-refused}
 
 -- A call that was done passed its checks, and left what its definition says.
 done-passed : (v : Verdict) (xs ys : List ℤ) (next given : State) (zs : List ℤ) →
@@ -135,3 +137,21 @@ back-then-forward s next xs ys axis e =
       turned-of-former (s .shape) (m .range .top) t xs (m .long),
       sub-add-cancel (bit-le (s .forward) t (w .0 .marked)),
     ))
+
+-- Refusal 10 on back, as the call answers it: where the checks before it pass, if and only if no table with an accepted forward turn leads to the present one.
+pub refused-none-leads : (s : State) (xs : List ℤ) (axis : ℕ) → checkTurn s (length xs) axis ≡ verdict.Passed → has (s .forward) (axis - 1) ≡ true →
+    backTurn s xs axis ≡ kept xs Contents → (low : s .shape .level ≤ 8) (ys : List ℤ) → LeadsTo (s .shape) low (axis - 1) ys xs → ⊥
+refused-none-leads s xs axis passed there e low =
+    none-leads (s .shape) low (axis - 1) xs
+    (true-or-false (isAccepted (s .shape) (axis - 1) (formerTable (s .shape) (axis - 1) xs))
+    (λ good. absurd (refused-done (cleared s (axis - 1)) (ap (λ (a : After). a .answer) (sym e ∙ back-done s xs axis passed there good))))
+    (λ bad. bad))
+  where
+    refused-done : (next : State) → Refused Contents ≡ Done next → ⊥
+    refused-done next f = let z : _≡_ {A = ℕ} 0 1 = cc in omega arith
+
+pub none-leads-refused : (s : State) (xs : List ℤ) (axis : ℕ) → checkTurn s (length xs) axis ≡ verdict.Passed → has (s .forward) (axis - 1) ≡ true →
+    (low : s .shape .level ≤ 8) → ((ys : List ℤ) → LeadsTo (s .shape) low (axis - 1) ys xs → ⊥) → backTurn s xs axis ≡ kept xs Contents
+none-leads-refused s xs axis passed there low none =
+    back-refused s xs axis passed there
+    (refused-where-none (s .shape) low (axis - 1) xs (turn-passed s (length xs) axis passed .long) none)

@@ -11,7 +11,7 @@ use lib.IntN.{ℤ, pos}
 use lib.ListN.{length}
 use Rattle.naturals.specs.Test.{all}
 use Rattle.naturals.proofs.Cases.{true-or-false}
-use Rattle.naturals.proofs.Tests.{and-right, all-at, all-from}
+use Rattle.naturals.proofs.Tests.{and-right, all-at, all-from, all-fails}
 use Rattle.integers.specs.Half.{isEven, inLimit}
 use Rattle.numbering.specs.Count.{points}
 use Rattle.hierarchy.specs.Turns.{valueAt, valuesOf, sumOn, forward, acceptedAt, accepted}
@@ -22,7 +22,7 @@ use Rattle.hierarchy.proofs.Sweeps as sweeps
 use Rattle.zero_border.specs.ZeroBorder.{neighbour, depth}
 use Rattle.zero_border.proofs.Instance.{zero-border}
 use Rattle.turns.specs.Steps.{OnAxis, Limited, allLimited, sweptTo, former, Filled}
-use Rattle.turns.proofs.Accepting.{all-fails, limited-passes}
+use Rattle.turns.proofs.Accepting.{limited-passes}
 use Rattle.turns.proofs.AtPoint.{earlier}
 use Rattle.turns.proofs.Filling.{shallow, accepted-limited}
 

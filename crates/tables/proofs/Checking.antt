@@ -1,0 +1,51 @@
+-- What passed checks of a table tell: a shape in range, a table of its points, and every value a rate. And where all that holds they pass.
+-- Assumes nothing.
+use mathlib.Core.Path.{_≡_}
+use mathlib.Core.List.{List}
+use native.Mathlib.Omega.{arith}
+use lib.Dec.{leb, eqb}
+use lib.IntN.{ℤ}
+use lib.ListN.{length}
+use borrow.Author.Tests.{leb-true, le-leb, eqb-true, eq-eqb}
+use Rattle.refusals.specs.declared.Refusal.the-variants.{TableLength, Rate}
+use Rattle.refusals.specs.declared.Verdict.the-variants.{Passed}
+use Rattle.refusals.specs.Checks.{unless}
+use Rattle.refusals.proofs.Passing.{first-passed, next-passed, test-passed}
+use Rattle.numbering.specs.Count.{points}
+use Rattle.shapes.specs.declared.Shape.{Shape}
+use Rattle.shapes.specs.Shapes.{checkShape}
+use Rattle.shapes.proofs.Checked.{InRange, passed-in-range, in-range-passed}
+use Rattle.tables.specs.Tables.{firstFailing, checkTable, rateAt, checkRates}
+use Rattle.tables.specs.Steps.{Passes}
+use Rattle.tables.proofs.FirstFailing.{first-none, none-first}
+
+pub record Opens (s : Shape) (xs : List ℤ) : Type 0 where
+  pub range : InRange s
+  pub long : length xs ≡ points (s .axes) (s .level)
+
+module _ (s : Shape) (xs : List ℤ) where
+  pub table-passed : checkTable s xs ≡ Passed → Opens s xs
+  unfolding checkTable
+  table-passed e =
+      let long = unless (eqb (length xs) (points (s .axes) (s .level))) TableLength in
+      record {
+        range = passed-in-range s (first-passed (checkShape s) long e);
+        long =
+            eqb-true (length xs) (points (s .axes) (s .level))
+            (test-passed (eqb (length xs) (points (s .axes) (s .level))) TableLength (next-passed (checkShape s) long e));
+      }
+
+  pub table-passes : Opens s xs → checkTable s xs ≡ Passed
+  unfolding checkTable
+  table-passes o = rw (in-range-passed s (o .range), eq-eqb (length xs) (points (s .axes) (s .level)) (o .long))
+
+module _ (xs : List ℤ) where
+  pub rates-passed : checkRates xs ≡ Passed → Passes (rateAt xs) (length xs)
+  unfolding checkRates
+  rates-passed e =
+      let first = firstFailing (rateAt xs) (length xs) in
+      none-first (rateAt xs) (length xs) (leb-true (length xs) first (test-passed (leb (length xs) first) (Rate first) e))
+
+  pub rates-pass : Passes (rateAt xs) (length xs) → checkRates xs ≡ Passed
+  unfolding checkRates
+  rates-pass each = rw (first-none (rateAt xs) (length xs) each, le-leb (length xs) (length xs) (omega arith))

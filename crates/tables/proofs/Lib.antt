@@ -1,0 +1,6 @@
+pub mod FirstFailing
+pub mod Mapping
+pub mod Quotients
+pub mod Checking
+pub mod Answering
+pub mod LoadUnload
