@@ -112,13 +112,13 @@ module _ (d n : ℕ) (low : n ≤ 8) (t : ℕ) (axis : t < d) where
   back-along zero x y e p h same none = same p h (record { levels = λ u ne. refl; indices = λ u ne. refl })
   back-along (suc k) x y e p h same none =
       let parent : (b : Side) → backward (neighbour d n) k t x (neighbour d n t b (suc p)) ≡ backward (neighbour d n) k t y (neighbour d n t b (suc p)) =
-          λ b.
-          ⊎-elim
-          (λ z. rw z (none k))
-          (λ q.
-          rw (q .coded)
-          (back-along k x y e (q .point) (q .below) (λ r lt line. same r lt (along p (q .point) r (q .line) line)) none))
-          (neighbour-on-line d n low t axis b p h) in
+      λ b.
+      ⊎-elim
+      (λ z. rw z (none k))
+      (λ q.
+      rw (q .coded)
+      (back-along k x y e (q .point) (q .below) (λ r lt line. same r lt (along p (q .point) r (q .line) line)) none))
+      (neighbour-on-line d n low t axis b p h) in
       ap₂ (λ (v w : ℤ). v +ℤ half w) (same p h (record { levels = λ u ne. refl; indices = λ u ne. refl }))
       (ap₂ _+ℤ_ (parent Left) (parent Right))
 

@@ -1,24 +1,32 @@
 -- The starred lines of document 01, "Worked tables": a sort of example for each sort of line, what it says, and the list of them.
 -- Assumes nothing.
 use mathlib.Core.Path.{_≡_}
-use mathlib.Core.List.{List, [], _∷_}
+use mathlib.Core.List.{List, [], _∷_, map}
 use Prim.Native.Nat.{ℕ}
+use lib.IntN.{ℤ, pos, negsuc}
+use lib.ListN.{replicate}
+use Rattle.refusals.specs.declared.Verdict.the-variants.{Passed}
 use Rattle.shapes.specs.declared.Shape.{Shape}
 use Rattle.shapes.specs.declared.Counted.the-variants.{Points}
 use Rattle.shapes.specs.Shapes.{counted}
 use Rattle.numbers.specs.declared.Numbered.the-variants.{At}
 use Rattle.numbers.specs.Numbers.{numberOfPoint}
+use Rattle.states.specs.After.{left}
+use Rattle.whole.specs.Whole.{ratesToCoefficients}
 
 pub data Example : Type 0 where
   -- a shape has this many points
   count : Shape → ℕ → Example
   -- in a shape, the point of these levels and indices has this number
   number : Shape → List ℕ → List ℕ → ℕ → Example
+  -- rates of a shape have these coefficients
+  coefficients : Shape → List ℤ → List ℤ → Example
 
 -- What an example says: the call's definition gives the value.
 abbrev pub Holds : Example → Type 0
 Holds (count s n) = counted s ≡ Points n
 Holds (number s ls is k) = numberOfPoint s ls is ≡ At k
+Holds (coefficients s rates xs) = ratesToCoefficients s rates ≡ left Passed xs
 
 -- All examples of a list hold.
 abbrev pub AllHold : List Example → Type 0
@@ -35,4 +43,9 @@ examples =
     ∷ count (shape 2 2) 17
     ∷ count (shape 3 2) 31
     ∷ number (shape 2 3) (1 ∷ 2 ∷ []) (3 ∷ 1 ∷ []) 34
+    ∷ coefficients (shape 1 1) (pos 3 ∷ pos 5 ∷ pos 7 ∷ []) (pos 6 ∷ pos 7 ∷ pos 11 ∷ [])
+    ∷ coefficients (shape 1 0) (negsuc 0 ∷ []) (negsuc 1 ∷ [])
+    ∷ coefficients (shape 2 1) (pos 4 ∷ pos 3 ∷ pos 5 ∷ pos 2 ∷ pos 6 ∷ []) (pos 16 ∷ pos 4 ∷ pos 12 ∷ pos 0 ∷ pos 16 ∷ [])
+    ∷ coefficients (shape 2 2) (replicate 17 (pos 1))
+    (map pos (4 ∷ 2 ∷ 2 ∷ 2 ∷ 2 ∷ 2 ∷ 0 ∷ 0 ∷ 2 ∷ 1 ∷ 1 ∷ 1 ∷ 1 ∷ 2 ∷ 0 ∷ 0 ∷ 2 ∷ []))
     ∷ []

@@ -1,0 +1,90 @@
+-- Demand 3 of a load and of the call that runs a list: after a load that was not refused, every list of calls is answered as the model answers it, and leaves the
+-- state and the table of the model's set. From demand 3 of the definitions, since a loaded table is the table of the empty set.
+-- Assumes nothing.
+use mathlib.Core.Path.{_≡_, refl, ap, _∙_}
+use mathlib.Core.List.{List, map}
+use Prim.Native.Nat.{ℕ}
+use native.Mathlib.Omega.{arith}
+use lib.IntN.{ℤ}
+use Rattle.naturals.proofs.Tests.{all-from}
+use Rattle.refusals.specs.declared.Verdict.{Verdict}
+use Rattle.refusals.specs.declared.Verdict.the-variants as verdict
+use Rattle.refusals.specs.Checks.{_andThen_, answer}
+use Rattle.refusals.proofs.Passing.{first-passed, next-passed}
+use Rattle.numbering.specs.Count.{points}
+use Rattle.hierarchy.specs.declared.Turn.{Turn}
+use Rattle.hierarchy.specs.Turns.{valueAt}
+use Rattle.shapes.specs.declared.Shape.{Shape}
+use Rattle.shapes.proofs.Checked.{InRange}
+use Rattle.states.specs.declared.State.{State}
+use Rattle.states.specs.declared.Answer.the-variants.{Done, Refused}
+use Rattle.states.specs.After.{After, after, kept}
+use Rattle.tables.specs.Tables.{checkTable, rateAt, checkRates, times, load}
+use Rattle.tables.proofs.Checking.{table-passed, rates-passed}
+use Rattle.runs.specs.Model.{noAxis, modelAnswers}
+use Rattle.runs.specs.Runs.{Ran, run}
+use Rattle.runs.specs.Calls.{callsOf, numberIn, placeIn, Report, runCalls}
+use Rattle.runs.proofs.Calls.{stateOf}
+use Rattle.runs.proofs.Demand3.{AsModel, run-from}
+use Rattle.runs.proofs.Appending.{Matched, matched-runs}
+use Rattle.whole.proofs.Inverse.{AreRates}
+use Rattle.whole.proofs.Loading.{rates-of-list, loaded-agrees}
+
+-- A load that was done: its checks passed, and what it leaves.
+loaded : (v : Verdict) (xs ys : List ℤ) (given st : State) (zs : List ℤ) → answer (kept xs) v (after (Done given) zs) ≡ after (Done st) ys →
+    (v ≡ verdict.Passed) × (given ≡ st) × (zs ≡ ys)
+loaded verdict.Passed xs ys given st zs e = (refl, done-state (ap (λ (a : After). a .answer) e), ap (λ (a : After). a .table) e)
+  where
+    done-state : Done given ≡ Done st → given ≡ st
+    done-state f = cc
+loaded (verdict.Refused r) xs ys given st zs e = absurd (refused-done (ap (λ (a : After). a .answer) e))
+  where
+    refused-done : Refused r ≡ Done st → ⊥
+    refused-done f = let z : _≡_ {A = ℕ} 0 1 = cc in omega arith
+
+-- What document 01 says after a load of the rates xs and a list of calls.
+pub record AfterLoad (s : Shape) (xs : List ℤ) (calls : List Turn) (ran : Ran) : Type 0 where
+  pub range : InRange s
+  pub rates : AreRates s xs
+  pub model : AsModel s range (valueAt xs) (rates-of-list s xs rates) calls noAxis ran
+
+pub demand-3-of-load : (s : Shape) (xs ys : List ℤ) (st : State) → load s xs ≡ after (Done st) ys → (calls : List Turn) → AfterLoad s xs calls (run calls st ys)
+unfolding load
+demand-3-of-load s xs ys st e calls =
+    let d = loaded (checkTable s xs andThen checkRates xs) xs ys (stateOf s 0) st (map (times (s .axes)) xs) e in
+    let opens = table-passed s xs (first-passed (checkTable s xs) (checkRates xs) (d .0)) in
+    let rates : AreRates s xs =
+    record {
+      long = opens .long;
+      each =
+          all-from (rateAt xs) (points (s .axes) (s .level))
+          (λ p h. rates-passed xs (next-passed (checkTable s xs) (checkRates xs) (d .0)) p (omega (arith, opens .long)));
+    } in
+    rw (← d .1, ← d .2)
+    (record {
+      range = opens .range;
+      rates = rates;
+      model =
+          run-from s (opens .range) (valueAt xs) (rates-of-list s xs rates) calls noAxis 0 (map (times (s .axes)) xs)
+          (loaded-agrees s (opens .range) xs rates);
+    })
+
+-- The call that runs a list reports exactly the model's answers.
+pub record Reported (s : Shape) (calls : List Turn) (r : Report) (ran : Ran) : Type 0 where
+  pub answer : r .answer ≡ Done (ran .state)
+  pub table : r .table ≡ ran .table
+  pub numbers : r .numbers ≡ map numberIn (modelAnswers (s .axes) noAxis calls)
+  pub places : r .places ≡ map placeIn (modelAnswers (s .axes) noAxis calls)
+
+pub demand-3-of-run : (s : Shape) (xs ys : List ℤ) (st : State) → load s xs ≡ after (Done st) ys →
+    (directions axes ns ps : List ℕ) → Matched directions axes ns ps →
+    Reported s (callsOf directions axes) (runCalls st ys directions axes ns ps) (run (callsOf directions axes) st ys)
+demand-3-of-run s xs ys st e directions axes ns ps m =
+    let same = matched-runs st ys directions axes ns ps m in
+    let model = demand-3-of-load s xs ys st e (callsOf directions axes) .model in
+    record {
+      answer = ap (λ (r : Report). r .answer) same;
+      table = ap (λ (r : Report). r .table) same;
+      numbers = ap (λ (r : Report). r .numbers) same ∙ ap (map numberIn) (model .answers);
+      places = ap (λ (r : Report). r .places) same ∙ ap (map placeIn) (model .answers);
+    }
