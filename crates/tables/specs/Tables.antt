@@ -21,10 +21,14 @@ use Rattle.states.specs.declared.Answer.the-variants.{Done, Refused}
 use Rattle.states.specs.After.{After, after, kept, Left, leftBy}
 use Rattle.states.specs.States.{has, checkState}
 
+-- The first failing place k below m, or m where there is none, taken one place further.
+abbrev pub further : ℕ → ℕ → Bool → ℕ
+further k m pass = if ltb k m then k else if pass then suc m else m
+
 -- The smallest k below m at which a test fails, and m where it passes at all.
 unfoldable pub firstFailing : (ℕ → Bool) → ℕ → ℕ
 firstFailing f zero = zero
-firstFailing f (suc m) = if ltb (firstFailing f m) m then firstFailing f m else if f m then suc m else m
+firstFailing f (suc m) = further (firstFailing f m) m (f m)
 
 -- A table handed in with a shape: refused with 1, 2 or 3.
 unfoldable pub checkTable : Shape → List ℤ → Verdict

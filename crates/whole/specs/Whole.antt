@@ -37,11 +37,11 @@ backAll s (suc k) f = backAll s k (backward (neighbour (s .axes) (s .level)) (su
 unfoldable pub ratesOf : Shape → List ℤ → List ℤ
 ratesOf s xs = map (quotient (s .axes)) (valuesOf (points (s .axes) (s .level)) (backAll s (s .axes) (valueAt xs)))
 
--- Two lists hold the same at a place.
+-- Two lists hold the same number at a place: their difference is 0.
 unfoldable pub sameAt : List ℤ → List ℤ → ℕ → Bool
 sameAt xs ys p = eqb (natAbs (valueAt xs (suc p) -ℤ valueAt ys (suc p))) 0
 
--- They are accepted rates, and the table is their coefficients.
+-- They are accepted rates, and the table is their coefficients. No other rates can have it (`refused-means`, `refused-where`), so one candidate decides.
 unfoldable pub hasRates : Shape → List ℤ → Bool
 hasRates s xs =
     all (rateAt (ratesOf s xs)) (points (s .axes) (s .level)) && all (sameAt (coefficientsOf s (ratesOf s xs)) xs) (points (s .axes) (s .level))
