@@ -2,6 +2,7 @@
 -- start. The measure is the number of axes to come. Assumes nothing.
 use mathlib.Core.Path.{_≡_, sym, ap, _∙_}
 use lib.ListN.{length}
+use native.Mathlib.Omega.{arith}
 use borrow.Author.Needs.{needs}
 use Rattle.states.specs.declared.Answer.{Answer}
 use Rattle.states.specs.After.{after}
@@ -36,7 +37,7 @@ returns c =
     let called = c .before .before .before in
     let loop = called .before .before .before .loop in
     let r = c .enum-told .given .0 .0 in
-    down-refused (loop .k) (loop .at) (loop .table) (called .dehierarchize .last .1 .0) r (called .before .before .loop-test .taken)
+    down-refused (loop .k) (loop .at) (loop .table) (called .dehierarchize .last .1 .0) r (omega arith)
     (sym (called .dehierarchize .ensures) ∙ ap (λ (x : Answer). after x (called .dehierarchize .last .1 .0)) (c .enum-told .given .1))
     ∙ loop .inv .1
 
@@ -52,7 +53,7 @@ loop-again c =
     let loop = called .before .before .before .loop in
     let next = c .before .next .given .0 .0 in (
       called .dehierarchize .kept .1 .0 ∙ loop .inv .0,
-      down-done (loop .k) (loop .at) next (loop .table) (called .dehierarchize .last .1 .0) (called .before .before .loop-test .taken)
+      down-done (loop .k) (loop .at) next (loop .table) (called .dehierarchize .last .1 .0) (omega arith)
           (sym (called .dehierarchize .ensures) ∙ ap (λ (x : Answer). after x (called .dehierarchize .last .1 .0)) (c .before .next .given .1))
           ∙ loop .inv .1,
     )
