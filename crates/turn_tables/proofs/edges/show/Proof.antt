@@ -1,0 +1,72 @@
+-- `turn_tables::edges::show` is safe: the part that it prints is within the table.
+-- Assumes nothing.
+use native.Mathlib.Omega.{arith}
+use lib.ListN.{length-take}
+use borrow.Author.Needs.{needs}
+use Rattle.turn_tables.proofs.edges.show.Statement.{statement}
+use Rattle.turn_tables.proofs.edges.show.Tie as tie
+
+returns : tie.Need-returns
+returns c = search needs
+
+slice-aggregate-copy : tie.Need-slice-aggregate-copy
+slice-aggregate-copy c = search needs
+
+copy-requires : tie.Need-copy-requires
+copy-requires c κs = search needs
+
+show-call-requires : tie.Need-show-call-requires
+show-call-requires c κs = search needs
+
+slice-aggregate-library : tie.Need-slice-aggregate-library
+slice-aggregate-library c = search needs
+
+library-requires : tie.Need-library-requires
+library-requires c κs = search needs
+
+show-reply-requires : tie.Need-show-reply-requires
+show-reply-requires c κs = search needs
+
+slice-aggregate-word : tie.Need-slice-aggregate-word
+slice-aggregate-word c = search needs
+
+word-requires : tie.Need-word-requires
+word-requires c κs = search needs
+
+array-share-prefix-table : tie.Need-array-share-prefix-table
+array-share-prefix-table c = search needs
+
+slice-aggregate-table : tie.Need-slice-aggregate-table
+slice-aggregate-table c = simp length-take (omega arith)
+
+table-requires : tie.Need-table-requires
+table-requires c κs = search needs
+
+slice-aggregate-word-2 : tie.Need-slice-aggregate-word-2
+slice-aggregate-word-2 c = search needs
+
+word-requires-2 : tie.Need-word-requires-2
+word-requires-2 c κs = search needs
+
+returns-2 : tie.Need-returns-2
+returns-2 c = search needs
+
+pub show-spec : {M : Type 1} → statement M
+show-spec =
+    tie.close
+    (tie.spec
+    returns
+    slice-aggregate-copy
+    copy-requires
+    show-call-requires
+    slice-aggregate-library
+    library-requires
+    show-reply-requires
+    slice-aggregate-word
+    word-requires
+    array-share-prefix-table
+    slice-aggregate-table
+    table-requires
+    slice-aggregate-word-2
+    word-requires-2
+    returns-2)
