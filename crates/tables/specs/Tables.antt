@@ -25,7 +25,7 @@ use Rattle.states.specs.States.{has, checkState}
 abbrev pub further : ℕ → ℕ → Bool → ℕ
 further k m pass = if ltb k m then k else if pass then suc m else m
 
--- The smallest k below m at which a test fails, and m where it passes at all.
+-- The smallest k below m at which a test fails, and m where it passes everywhere.
 unfoldable pub firstFailing : (ℕ → Bool) → ℕ → ℕ
 firstFailing f zero = zero
 firstFailing f (suc m) = further (firstFailing f m) m (f m)
