@@ -1,0 +1,43 @@
+-- `table_runs::grid::times` is safe and ends. Nothing has to hold from turn to turn; the measure is the turns that are left.
+-- Assumes nothing.
+use Prim.Native.Nat.{_-_}
+use borrow.Author.Needs.{needs}
+use Rattle.table_runs.proofs.grid.times.Statement.{statement}
+use Rattle.table_runs.proofs.grid.times.Tie as tie
+
+abbrev Inv-loop : tie.InvT-loop
+Inv-loop a b product₀ i₀ product i = Unit {0}
+
+abbrev μ-loop : tie.MeasureT-loop
+μ-loop a b product₀ i₀ product i = 9 - i
+
+loop-holds : tie.Need-loop-holds Inv-loop μ-loop
+loop-holds c = search needs
+
+wrapping-add-u32-requires : tie.Need-wrapping-add-u32-requires Inv-loop μ-loop
+wrapping-add-u32-requires c κs = search needs
+
+add-i : tie.Need-add-i Inv-loop μ-loop
+add-i c = search needs
+
+loop-less : tie.Need-loop-less Inv-loop μ-loop
+loop-less c = search needs
+
+loop-again : tie.Need-loop-again Inv-loop μ-loop
+loop-again c = search needs
+
+returns : tie.Need-returns Inv-loop μ-loop
+returns c = search needs
+
+pub times-spec : {M : Type 1} → statement M
+times-spec =
+    tie.close
+    (tie.spec
+    Inv-loop
+    μ-loop
+    loop-holds
+    wrapping-add-u32-requires
+    add-i
+    loop-less
+    loop-again
+    returns)
