@@ -249,7 +249,7 @@ def rate(draw, kind):
     return MOST - off if upper else LEAST + off
 
 
-def trials(d, n):
+def trials(d, n, rounds):
     count = size(d, n)
     assert count == len(points(d, n))
     draw = Drawn(88172645463325252)
@@ -259,8 +259,8 @@ def trials(d, n):
         tally["calls"] += 1
         tally["refused"] += number != 0
 
-    for round_ in range(8):
-        kept = [rate(draw, round_ % 4) for _ in range(512)][:count]
+    for round_ in range(rounds):
+        kept = [rate(draw, round_ % 4) for _ in range(6401)][:count]
         tell(0)
         held = set()
         lists = []
@@ -292,14 +292,16 @@ def trials(d, n):
         tell(0)
     print("axes", d, "level", n, "points", count, "calls", tally["calls"], "refused", tally["refused"], "wrong 0")
     import sys
-    print("found", tally["found"], "of 128", file=sys.stderr)
+    print("found", tally["found"], "of", 16 * rounds, file=sys.stderr)
 
 
 if __name__ == "__main__":
     for case in WORKED:
         line(*case)
     for shape in [(1, 0), (1, 4), (2, 3), (3, 3), (4, 2), (5, 2), (8, 1), (8, 2)]:
-        trials(*shape)
+        trials(*shape, 8)
+    trials(8, 3, 2)
+    trials(8, 4, 1)
     for _, cases in GROUPS:
         for case in cases:
             line(*case)

@@ -69,7 +69,7 @@ fn lower(near: &[[u32; 16]], before: &[u64], after: &mut [u64], t: usize) {
 }
 
 fn forward(near: &[[u32; 16]], values: &mut [u64], t: usize) {
-    let mut before = [values::ZERO; 512];
+    let mut before = [values::ZERO; 6401];
     values::copy(values, &mut before);
     lower(near, &before, values, t);
 }

@@ -104,7 +104,7 @@ fn follow(
 
 // The table is the table of the set, in every place.
 fn is_table_of_set(near: &[[u32; 16]], rates: &[u64], axes: u32, set: u32, table: &[i64]) -> bool {
-    let mut wanted = [values::ZERO; 512];
+    let mut wanted = [values::ZERO; 6401];
     naive::table_of_set(near, rates, axes, set, &mut wanted);
     values::agrees(table, &wanted)
 }
@@ -218,7 +218,7 @@ fn to_rates(
     table: &mut [i64],
     tally: Tally,
 ) -> Tally {
-    let mut solved = [values::ZERO; 512];
+    let mut solved = [values::ZERO; 6401];
     values::copy(coefficients, &mut solved);
     values::store(coefficients, table);
     let reply = calls::to_rates(shape, table);
@@ -240,7 +240,7 @@ fn to_rates_off(
     seed: &mut u64,
     tally: Tally,
 ) -> Tally {
-    let mut changed = [values::ZERO; 512];
+    let mut changed = [values::ZERO; 6401];
     values::copy(coefficients, &mut changed);
     let points = (near.len() % 4294967296) as u32;
     let p = drawn::below(seed, points) as usize;
@@ -273,7 +273,7 @@ fn run_whole(
     seed: &mut u64,
     tally: Tally,
 ) -> Tally {
-    let mut coefficients = [values::ZERO; 512];
+    let mut coefficients = [values::ZERO; 6401];
     let axes = shape.axes;
     let all = naive::all_axes(axes);
     naive::table_of_set(near, rates, axes, all, &mut coefficients);
@@ -299,10 +299,10 @@ fn try_rates(
 
 // Rates of a kind.
 fn try_kind(shape: Shape, near: &[[u32; 16]], kind: u32, seed: &mut u64, tally: Tally) -> Tally {
-    let mut rates = [values::ZERO; 512];
-    let mut table = [0i64; 512];
+    let mut rates = [values::ZERO; 6401];
+    let mut table = [0i64; 6401];
     let points = near.len();
-    if 512 < points {
+    if 6401 < points {
         return tally;
     }
     drawn::rates(seed, kind, &mut rates);
@@ -316,8 +316,8 @@ fn try_kind(shape: Shape, near: &[[u32; 16]], kind: u32, seed: &mut u64, tally: 
     )
 }
 
-// Rates of all four kinds, twice.
-fn try_kinds(shape: Shape, near: &[[u32; 16]]) -> Tally {
+// Rates of all four kinds, twice, or as many rounds of these as are asked for.
+fn try_kinds(shape: Shape, near: &[[u32; 16]], rounds: u32) -> Tally {
     let mut seed: u64 = 88172645463325252;
     let mut counted = Tally {
         calls: 0,
@@ -326,7 +326,9 @@ fn try_kinds(shape: Shape, near: &[[u32; 16]]) -> Tally {
         set: 0,
     };
     for round in 0u32..8 {
-        counted = try_kind(shape, near, round % 4, &mut seed, counted);
+        if round < rounds {
+            counted = try_kind(shape, near, round % 4, &mut seed, counted);
+        }
     }
     counted
 }
@@ -341,11 +343,11 @@ fn show(shape: Shape, points: usize, tally: Tally) {
     text::word(b"\n");
 }
 
-pub fn compare(axes: u32, level: u32) {
-    let mut places = [[0u32; 8]; 512];
-    let mut near = [[0u32; 16]; 512];
+pub fn compare(axes: u32, level: u32, rounds: u32) {
+    let mut places = [[0u32; 8]; 6401];
+    let mut near = [[0u32; 16]; 6401];
     let points = grid::list(&mut places, axes, level);
-    if 512 < points {
+    if 6401 < points {
         return;
     }
     grid::list_neighbours(&places[..points], axes, &mut near);
@@ -353,6 +355,6 @@ pub fn compare(axes: u32, level: u32) {
         axes: axes,
         level: level,
     };
-    let tally = try_kinds(shape, &near[..points]);
+    let tally = try_kinds(shape, &near[..points], rounds);
     show(shape, points, tally);
 }

@@ -6,10 +6,10 @@ use Rattle.table_runs.proofs.trials.try_kinds.Statement.{statement}
 use Rattle.table_runs.proofs.trials.try_kinds.Tie as tie
 
 abbrev Inv-loop : tie.InvT-loop
-Inv-loop shape near seed₀ counted₀ round₀ seed counted round = Unit {0}
+Inv-loop shape near rounds seed₀ counted₀ round₀ seed counted round = Unit {0}
 
 abbrev μ-loop : tie.MeasureT-loop
-μ-loop shape near seed₀ counted₀ round₀ seed counted round = 8 - round
+μ-loop shape near rounds seed₀ counted₀ round₀ seed counted round = 8 - round
 
 loop-holds : tie.Need-loop-holds Inv-loop μ-loop
 loop-holds c = search needs
