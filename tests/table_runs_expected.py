@@ -3,33 +3,13 @@
 fractions. In part 1 only the replies are counted; a mismatch is printed as `wrong`, and none is expected."""
 from fractions import Fraction
 from functools import lru_cache
-from itertools import product
+
+from grid import points
 
 LIMIT = 2 ** 47
 TOP = 2 ** 32 - 1
 MIN, MAX = -2 ** 63, 2 ** 63 - 1
 LEAST, MOST = -2 ** 31, 2 ** 31 - 1
-
-
-@lru_cache(None)
-def points(d, n):
-    found = []
-    def vectors(d, left):
-        if d == 0:
-            yield ()
-            return
-        for l in range(left + 1):
-            for rest in vectors(d - 1, left - l):
-                yield (l,) + rest
-    for levels in vectors(d, n):
-        for indices in product(*[range(1, 2 ** (l + 1), 2) for l in levels]):
-            place, width = 0, 1
-            for l, i in zip(levels, indices):
-                place += (i - 1) // 2 * width
-                width *= 2 ** l
-            at = tuple(Fraction(i, 2 ** (l + 1)) for l, i in zip(levels, indices))
-            found.append((sum(levels), tuple(reversed(levels)), place, at))
-    return [f[3] for f in sorted(found)]
 
 
 @lru_cache(None)

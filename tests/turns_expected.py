@@ -2,25 +2,13 @@
 """What crates/turn_tables has to print, made without its code: document 01's turns on dictionaries from points
 (tuples of fractions) to fractions."""
 from fractions import Fraction
-from itertools import permutations, product
+from itertools import permutations
+
+from grid import points
 
 LIMIT = 2 ** 47
 TOP = 2 ** 32 - 1
 MIN, MAX = -2 ** 63, 2 ** 63 - 1
-
-
-def points(d, n):
-    found = []
-    for levels in product(range(n + 1), repeat=d):
-        if sum(levels) <= n:
-            for indices in product(*[range(1, 2 ** (l + 1), 2) for l in levels]):
-                place, width = 0, 1
-                for l, i in zip(levels, indices):
-                    place += (i - 1) // 2 * width
-                    width *= 2 ** l
-                at = tuple(Fraction(i, 2 ** (l + 1)) for l, i in zip(levels, indices))
-                found.append((sum(levels), tuple(reversed(levels)), place, at))
-    return [f[3] for f in sorted(found)]
 
 
 def beside(at, t):
