@@ -1,1 +1,3 @@
 pub mod Half
+pub mod Total
+pub mod Floor

@@ -1,0 +1,2 @@
+pub mod Weighted
+pub mod Hats

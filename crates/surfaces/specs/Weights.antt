@@ -1,0 +1,31 @@
+-- Coordinates and weights (document 01, "Estimates"). Coordinates are a function from an axis to a number, as levels and indices are.
+-- Assumes nothing.
+use Prim.Native.Nat.{ℕ, zero, suc, _+_, _-_, _*_, _/_, _^_}
+use Rattle.naturals.specs.Sum.{prodTo}
+
+-- The unit: a coordinate x is a whole number from 0 to 65,536, meaning x / 65,536, and weights are counted in the same unit.
+unfoldable pub unit : ℕ
+unit = 65536
+
+-- The coordinate of a point on one axis, i / 2^(l+1).
+unfoldable pub coordinate : ℕ → ℕ → ℕ
+coordinate l i = i * unit / 2 ^ suc l
+
+-- How far apart two numbers are, |a − b|. (A difference of natural numbers stops at 0.)
+unfoldable pub distance : ℕ → ℕ → ℕ
+distance a b = (a - b) + (b - a)
+
+-- The weight at x of a point of level l and index i on one axis: 65,536 − |x × 2^(l+1) − i × 65,536|, or 0 where that is negative. (The hat function
+-- of the point.)
+unfoldable pub weight : ℕ → ℕ → ℕ → ℕ
+weight x l i = unit - distance (x * 2 ^ suc l) (i * unit)
+
+-- The same on axis t, of a point of the levels l and indices i at the coordinates x.
+unfoldable pub weightOn : (ℕ → ℕ) → (ℕ → ℕ) → (ℕ → ℕ) → ℕ → ℕ
+weightOn x l i t = weight (x t) (l t) (i t)
+
+-- The joint weight over the first k axes: it starts at 65,536; for each axis in turn it is multiplied by the axis weight, divided by 65,536 and
+-- rounded down.
+unfoldable pub joint : (ℕ → ℕ) → (ℕ → ℕ) → (ℕ → ℕ) → ℕ → ℕ
+joint x l i zero = unit
+joint x l i (suc k) = joint x l i k * weightOn x l i k / unit
