@@ -1,4 +1,4 @@
--- What interpolation needs of the weights of a grid of neighbours (proof-plan: hat functions): on each axis the weight of a point at another, and
+-- What interpolation needs of the weights of a grid of neighbours, its hat functions: on each axis the weight of a point at another, and
 -- whether the two are the same there.
 -- Assumes nothing.
 use mathlib.Core.Bool.{Bool, true}
