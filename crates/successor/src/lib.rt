@@ -13,9 +13,9 @@ ghost use Rattle.successor.specs.Steps.{PointIn, reached, StepsIndices, 
 ghost use Rattle.successor.specs.Successor.{after, successorOf};
 
 // Eight numbers after a step, and whether the step went past the last.
-struct Stepped {
-    past: bool,
-    numbers: [u32; 8],
+pub struct Stepped {
+    pub past: bool,
+    pub numbers: [u32; 8],
 }
 
 // The next indices on the same levels, axis 1 fastest; past the last, all are 1 again.
@@ -44,7 +44,7 @@ fn next_indices(axes: usize, levels: [u32; 8], indices: [u32; 8]) -> Stepped
 }
 
 // The next level vector of the same level sum. The first level v above 0 that has an axis after it: one moves there, the rest to axis 1.
-fn next_levels(axes: usize, levels: [u32; 8]) -> Stepped
+pub fn next_levels(axes: usize, levels: [u32; 8]) -> Stepped
     requires { ⌜ (1 ≤ axes) × (axes ≤ 8) × (sumTo (at levels) axes ≤ 8) ⌝ }
     ensures { λ r. ⌜ StepsLevels axes levels (r .past) (r .numbers) ⌝ }
 {

@@ -82,7 +82,7 @@ pub fn load(shape: Shape, table: &mut [i64]) -> Answer
 }
 
 // All values are within the content limit.
-fn all_in_limit(table: &[i64]) -> bool
+pub fn all_in_limit(table: &[i64]) -> bool
     ensures { λ r. ⌜ r ≡ all (contentAt (now (table .entry))) (length (now (table .entry))) ⌝ }
 {
     let mut p: usize = 0;

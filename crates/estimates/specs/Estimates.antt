@@ -1,0 +1,52 @@
+-- What the call for an estimate answers (document 01, "Estimates" and the two tables of refusals).
+-- Assumes nothing.
+use mathlib.Core.Bool.{Bool}
+use mathlib.Core.List.{List}
+use Prim.Native.Nat.{ℕ, suc}
+use lib.Dec.{leb, eqb}
+use lib.IntN.{ℤ}
+use lib.ListN.{length}
+use Rattle.naturals.specs.Test.{all}
+use Rattle.refusals.specs.declared.Refusal.the-variants.{ListLength, Coordinate, Contents, StillSampled}
+use Rattle.refusals.specs.declared.Verdict.{Verdict}
+use Rattle.refusals.specs.Checks.{unless, _andThen_, answer}
+use Rattle.numbering.specs.Point.{at}
+use Rattle.hierarchy.specs.Turns.{valueAt}
+use Rattle.surfaces.specs.Weights.{unit}
+use Rattle.surfaces.specs.Surface.{estimateAt}
+use Rattle.states.specs.declared.State.{State}
+use Rattle.states.specs.States.{has, checkState}
+use Rattle.tables.specs.Tables.{firstFailing, contentAt}
+use Rattle.estimates.specs.declared.Estimated.{Estimated}
+use Rattle.estimates.specs.declared.Estimated.the-variants.{Value, Refused}
+
+-- The place of the first axis that is not forward, or d.
+unfoldable pub firstSampled : State → ℕ
+firstSampled s = firstFailing (has (s .forward)) (s .shape .axes)
+
+-- Every axis is forward, else refused with 17 and the first that is not.
+unfoldable pub checkForward : State → Verdict
+checkForward s = unless (leb (s .shape .axes) (firstSampled s)) (StillSampled (suc (firstSampled s)))
+
+-- The coordinate on axis t is at most 65,536; the place of the first axis where it is not, or d.
+unfoldable pub coordinateAt : List ℕ → ℕ → Bool
+coordinateAt xs t = leb (at xs t) unit
+
+unfoldable pub firstOutside : ℕ → List ℕ → ℕ
+firstOutside d xs = firstFailing (coordinateAt xs) d
+
+-- There is a coordinate for each axis, else refused with 7; each is at most 65,536, else with 8 and the first axis where it is not.
+unfoldable pub checkCoordinates : ℕ → List ℕ → Verdict
+checkCoordinates d xs =
+    unless (eqb (length xs) d) ListLength
+    andThen unless (leb d (firstOutside d xs)) (Coordinate (suc (firstOutside d xs)))
+
+-- The estimate: refused with 1, 2, 14, 3, 17, 7, 8, or with 10 where any value is past the content limit.
+unfoldable pub estimate : State → List ℤ → List ℕ → Estimated
+estimate s table xs =
+    answer Refused
+    (checkState s (length table)
+    andThen checkForward s
+    andThen checkCoordinates (s .shape .axes) xs
+    andThen unless (all (contentAt table) (length table)) Contents)
+    (Value (estimateAt (s .shape .axes) (s .shape .level) (valueAt table) (at xs)))

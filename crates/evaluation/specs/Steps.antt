@@ -1,0 +1,92 @@
+-- What the steps of an estimate ask and give: one point for each level vector, and its weight from a table of axis weights.
+-- Assumes nothing.
+use mathlib.Core.Bool.{true}
+use mathlib.Core.List.{List}
+use mathlib.Core.Path.{_≡_}
+use Prim.Native.Nat.{ℕ, zero, suc, _+_, _*_, _/_, _^_, _≤_, _<_}
+use lib.Dec.{ltb}
+use lib.IntN.{ℤ}
+use lib.ListN.{length}
+use Rattle.naturals.specs.Sum.{sumTo}
+use Rattle.naturals.specs.Test.{if_then_else_}
+use Rattle.integers.specs.Half.{inLimit}
+use Rattle.numbering.specs.Count.{vectors, start, points}
+use Rattle.numbering.specs.Point.{at}
+use Rattle.numbering.specs.Number.{rank}
+use Rattle.hierarchy.specs.Turns.{valueAt}
+use Rattle.surfaces.specs.Weights.{unit, weight}
+
+-- On one axis, which point of level l can have a weight above 0 at x, as (index − 1)/2: the one in whose cell x lies. At the far border none has.
+unfoldable pub placeOf : ℕ → ℕ → ℕ
+placeOf x l = if ltb x unit then x * 2 ^ l / unit else 0
+
+-- The index of a place.
+abbrev pub indexAt : ℕ → ℕ
+indexAt place = 2 * place + 1
+
+-- Axis t and level l in a table of nine levels for each axis.
+abbrev pub entry : ℕ → ℕ → ℕ
+entry t l = 9 * t + l
+
+-- The places and their weights at the coordinates x, for the first b entries.
+pub record Tabulated (x : ℕ → ℕ) (b : ℕ) (weights places : List ℕ) : Type 0 where
+  pub long-weights : length weights ≡ 72
+  pub long-places : length places ≡ 72
+  pub place : (t l : ℕ) → l < 9 → entry t l < b → at places (entry t l) ≡ placeOf (x t) l
+  pub weight : (t l : ℕ) → l < 9 → entry t l < b → at weights (entry t l) ≡ weight (x t) l (indexAt (placeOf (x t) l))
+
+-- What the tables hold for the level that a level vector has on axis t.
+unfoldable pub read : List ℕ → (ℕ → ℕ) → ℕ → ℕ
+read table l t = at table (entry t (l t))
+
+-- Joint weight and position of the point of a level vector that they give, over the first k axes.
+unfoldable pub jointOf : List ℕ → (ℕ → ℕ) → ℕ → ℕ
+jointOf weights l zero = unit
+jointOf weights l (suc k) = jointOf weights l k * read weights l k / unit
+
+unfoldable pub stepOf : List ℕ → (ℕ → ℕ) → ℕ → ℕ
+stepOf places l t = read places l t * 2 ^ sumTo l t
+
+unfoldable pub positionOf : List ℕ → (ℕ → ℕ) → ℕ → ℕ
+positionOf places l k = sumTo (stepOf places l) k
+
+-- Weights of at most the unit, places among those of their level.
+pub record Bounded (d : ℕ) (weights places : List ℕ) : Type 0 where
+  pub few : d ≤ 8
+  pub long-weights : length weights ≡ 72
+  pub long-places : length places ≡ 72
+  pub weight : (t l : ℕ) → t < d → l < 9 → at weights (entry t l) ≤ unit
+  pub place : (t l : ℕ) → t < d → l < 9 → at places (entry t l) < 2 ^ l
+
+-- A level vector of d axes in a list of eight places, those past axis d zero, with its sum.
+pub record VectorIn (d sum : ℕ) (ls : List ℕ) : Type 0 where
+  pub long : length ls ≡ 8
+  pub total : sumTo (at ls) d ≡ sum
+  pub rest : (t : ℕ) → d ≤ t → at ls t ≡ 0
+
+-- The number of its first point, and how many level vectors come before it.
+unfoldable pub firstOf : ℕ → (ℕ → ℕ) → ℕ
+firstOf d l = start d (sumTo l d) + 2 ^ sumTo l d * rank l d
+
+unfoldable pub vectorsBefore : ℕ → (ℕ → ℕ) → ℕ
+vectorsBefore d l = sumTo (vectors d) (sumTo l d) + rank l d
+
+-- The level vector after another: its first point comes after the last point of the other.
+pub record NextVector (d sum : ℕ) (ls : List ℕ) (sum' : ℕ) (ls' : List ℕ) : Type 0 where
+  pub vector : VectorIn d sum' ls'
+  pub first : firstOf d (at ls') ≡ firstOf d (at ls) + 2 ^ sum
+  pub count : vectorsBefore d (at ls') ≡ suc (vectorsBefore d (at ls))
+
+-- A coordinate for each of at most eight axes.
+pub record Listed (d : ℕ) (cs : List ℕ) : Type 0 where
+  pub few : d ≤ 8
+  pub long : length cs ≡ d
+  pub coordinates : (t : ℕ) → t < d → at cs t ≤ unit
+
+-- A shape within the limits, a table of its points within the content limit, and a coordinate for each axis.
+pub record Evaluable (d n : ℕ) (xs : List ℤ) (cs : List ℕ) : Type 0 where
+  pub some : 1 ≤ d
+  pub low : n ≤ 8
+  pub long : length xs ≡ points d n
+  pub contents : (p : ℕ) → p < points d n → inLimit (valueAt xs (suc p)) ≡ true
+  pub listed : Listed d cs
