@@ -12,7 +12,7 @@ use Rattle.refusals.specs.declared.Verdict.{Verdict}
 use Rattle.refusals.specs.Checks.{unless, _andThen_, answer}
 use Rattle.numbering.specs.Point.{at}
 use Rattle.hierarchy.specs.Turns.{valueAt}
-use Rattle.surfaces.specs.Weights.{unit}
+use Rattle.surfaces.specs.Weights.{isCoordinate}
 use Rattle.surfaces.specs.Surface.{estimateAt}
 use Rattle.states.specs.declared.State.{State}
 use Rattle.states.specs.States.{has, checkState}
@@ -30,7 +30,7 @@ checkForward s = unless (leb (s .shape .axes) (firstSampled s)) (StillSampled (s
 
 -- The coordinate on axis t is at most 65,536; the place of the first axis where it is not, or d.
 unfoldable pub coordinateAt : List ℕ → ℕ → Bool
-coordinateAt xs t = leb (at xs t) unit
+coordinateAt xs t = isCoordinate (at xs t)
 
 unfoldable pub firstOutside : ℕ → List ℕ → ℕ
 firstOutside d xs = firstFailing (coordinateAt xs) d

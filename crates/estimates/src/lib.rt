@@ -12,9 +12,6 @@ pub enum Estimated {
     Refused(Refusal),
 }
 
-// The largest coordinate.
-const UNIT: u32 = 65536;
-
 // Every axis is forward, else refused with 17 and the first that is not.
 fn check_forward(state: State) -> Verdict
     requires { ⌜ state .shape .axes ≤ 8 ⌝ }
@@ -42,7 +39,7 @@ fn check_coordinates(axes: u32, coordinates: &[u32]) -> Verdict
     }
     let mut t: u32 = 0;
     while t < axes {
-        if UNIT < coordinates[t as usize] {
+        if !evaluation::is_coordinate(coordinates[t as usize]) {
             return Verdict::Refused(Refusal::Coordinate(t + 1));
         }
         t += 1;

@@ -9,12 +9,19 @@ ghost use Rattle.integers.specs.Half.{inLimit};
 ghost use Rattle.integers.specs.Floor.{floor, remainder};
 ghost use Rattle.numbering.specs.Point.{at};
 ghost use Rattle.hierarchy.specs.Turns.{valueAt};
-ghost use Rattle.surfaces.specs.Weights.{unit, distance, weight};
+ghost use Rattle.surfaces.specs.Weights.{unit, isCoordinate, distance, weight};
 ghost use Rattle.surfaces.specs.Surface.{estimateAt};
 ghost use Rattle.evaluation.specs.Steps.{placeOf, indexAt, Tabulated, jointOf, positionOf, Bounded, VectorIn, NextVector, Listed, Evaluable};
 
 // The unit of coordinates and weights is 2 to this.
 const BITS: u32 = 16;
+
+// A coordinate, from 0 to the unit.
+pub fn is_coordinate(x: u32) -> bool
+    ensures { λ r. ⌜ r ≡ isCoordinate x ⌝ }
+{
+    x <= 1 << BITS
+}
 
 // How far apart two numbers are.
 fn distance(a: u64, b: u64) -> u64

@@ -1,11 +1,16 @@
 -- Coordinates and weights (document 01, "Estimates"). Coordinates are a function from an axis to a number, as levels and indices are.
 -- Assumes nothing.
+use mathlib.Core.Bool.{Bool}
 use Prim.Native.Nat.{ℕ, zero, suc, _+_, _-_, _*_, _/_, _^_}
-use Rattle.naturals.specs.Sum.{prodTo}
+use lib.Dec.{leb}
 
 -- The unit: a coordinate x is a whole number from 0 to 65,536, meaning x / 65,536, and weights are counted in the same unit.
 unfoldable pub unit : ℕ
 unit = 65536
+
+-- A coordinate.
+unfoldable pub isCoordinate : ℕ → Bool
+isCoordinate x = leb x unit
 
 -- The coordinate of a point on one axis, i / 2^(l+1).
 unfoldable pub coordinate : ℕ → ℕ → ℕ
