@@ -1,3 +1,4 @@
 pub mod Linear
 pub mod Halves
 pub mod Sizes
+pub mod Floors

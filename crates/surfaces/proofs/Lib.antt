@@ -1,0 +1,5 @@
+pub mod Unit
+pub mod Hat
+pub mod Instance
+pub mod GridPoints
+pub mod Exact

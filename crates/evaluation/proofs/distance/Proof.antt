@@ -2,6 +2,7 @@ use mathlib.Core.Path.{_≡_, refl, sym, subst, ap, _∙_}
 use Prim.Native.Nat.{ℕ, zero, suc, _+_, _-_, _*_, _/_, _%_, _^_, _≤_, _<_}
 use native.Mathlib.Omega.{arith}
 use borrow.Author.Needs.{needs}
+use Rattle.surfaces.specs.Weights.{distance}
 use Rattle.evaluation.proofs.distance.Statement.{statement}
 use Rattle.evaluation.proofs.distance.Tie as tie
 use Rattle.evaluation.proofs.distance.Reads as reads
@@ -11,10 +12,12 @@ sub-result : tie.Need-sub-result
 sub-result c = search needs
 
 returns : tie.Need-returns
-returns c = search needs
+unfolding distance
+returns c = omega arith
 
 returns-2 : tie.Need-returns-2
-returns-2 c = search needs
+unfolding distance
+returns-2 c = omega arith
 
 pub distance-spec : {M : Type 1} → statement M
 distance-spec = tie.close (tie.spec sub-result returns returns-2)

@@ -1,11 +1,12 @@
-use mathlib.Core.Path.{_≡_, refl, sym, subst, ap, _∙_}
-use Prim.Native.Nat.{ℕ, zero, suc, _+_, _-_, _*_, _/_, _%_, _^_, _≤_, _<_}
+-- `evaluation::place` meets its contract: the shifts are the product and the division of the definition.
+-- Assumes nothing.
+use mathlib.Core.Path.{ap₂, sym, _∙_}
+use Prim.Native.Nat.{ℕ, _/_}
 use native.Mathlib.Omega.{arith}
 use borrow.Author.Needs.{needs}
+use Rattle.evaluation.proofs.Weighing.{unit-is, cell-shifted, place-inside, place-border}
 use Rattle.evaluation.proofs.place.Statement.{statement}
 use Rattle.evaluation.proofs.place.Tie as tie
-use Rattle.evaluation.proofs.place.Reads as reads
-use Rattle.evaluation.proofs.place.Lts as lts
 
 cast-if1 : tie.Need-cast-if1
 cast-if1 c = search needs
@@ -23,10 +24,13 @@ shr-result : tie.Need-shr-result
 shr-result c = search needs
 
 returns : tie.Need-returns
-returns c = search needs
+returns c =
+    let a = c .before .args in
+    ap₂ (λ (y u : ℕ). y / u) (cell-shifted (a .x) (a .level) (c .before .pre .0) (c .before .pre .1)) (sym unit-is)
+    ∙ sym (place-inside (a .x) (a .level) (omega (arith, unit-is)))
 
 returns-2 : tie.Need-returns-2
-returns-2 c = search needs
+returns-2 c = sym (place-border (c .before .args .x) (c .before .args .level) (omega (arith, unit-is)))
 
 pub place-spec : {M : Type 1} → statement M
 place-spec =

@@ -1,12 +1,13 @@
-use mathlib.Core.Path.{_≡_, refl, sym, subst, ap, _∙_}
-use Prim.Native.Nat.{ℕ, zero, suc, _+_, _-_, _*_, _/_, _%_, _^_, _≤_, _<_}
+-- `evaluation::weight` meets its contract: the shifts lose nothing, and where the distance is larger than the unit nothing is left.
+-- Assumes nothing.
+use mathlib.Core.Path.{_≡_, ap, ap₂, sym, _∙_}
+use Prim.Native.Nat.{ℕ, suc, _*_, _^_}
 use native.Mathlib.Omega.{arith}
 use borrow.Author.Needs.{needs}
+use Rattle.surfaces.specs.Weights.{unit, distance}
+use Rattle.evaluation.proofs.Weighing.{unit-is, here-shifted, centre-shifted, weight-is}
 use Rattle.evaluation.proofs.weight.Statement.{statement}
 use Rattle.evaluation.proofs.weight.Tie as tie
-use Rattle.evaluation.proofs.weight.Reads as reads
-use Rattle.evaluation.proofs.weight.Lts as lts
-use Rattle.evaluation.proofs.distance.Reads as distance-reads
 
 add-distance : tie.Need-add-distance
 add-distance c = search needs
@@ -32,8 +33,16 @@ cast-if1 c = search needs
 shl-if1 : tie.Need-shl-if1
 shl-if1 c = search needs
 
+-- the distance that the call gave
+apart : (c : tie.After-distance) → let a = c .before .args in c .distance .result ≡ distance (a .x * 2 ^ suc (a .level)) (a .index * unit)
+apart c =
+    let a = c .before .args in
+    c .distance .ensures
+    ∙ ap₂ distance (here-shifted (a .x) (a .level) (c .before .pre .0) (c .before .pre .1))
+    (centre-shifted (a .level) (a .index) (c .before .pre .1) (c .before .pre .2))
+
 returns : tie.Need-returns
-returns c = search needs
+returns c = let a = c .before .before .args in omega (arith, weight-is (a .x) (a .level) (a .index), apart (c .before), unit-is)
 
 cast-result : tie.Need-cast-result
 cast-result c = search needs
@@ -45,7 +54,7 @@ sub-result : tie.Need-sub-result
 sub-result c = search needs
 
 returns-2 : tie.Need-returns-2
-returns-2 c = search needs
+returns-2 c = let a = c .before .before .args in omega (arith, weight-is (a .x) (a .level) (a .index), apart (c .before), unit-is)
 
 pub weight-spec : {M : Type 1} → statement M
 weight-spec =
