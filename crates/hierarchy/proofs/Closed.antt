@@ -3,13 +3,13 @@
 -- Assumes nothing.
 use mathlib.Core.Path.{_≡_, refl, ap, ap₂, sym, _∙_, fun-ext}
 use mathlib.Core.Bool.{Bool, true, false}
-use Prim.Native.Nat.{ℕ, zero, suc, _+_, _*_, _^_, _<_, _-_}
-use native.Mathlib.Nat.{pow-suc, mul-assoc, mul-one, add-zero}
+use Prim.Native.Nat.{ℕ, zero, suc, _+_, _^_, _<_, _-_}
+use native.Mathlib.Nat.{two-pow-succ, add-zero}
 use native.Mathlib.Omega.{arith}
-use lib.IntN.{ℤ, pos, negsuc, negℤ, _+ℤ_, _*ℤ_}
+use lib.IntN.{ℤ, pos, _+ℤ_, _*ℤ_}
 use Rattle.naturals.specs.Test.{if_then_else_}
 use Rattle.naturals.proofs.Cases.{eq-or-not, true-or-false}
-use Rattle.integers.proofs.Linear.{leaf, _⊕_, ⊖_, equal}
+use Rattle.integers.proofs.Products.{times-plus, times-one}
 use Rattle.integers.specs.Half.{isEven}
 use Rattle.hierarchy.specs.Grid.{Neighbours, Grid}
 use Rattle.hierarchy.specs.Turns.{sumOn, forward}
@@ -23,22 +23,11 @@ doubled (suc k) f = twice (doubled k f)
 
 -- Doubling d times is multiplying by 2^d.
 times-suc : (z : ℤ) (d : ℕ) → z *ℤ pos (2 ^ suc d) ≡ z *ℤ pos (2 ^ d) +ℤ z *ℤ pos (2 ^ d)
-times-suc (pos n) d = ap pos (omega (arith, ap (λ (x : ℕ). n * x) (pow-suc 2 d), mul-assoc n (2 ^ d) 2))
-times-suc (negsuc n) d =
-    let e : suc n * 2 ^ suc d ≡ suc n * 2 ^ d + suc n * 2 ^ d =
-    omega (arith, ap (λ (x : ℕ). suc n * x) (pow-suc 2 d), mul-assoc (suc n) (2 ^ d) 2) in
-    ap (λ (x : ℕ). negℤ (pos x)) e ∙ neg-double (suc n * 2 ^ d)
-  where
-    neg-double : (m : ℕ) → negℤ (pos (m + m)) ≡ negℤ (pos m) +ℤ negℤ (pos m)
-    neg-double m = equal (⊖ (leaf (pos m) ⊕ leaf (pos m))) (⊖ leaf (pos m) ⊕ ⊖ leaf (pos m)) (omega arith)
+times-suc z d = ap (λ (n : ℕ). z *ℤ pos n) (two-pow-succ d) ∙ times-plus z (2 ^ d) (2 ^ d)
 
 scaled-zero : (r : ℕ → ℤ) (p : ℕ) → scaled 0 r p ≡ r p
 unfolding scaled
 scaled-zero r p = times-one (r p)
-  where
-    times-one : (z : ℤ) → z *ℤ pos 1 ≡ z
-    times-one (pos n) = ap pos (mul-one n)
-    times-one (negsuc n) = ap (λ (x : ℕ). negℤ (pos x)) (mul-one (suc n))
 
 scaled-suc : (d : ℕ) (r : ℕ → ℤ) (p : ℕ) → scaled (suc d) r p ≡ twice (scaled d r) p
 unfolding scaled twice

@@ -12,6 +12,7 @@ use Rattle.naturals.proofs.Sums.{sumTo-zero, sumTo-suc, sumTo-mono}
 use Rattle.numbering.specs.Count.{points}
 use Rattle.numbering.specs.Inverse.{levelAt, indexAt}
 use Rattle.numbering.proofs.Numbering.{point-of-number}
+use Rattle.interpolation.proofs.Products.{prodTo-zero, prodTo-suc}
 use Rattle.surfaces.specs.Weights.{unit, weight, weightOn, joint}
 use Rattle.surfaces.specs.Surface.{coordinatesOf, productAt, jointAt}
 use Rattle.surfaces.proofs.Unit.{unitBits, unit-splits, unit-pos, coordinate-is}
@@ -98,21 +99,13 @@ module _ (j w s l : ℕ) (few : s + l ≤ unitBits) (mj : Multiple j s) (mw : Mu
 -- ---- all axes
 
 module _ (x l i : ℕ → ℕ) where
-  joint-zero : joint x l i 0 ≡ unit
+  pub joint-zero : joint x l i 0 ≡ unit
   unfolding joint
   joint-zero = refl
 
-  joint-suc : (k : ℕ) → joint x l i (suc k) ≡ joint x l i k * weightOn x l i k / unit
+  pub joint-suc : (k : ℕ) → joint x l i (suc k) ≡ joint x l i k * weightOn x l i k / unit
   unfolding joint
   joint-suc k = refl
-
-  product-zero : prodTo (weightOn x l i) 0 ≡ 1
-  unfolding prodTo
-  product-zero = refl
-
-  product-suc : (k : ℕ) → prodTo (weightOn x l i) (suc k) ≡ prodTo (weightOn x l i) k * weightOn x l i k
-  unfolding prodTo
-  product-suc k = refl
 
   -- Weights that are multiples of the unit over 2 to the levels of m, whose sum is small.
   module _ (m : ℕ → ℕ) (d : ℕ) (few : sumTo m d ≤ unitBits) (each : (t : ℕ) → t < d → Multiple (weightOn x l i t) (m t)) where
@@ -126,9 +119,9 @@ module _ (x l i : ℕ → ℕ) where
         (multiple-step (joint x l i k) (weightOn x l i k) (sumTo m k) (m k) (sums k h) (joint-multiple k (omega arith)) (each k h))
 
     joint-product : (k : ℕ) → k ≤ d → joint x l i k * unit ^ k ≡ prodTo (weightOn x l i) k * unit
-    joint-product zero h = rw (joint-zero, product-zero, pow-zero unit) (omega arith)
+    joint-product zero h = rw (joint-zero, prodTo-zero (weightOn x l i), pow-zero unit) (omega arith)
     joint-product (suc k) h =
-        rw (joint-suc k, product-suc k, pow-suc unit k)
+        rw (joint-suc k, prodTo-suc (weightOn x l i) k, pow-suc unit k)
         (regroup (joint x l i k) (weightOn x l i k) (joint x l i k * weightOn x l i k / unit) (unit ^ k) (prodTo (weightOn x l i) k) unit
         (exact-step (joint x l i k) (weightOn x l i k) (sumTo m k) (m k) (sums k h) (joint-multiple k (omega arith)) (each k h))
         (joint-product k (omega arith)))

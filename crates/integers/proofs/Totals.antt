@@ -1,0 +1,65 @@
+-- Laws of finite sums of whole numbers: they are linear in their terms, and a sum with one term that is not 0 is that term. By induction over the length.
+-- Assumes nothing.
+use mathlib.Core.Path.{_≡_, refl, ap, ap₂, sym, _∙_}
+use Prim.Native.Nat.{ℕ, zero, suc, _<_}
+use native.Mathlib.Omega.{arith}
+use lib.IntN.{ℤ, pos, _+ℤ_, _*ℤ_, +ℤ-idl, +ℤ-idr, zero-*ℤ}
+use Rattle.naturals.proofs.Cases.{eq-or-not}
+use Rattle.integers.specs.Total.{total}
+use Rattle.integers.proofs.Linear.{leaf, _⊕_, equal}
+use Rattle.integers.proofs.Products.{plus-times}
+
+pub total-zero : (f : ℕ → ℤ) → total f 0 ≡ pos 0
+unfolding total
+total-zero f = refl
+
+pub total-suc : (f : ℕ → ℤ) (m : ℕ) → total f (suc m) ≡ total f m +ℤ f m
+unfolding total
+total-suc f m = refl
+
+-- Totals of the same terms are equal.
+pub total-cong : (f g : ℕ → ℤ) (m : ℕ) → ((p : ℕ) → p < m → f p ≡ g p) → total f m ≡ total g m
+total-cong f g zero same = total-zero f ∙ sym (total-zero g)
+total-cong f g (suc m) same =
+    total-suc f m
+    ∙ ap₂ _+ℤ_ (total-cong f g m (λ p h. same p (omega arith))) (same m (omega arith))
+    ∙ sym (total-suc g m)
+
+pub total-none : (f : ℕ → ℤ) (m : ℕ) → ((p : ℕ) → p < m → f p ≡ pos 0) → total f m ≡ pos 0
+total-none f zero none = total-zero f
+total-none f (suc m) none =
+    total-suc f m ∙ ap₂ _+ℤ_ (total-none f m (λ p h. none p (omega arith))) (none m (omega arith))
+
+-- A total of sums is the sum of the totals, and a total of multiples is the multiple of the total.
+pub total-plus : (f g : ℕ → ℤ) (m : ℕ) → total (λ p. f p +ℤ g p) m ≡ total f m +ℤ total g m
+total-plus f g zero = rw (total-zero, total-zero f, total-zero g)
+total-plus f g (suc m) =
+    total-suc (λ p. f p +ℤ g p) m
+    ∙ ap (λ (z : ℤ). z +ℤ (f m +ℤ g m)) (total-plus f g m)
+    ∙ (let a = leaf (total f m) in
+    let b = leaf (total g m) in
+    equal (a ⊕ b ⊕ (leaf (f m) ⊕ leaf (g m))) (a ⊕ leaf (f m) ⊕ (b ⊕ leaf (g m))) (omega arith))
+    ∙ ap₂ _+ℤ_ (sym (total-suc f m)) (sym (total-suc g m))
+
+pub total-times : (f : ℕ → ℤ) (k m : ℕ) → total (λ p. f p *ℤ pos k) m ≡ total f m *ℤ pos k
+total-times f k zero =
+    total-zero (λ p. f p *ℤ pos k) ∙ sym (ap (λ (z : ℤ). z *ℤ pos k) (total-zero f) ∙ zero-*ℤ (pos k))
+total-times f k (suc m) =
+    total-suc (λ p. f p *ℤ pos k) m
+    ∙ ap (λ (z : ℤ). z +ℤ f m *ℤ pos k) (total-times f k m)
+    ∙ sym (plus-times (total f m) (f m) k)
+    ∙ ap (λ (z : ℤ). z *ℤ pos k) (sym (total-suc f m))
+
+-- A total of which one term is left.
+pub total-one : (f : ℕ → ℤ) (m q : ℕ) → q < m → ((p : ℕ) → p < m → (p ≡ q → ⊥) → f p ≡ pos 0) → total f m ≡ f q
+total-one f zero q h others = absurd (omega arith)
+total-one f (suc m) q h others =
+    eq-or-not q m
+    (λ e.
+    total-suc f m
+    ∙ ap₂ _+ℤ_ (total-none f m (λ p lt. others p (omega arith) (λ i. omega arith))) (ap f (sym e))
+    ∙ +ℤ-idl (f q))
+    (λ e.
+    total-suc f m
+    ∙ ap₂ _+ℤ_ (total-one f m q (omega arith) (λ p lt ne. others p (omega arith) ne)) (others m (omega arith) (λ i. e (sym i)))
+    ∙ +ℤ-idr (f q))
