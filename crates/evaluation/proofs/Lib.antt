@@ -1,1 +1,9 @@
 pub mod Weighing
+pub mod Parts
+pub mod Blocks
+pub mod Reading
+pub mod Walking
+pub mod Stepping
+pub mod Tabulating
+pub mod Taking
+pub mod Following

@@ -9,7 +9,7 @@ use lib.Pow.{pow-pos, shl-exact}
 use borrow.Author.Tests.{lt-ltb, le-ltb}
 use Rattle.naturals.proofs.Cases.{le-or-lt}
 use Rattle.surfaces.specs.Weights.{unit, distance, weight}
-use Rattle.evaluation.specs.Steps.{placeOf, indexAt}
+use Rattle.evaluation.specs.Steps.{placeOf, indexOfPlace}
 
 pub unit-is : unit ≡ 2 ^ 16
 unfolding unit
@@ -45,7 +45,7 @@ module _ (x l : ℕ) where
       (div-lt-iff-lt-mul {k = unit} {x = x * 2 ^ l} {y = 2 ^ l} (omega (arith, unit-is)) .1
       (omega (arith, mul-le-mul-right (2 ^ l) inside, suc-mul x (2 ^ l), pow-pos l, mul-comm unit (2 ^ l)))))
 
-  pub index-below : indexAt (placeOf x l) < 2 ^ suc l
+  pub index-below : indexOfPlace (placeOf x l) < 2 ^ suc l
   index-below = omega (arith, place-below, pow-suc 2 l)
 
 -- What is left of the unit where the distance is larger: nothing.

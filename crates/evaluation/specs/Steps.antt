@@ -21,8 +21,8 @@ unfoldable pub placeOf : ℕ → ℕ → ℕ
 placeOf x l = if ltb x unit then x * 2 ^ l / unit else 0
 
 -- The index of a place.
-abbrev pub indexAt : ℕ → ℕ
-indexAt place = 2 * place + 1
+abbrev pub indexOfPlace : ℕ → ℕ
+indexOfPlace place = 2 * place + 1
 
 -- Axis t and level l in a table of nine levels for each axis.
 abbrev pub entry : ℕ → ℕ → ℕ
@@ -33,7 +33,7 @@ pub record Tabulated (x : ℕ → ℕ) (b : ℕ) (weights places : List ℕ) : T
   pub long-weights : length weights ≡ 72
   pub long-places : length places ≡ 72
   pub place : (t l : ℕ) → l < 9 → entry t l < b → at places (entry t l) ≡ placeOf (x t) l
-  pub weight : (t l : ℕ) → l < 9 → entry t l < b → at weights (entry t l) ≡ weight (x t) l (indexAt (placeOf (x t) l))
+  pub weight : (t l : ℕ) → l < 9 → entry t l < b → at weights (entry t l) ≡ weight (x t) l (indexOfPlace (placeOf (x t) l))
 
 -- What the tables hold for the level that a level vector has on axis t.
 unfoldable pub read : List ℕ → (ℕ → ℕ) → ℕ → ℕ

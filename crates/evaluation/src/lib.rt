@@ -11,7 +11,7 @@ ghost use Rattle.numbering.specs.Point.{at};
 ghost use Rattle.hierarchy.specs.Turns.{valueAt};
 ghost use Rattle.surfaces.specs.Weights.{unit, isCoordinate, distance, weight};
 ghost use Rattle.surfaces.specs.Surface.{estimateAt};
-ghost use Rattle.evaluation.specs.Steps.{placeOf, indexAt, Tabulated, jointOf, positionOf, Bounded, VectorIn, NextVector, Listed, Evaluable};
+ghost use Rattle.evaluation.specs.Steps.{placeOf, indexOfPlace, Tabulated, jointOf, positionOf, Bounded, VectorIn, NextVector, Listed, Evaluable};
 
 // The unit of coordinates and weights is 2 to this.
 const BITS: u32 = 16;
@@ -131,9 +131,10 @@ fn next_vector(axes: usize, sum: u32, levels: [u32; 8]) -> Vector
 {
     let step = successor::next_levels(axes, levels);
     if !step.past {
+        let numbers = step.numbers;
         return Vector {
             sum: sum,
-            levels: step.numbers,
+            levels: numbers,
         };
     }
     let more = sum + 1;

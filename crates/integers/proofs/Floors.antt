@@ -1,14 +1,15 @@
 -- Division rounded down: a number is its floor times the divisor plus the remainder, and nothing else of that form. True since the same holds of
 -- natural numbers, and below zero what is left counts from the other end.
 -- Assumes nothing.
-use mathlib.Core.Path.{_≡_, refl, ap, _∙_}
+use mathlib.Core.Path.{_≡_, refl, ap, sym, _∙_}
 use Prim.Native.Nat.{ℕ, suc, _+_, _-_, _*_, _/_, _%_, _≤_, _<_}
 use native.Mathlib.Nat.{suc-mul, mod-lt, div-add-mod', mul-add-div-right, div-eq-of-lt, div-le-self}
 use native.Mathlib.Omega.{arith}
-use lib.IntN.{ℤ, pos, negsuc, negℤ, natAbs, subℕ, _+ℤ_, _*ℤ_}
+use lib.IntN.{ℤ, pos, negsuc, negℤ, natAbs, subℕ, _+ℤ_, _*ℤ_, +ℤ-assoc}
 use lib.Signed.{shrZ}
 use borrow.Author.Tests.{lt-ltb}
 use Rattle.integers.specs.Floor.{floor, remainder}
+use Rattle.integers.proofs.Products.{plus-times}
 
 pub shift-floor : (m : ℕ) (z : ℤ) → shrZ z m ≡ floor m z
 unfolding floor
@@ -42,3 +43,12 @@ floor-unique m (negsuc k) r h =
     let s : ℕ = m - 1 - r in
     ap (floor m) (still-below (suc k * m) r (k * m + s) (omega (arith, suc-mul k m)))
     ∙ ap negsuc (omega (arith, mul-add-div-right {m = m} (omega arith) k s, div-eq-of-lt {n = s} {m = m} (omega arith)))
+
+-- A multiple of the divisor goes through.
+pub floor-plus : (m : ℕ) (a : ℤ) (b : ℕ) → 0 < m → floor m (a *ℤ pos m +ℤ pos b) ≡ a +ℤ pos (b / m)
+floor-plus m a b h =
+    ap (floor m)
+    (ap (λ (n : ℕ). a *ℤ pos m +ℤ pos n) (sym (div-add-mod' b m))
+    ∙ sym (+ℤ-assoc (a *ℤ pos m) (pos (b / m * m)) (pos (b % m)))
+    ∙ ap (λ (z : ℤ). z +ℤ pos (b % m)) (sym (plus-times a (pos (b / m)) m)))
+    ∙ floor-unique m (a +ℤ pos (b / m)) (b % m) (mod-lt b h)

@@ -31,7 +31,7 @@ zeros-at zero t = refl
 zeros-at (suc k) zero = refl
 zeros-at (suc k) (suc t) = zeros-at k t
 
-first-zeros : (v t : ℕ) → 0 < t → at (first v) t ≡ 0
+pub first-zeros : (v t : ℕ) → 0 < t → at (first v) t ≡ 0
 first-zeros v zero h = omega arith
 first-zeros v (suc t) h = zeros-at 7 t
 

@@ -3,3 +3,4 @@ pub mod Hat
 pub mod Instance
 pub mod GridPoints
 pub mod Exact
+pub mod Cells

@@ -1,11 +1,17 @@
-use mathlib.Core.Path.{_≡_, refl, sym, subst, ap, _∙_}
-use Prim.Native.Nat.{ℕ, zero, suc, _+_, _-_, _*_, _/_, _%_, _^_, _≤_, _<_}
+-- `evaluation::add_high` meets its contract: product and sum fit 64 bits, and the shift is the division rounded down.
+-- Assumes nothing.
+use mathlib.Core.Path.{sym}
 use native.Mathlib.Omega.{arith}
+use lib.IntN.{pos, _+ℤ_, _*ℤ_}
+use mir.Syntax.{w64}
+use mir.ValLaws.{toZ-ofZ}
 use borrow.Author.Needs.{needs}
+use Rattle.integers.specs.Floor.{floor}
+use Rattle.surfaces.specs.Weights.{unit}
+use Rattle.evaluation.proofs.Weighing.{unit-is}
+use Rattle.evaluation.proofs.Parts.{high-product, high-product-fits, high-sum-fits}
 use Rattle.evaluation.proofs.add_high.Statement.{statement}
 use Rattle.evaluation.proofs.add_high.Tie as tie
-use Rattle.evaluation.proofs.add_high.Reads as reads
-use Rattle.evaluation.proofs.add_high.Lts as lts
 
 cast-result : tie.Need-cast-result
 cast-result c = search needs
@@ -14,17 +20,33 @@ shr-result : tie.Need-shr-result
 shr-result c = search needs
 
 cast-result-2 : tie.Need-cast-result-2
-cast-result-2 c = search needs
+cast-result-2 c = record { sfits = omega (arith, unit-is) }
 
 mul-result : tie.Need-mul-result
-mul-result c = search needs
+mul-result c =
+    let a = c .args in
+    rw (high-product (a .c) (a .joint) (c .pre .1) (c .pre .2) (c .fits .c)) (high-product-fits (a .c) (a .joint) (c .pre .1) (c .pre .2))
 
 add-result : tie.Need-add-result
-add-result c = search needs
+add-result c =
+    let a = c .args in
+    rw (
+      high-product (a .c) (a .joint) (c .pre .1) (c .pre .2) (c .fits .c),
+      toZ-ofZ w64 (floor unit (a .c) *ℤ pos (a .joint)) (high-product-fits (a .c) (a .joint) (c .pre .1) (c .pre .2)),
+      toZ-ofZ w64 (a .high) (c .fits .high),
+    )
+    (high-sum-fits (a .c) (a .joint) (c .pre .1) (c .pre .2) (a .high) (c .pre .0))
 
 returns : tie.Need-returns
-returns c = search needs
+returns c =
+    let a = c .args in
+    rw (
+      high-product (a .c) (a .joint) (c .pre .1) (c .pre .2) (c .fits .c),
+      toZ-ofZ w64 (floor unit (a .c) *ℤ pos (a .joint)) (high-product-fits (a .c) (a .joint) (c .pre .1) (c .pre .2)),
+      toZ-ofZ w64 (a .high) (c .fits .high),
+    )
+    (toZ-ofZ w64 (a .high +ℤ floor unit (a .c) *ℤ pos (a .joint))
+    (high-sum-fits (a .c) (a .joint) (c .pre .1) (c .pre .2) (a .high) (c .pre .0)))
 
 pub add-high-spec : {M : Type 1} → statement M
-add-high-spec =
-    tie.close (tie.spec cast-result shr-result cast-result-2 mul-result add-result returns)
+add-high-spec = tie.close (tie.spec cast-result shr-result cast-result-2 mul-result add-result returns)

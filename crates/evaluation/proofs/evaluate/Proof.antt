@@ -1,73 +1,176 @@
+-- `evaluation::evaluate` meets its contract. The loop's invariant is `Walked`, and the measure is what is left of the table.
+-- Assumes nothing.
 use mathlib.Core.Path.{_≡_, refl, sym, subst, ap, _∙_}
+use mathlib.Core.List.{[], _∷_}
 use Prim.Native.Nat.{ℕ, zero, suc, _+_, _-_, _*_, _/_, _%_, _^_, _≤_, _<_}
 use native.Mathlib.Omega.{arith}
+use lib.IntN.{ℤ, pos, _+ℤ_, _*ℤ_}
+use lib.ListN.{length, getD, replicate, getD-replicate, List·getD-eq-default}
+use lib.Pow.{pow-pos}
+use mir.Syntax.{w64}
+use mir.Val.{toZ}
+use mir.ValLaws.{toZ-ofZ}
 use borrow.Author.Needs.{needs}
+use Rattle.naturals.proofs.Cases.{le-or-lt}
+use Rattle.integers.specs.Floor.{floor, remainder}
+use Rattle.integers.specs.Half.{inLimit}
+use Rattle.numbering.specs.Point.{at}
+use Rattle.surfaces.specs.Weights.{unit}
+use Rattle.evaluation.specs.Steps.{Tabulated, Evaluable}
+use Rattle.evaluation.proofs.Walking.{Walked, walked-starts, high-room, low-room, walked-ends}
+use Rattle.evaluation.proofs.Stepping.{sum-small, levels-small, vector-size, next-small, place-read, place-small, weight-in, value-in, value-fits, stepped}
+use Rattle.evaluation.proofs.Tabulating.{tabulated-bounded}
 use Rattle.evaluation.proofs.evaluate.Statement.{statement}
 use Rattle.evaluation.proofs.evaluate.Tie as tie
-use Rattle.evaluation.proofs.evaluate.Reads as reads
-use Rattle.evaluation.proofs.evaluate.Lts as lts
-use Rattle.evaluation.proofs.add_high.Reads as add-high-reads
-use Rattle.evaluation.proofs.add_low.Reads as add-low-reads
-use Rattle.evaluation.proofs.joined.Reads as joined-reads
-use Rattle.evaluation.proofs.next_vector.Reads as next-vector-reads
-use Rattle.evaluation.proofs.tabulated.Reads as tabulated-reads
-use Rattle.evaluation.proofs.taken.Reads as taken-reads
 
 abbrev Inv-loop : tie.InvT-loop
 Inv-loop axes level table coordinates count weights places high₀ low₀ first₀ sum₀ levels₀ high low first sum levels =
-    ?
+    Walked axes level table (at coordinates) (toZ w64 high) low first sum levels
 
 abbrev μ-loop : tie.MeasureT-loop
 μ-loop axes level table coordinates count weights places high₀ low₀ first₀ sum₀ levels₀ high low first sum levels =
-    ?
+    length table - first
 
 tabulated-requires : tie.Need-tabulated-requires Inv-loop μ-loop
-tabulated-requires c κs = search needs
+tabulated-requires c κs = c .before .pre .listed
+
+eight-zeros : (t : ℕ) → at (0 ∷ 0 ∷ 0 ∷ 0 ∷ 0 ∷ 0 ∷ 0 ∷ 0 ∷ []) t ≡ 0
+eight-zeros t =
+    le-or-lt 8 t
+    (λ past. List·getD-eq-default (replicate 8 0) 0 past)
+    (λ h. getD-replicate 8 t 0 0 h)
 
 loop-holds : tie.Need-loop-holds Inv-loop μ-loop
-loop-holds c = search needs
+loop-holds c = let a = c .before .before .before .before .args in walked-starts (a .axes) (a .level) (a .table .now) (at (a .coordinates .now)) _ refl eight-zeros
 
 taken-requires : tie.Need-taken-requires Inv-loop μ-loop
-taken-requires c κs = search needs
+taken-requires c κs =
+    let tables = c .before .before .before .before .before .before in
+    let pre = tables .before .before .pre in (
+      tabulated-bounded (pre .listed .few) (tables .tabulated .ensures),
+      levels-small pre (c .before .before .before .loop .inv) (c .before .before .loop-test .taken),
+    )
+
+-- ---- the point taken
+
+-- what was asked of the function, the invariant, and that a point is left
+asked : (c : tie.After-taken Inv-loop μ-loop) → let a = c .before .before .before .before .before .before .before .before .before .args in
+    Evaluable (a .axes) (a .level) (a .table .now) (a .coordinates .now)
+asked c = c .before .before .before .before .before .before .before .before .before .pre
+
+tables : (c : tie.After-taken Inv-loop μ-loop) →
+    let t = c .before .before .before .before .before .before .before in
+    Tabulated (at (t .before .before .args .coordinates .now)) (9 * t .before .before .args .axes) (t .tabulated .result .weights) (t .tabulated .result .places)
+tables c = c .before .before .before .before .before .before .before .tabulated .ensures
 
 add-c : tie.Need-add-c Inv-loop μ-loop
-add-c c = search needs
+add-c c =
+    record {
+      fits =
+          omega (
+            arith,
+            place-small (asked c) (c .before .before .before .before .loop .inv) (c .before .before .before .loop-test .taken)
+                (tables c) (c .taken .ensures),
+          );
+    }
 
 mul-c : tie.Need-mul-c Inv-loop μ-loop
-mul-c c = search needs
+mul-c c =
+    record {
+      fits =
+          omega (
+            arith,
+            place-small (asked c) (c .before .before .before .before .loop .inv) (c .before .before .before .loop-test .taken)
+                (tables c) (c .taken .ensures),
+          );
+    }
 
 shared-slice-copy-out-c : tie.Need-shared-slice-copy-out-c Inv-loop μ-loop
-shared-slice-copy-out-c c = search needs
+shared-slice-copy-out-c c =
+    place-read (asked c) (c .before .before .before .before .loop .inv) (c .before .before .before .loop-test .taken)
+    (tables c) (c .taken .ensures)
 
 add-high-requires : tie.Need-add-high-requires Inv-loop μ-loop
-add-high-requires c κs = search needs
+add-high-requires c κs =
+    let taken = c .before in
+    let inv = taken .before .before .before .before .loop .inv in
+    let more = taken .before .before .before .loop-test .taken in (
+      high-room inv,
+      ap inLimit (toZ-ofZ w64 _ (value-fits (asked taken) inv more (tables taken) (taken .taken .ensures)))
+          ∙ value-in (asked taken) inv more (tables taken) (taken .taken .ensures),
+      weight-in (asked taken) inv more (tables taken) (taken .taken .ensures),
+    )
 
 add-low-requires : tie.Need-add-low-requires Inv-loop μ-loop
-add-low-requires c κs = search needs
+add-low-requires c κs =
+    let taken = c .before .before in (
+      low-room (taken .before .before .before .before .loop .inv),
+      weight-in (asked taken) (taken .before .before .before .before .loop .inv) (taken .before .before .before .loop-test .taken)
+          (tables taken) (taken .taken .ensures),
+    )
+
+-- ---- the next level vector
 
 cast-first : tie.Need-cast-first Inv-loop μ-loop
-cast-first c = search needs
+cast-first c =
+    let taken = c .before .before .before in
+    record {
+      fits = omega (arith, sum-small (asked taken) (taken .before .before .before .before .loop .inv) (taken .before .before .before .loop-test .taken));
+    }
 
 shl-first : tie.Need-shl-first Inv-loop μ-loop
-shl-first c = search needs
+shl-first c =
+    let taken = c .before .before .before in
+    omega (arith, sum-small (asked taken) (taken .before .before .before .before .loop .inv) (taken .before .before .before .loop-test .taken))
 
 add-first : tie.Need-add-first Inv-loop μ-loop
-add-first c = search needs
+add-first c =
+    let taken = c .before .before .before in
+    record {
+      fits = omega (arith, next-small (asked taken) (taken .before .before .before .before .loop .inv) (taken .before .before .before .loop-test .taken));
+    }
 
 next-vector-requires : tie.Need-next-vector-requires Inv-loop μ-loop
-next-vector-requires c κs = search needs
+next-vector-requires c κs =
+    let taken = c .before .before .before in
+    let inv = taken .before .before .before .before .loop .inv in (
+      asked taken .some,
+      asked taken .listed .few,
+      sum-small (asked taken) inv (taken .before .before .before .loop-test .taken),
+      inv .vector,
+    )
 
 loop-less : tie.Need-loop-less Inv-loop μ-loop
-loop-less c = search needs
+loop-less c =
+    let taken = c .before .before .before .before .before in
+    let inv = taken .before .before .before .before .loop .inv in
+    let more = taken .before .before .before .loop-test .taken in
+    omega (arith, vector-size (asked taken) inv more, pow-pos (taken .before .before .before .before .loop .sum))
 
 loop-again : tie.Need-loop-again Inv-loop μ-loop
-loop-again c = search needs
+loop-again c =
+    let taken = c .before .before .before .before .before in
+    let loop = taken .before .before .before .before .loop in
+    let more = taken .before .before .before .loop-test .taken in
+    let point = taken .taken in
+    let read =
+    toZ-ofZ w64 (getD (taken .before .before .before .before .before .before .before .before .before .args .table .now) (loop .first + point .result .position) (pos 0))
+    (value-fits (asked taken) (loop .inv) more (tables taken) (point .ensures)) in
+    rw (vector-size (asked taken) (loop .inv) more)
+    (stepped (asked taken) (loop .inv) more (tables taken) (point .ensures) (c .before .next-vector .ensures)
+    (toZ-ofZ w64 (c .before .before .before .add-high .result) (record { sfits = c .before .before .before .add-high .ok })
+    ∙ c .before .before .before .add-high .ensures
+    ∙ ap (λ (z : ℤ). toZ w64 (loop .high) +ℤ floor unit z *ℤ pos (point .result .joint)) read)
+    (c .before .before .add-low .ensures ∙ ap (λ (z : ℤ). loop .low + remainder unit z * point .result .joint) read))
 
 joined-requires : tie.Need-joined-requires Inv-loop μ-loop
-joined-requires c κs = search needs
+joined-requires c κs = (high-room (c .before .loop .inv), low-room (c .before .loop .inv))
 
 returns : tie.Need-returns Inv-loop μ-loop
-returns c = search needs
+returns c =
+    toZ-ofZ w64 (c .joined .result) (record { sfits = c .joined .ok })
+    ∙ c .joined .ensures
+    ∙ walked-ends (c .before .before .loop .inv) (omega (arith, c .before .before .before .before .before .before .before .pre .long))
 
 pub evaluate-spec : {M : Type 1} → statement M
 evaluate-spec =

@@ -1,11 +1,15 @@
-use mathlib.Core.Path.{_≡_, refl, sym, subst, ap, _∙_}
-use Prim.Native.Nat.{ℕ, zero, suc, _+_, _-_, _*_, _/_, _%_, _^_, _≤_, _<_}
+-- `evaluation::joined` meets its contract: the shift is the division by the unit, and the sum fits 64 bits.
+-- Assumes nothing.
+use Prim.Native.Nat.{_/_}
 use native.Mathlib.Omega.{arith}
+use lib.IntN.{pos, _+ℤ_}
+use mir.Syntax.{w64}
+use mir.ValLaws.{toZ-ofZ}
 use borrow.Author.Needs.{needs}
+use Rattle.surfaces.specs.Weights.{unit}
+use Rattle.evaluation.proofs.Parts.{low-quotient, joined-fits}
 use Rattle.evaluation.proofs.joined.Statement.{statement}
 use Rattle.evaluation.proofs.joined.Tie as tie
-use Rattle.evaluation.proofs.joined.Reads as reads
-use Rattle.evaluation.proofs.joined.Lts as lts
 
 cast-result : tie.Need-cast-result
 cast-result c = search needs
@@ -14,13 +18,17 @@ shr-result : tie.Need-shr-result
 shr-result c = search needs
 
 cast-result-2 : tie.Need-cast-result-2
-cast-result-2 c = search needs
+cast-result-2 c = record { sfits = omega arith }
 
 add-result : tie.Need-add-result
-add-result c = search needs
+add-result c =
+    rw (toZ-ofZ w64 (c .args .high) (c .fits .high), low-quotient (c .args .low) (c .pre .1))
+    (joined-fits (c .args .high) (c .args .low) (c .pre .0) (c .pre .1))
 
 returns : tie.Need-returns
-returns c = search needs
+returns c =
+    rw (toZ-ofZ w64 (c .args .high) (c .fits .high), low-quotient (c .args .low) (c .pre .1))
+    (toZ-ofZ w64 (c .args .high +ℤ pos (c .args .low / unit)) (joined-fits (c .args .high) (c .args .low) (c .pre .0) (c .pre .1)))
 
 pub joined-spec : {M : Type 1} → statement M
 joined-spec = tie.close (tie.spec cast-result shr-result cast-result-2 add-result returns)

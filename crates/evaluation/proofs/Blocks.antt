@@ -1,0 +1,214 @@
+-- The points of one level vector are 2^(level sum) numbers in a row, from the number of its first point on, and of a sum over them one term is left:
+-- a point's place in the row is its position, whose digits are its halved indices, and only the indices of the cells of the coordinates have weight.
+-- Assumes nothing.
+use mathlib.Core.Path.{_≡_, refl, ap, ap₂, sym, _∙_}
+use mathlib.Core.Logic.{⊎-elim}
+use Prim.Native.Nat.{ℕ, zero, suc, _+_, _*_, _/_, _%_, _^_, _≤_, _<_}
+use native.Mathlib.Nat.{add-zero, add-suc, eq-zero-or-pos}
+use native.Mathlib.Omega.{arith}
+use lib.Dec.{ltb}
+use lib.IntN.{ℤ, pos, _+ℤ_, +ℤ-idr}
+use borrow.Author.Tests.{lt-ltb, le-ltb}
+use Rattle.naturals.specs.Sum.{sumTo}
+use Rattle.naturals.specs.Test.{if_then_else_}
+use Rattle.naturals.proofs.Cases.{le-or-lt, eq-or-not}
+use Rattle.naturals.proofs.Sums.{sumTo-suc, sumTo-cong}
+use Rattle.integers.specs.Total.{total}
+use Rattle.integers.proofs.Totals.{total-suc}
+use Rattle.numbering.specs.Count.{points}
+use Rattle.numbering.specs.Point.{IsPoint}
+use Rattle.numbering.specs.Number.{number, digit, position}
+use Rattle.numbering.specs.Inverse.{levelAt, indexOf, indexAt}
+use Rattle.numbering.proofs.Position.{position-lt, position-cong, position-of-index, index-of-position, index-odd, index-below}
+use Rattle.numbering.proofs.Numbering.{number-is, number-lt}
+use Rattle.numbering.proofs.Named.{Named, levels-again, indices-again}
+use Rattle.surfaces.specs.Weights.{unit, weight, weightOn, joint}
+use Rattle.surfaces.specs.Surface.{jointAt}
+use Rattle.surfaces.proofs.Hat.{weight-high}
+use Rattle.surfaces.proofs.GridPoints.{joint-zero, joint-suc}
+use Rattle.surfaces.proofs.Cells.{only-half, joint-above}
+use Rattle.evaluation.specs.Steps.{placeOf, firstOf, indexOfPlace}
+use Rattle.evaluation.proofs.Weighing.{place-inside, index-below as taken-within}
+
+-- ---- sums of which one term of the last b is left
+
+sum-none : (f : ℕ → ℕ) (a b : ℕ) → ((j : ℕ) → j < b → f (a + j) ≡ 0) → sumTo f (a + b) ≡ sumTo f a
+sum-none f a zero none = ap (sumTo f) (add-zero a)
+sum-none f a (suc b) none =
+    omega (
+      arith,
+      ap (sumTo f) (add-suc a b),
+      sumTo-suc f (a + b),
+      sum-none f a b (λ j h. none j (omega arith)),
+      none b (omega arith),
+    )
+
+pub sum-block : (f : ℕ → ℕ) (a b q : ℕ) → q < b → ((j : ℕ) → j < b → (j ≡ q → ⊥) → f (a + j) ≡ 0) →
+    sumTo f (a + b) ≡ sumTo f a + f (a + q)
+sum-block f a zero q h others = absurd (omega arith)
+sum-block f a (suc b) q h others =
+    ap (sumTo f) (add-suc a b)
+    ∙ sumTo-suc f (a + b)
+    ∙ eq-or-not q b
+    (λ e. ap₂ _+_ (sum-none f a b (λ j lt. others j (omega arith) (λ i. omega arith))) (ap (λ (j : ℕ). f (a + j)) (sym e)))
+    (λ e.
+    omega (
+      arith,
+      sum-block f a b q (omega arith) (λ j lt ne. others j (omega arith) ne),
+      others b (omega arith) (λ i. e (sym i)),
+    ))
+
+total-none-past : (f : ℕ → ℤ) (a b : ℕ) → ((j : ℕ) → j < b → f (a + j) ≡ pos 0) → total f (a + b) ≡ total f a
+total-none-past f a zero none = ap (total f) (add-zero a)
+total-none-past f a (suc b) none =
+    ap (total f) (add-suc a b)
+    ∙ total-suc f (a + b)
+    ∙ ap₂ _+ℤ_ (total-none-past f a b (λ j h. none j (omega arith))) (none b (omega arith))
+    ∙ +ℤ-idr (total f a)
+
+pub total-block : (f : ℕ → ℤ) (a b q : ℕ) → q < b → ((j : ℕ) → j < b → (j ≡ q → ⊥) → f (a + j) ≡ pos 0) →
+    total f (a + b) ≡ total f a +ℤ f (a + q)
+total-block f a zero q h others = absurd (omega arith)
+total-block f a (suc b) q h others =
+    ap (total f) (add-suc a b)
+    ∙ total-suc f (a + b)
+    ∙ eq-or-not q b
+    (λ e. ap₂ _+ℤ_ (total-none-past f a b (λ j lt. others j (omega arith) (λ i. omega arith))) (ap (λ (j : ℕ). f (a + j)) (sym e)))
+    (λ e.
+    ap₂ _+ℤ_ (total-block f a b q (omega arith) (λ j lt ne. others j (omega arith) ne)) (others b (omega arith) (λ i. e (sym i)))
+    ∙ +ℤ-idr (total f a +ℤ f (a + q)))
+
+-- ---- the points of a level vector
+
+first-is : (d : ℕ) (l i : ℕ → ℕ) → number d l i ≡ firstOf d l + position l i d
+unfolding firstOf
+first-is d l i = number-is d l i
+
+-- The indices of a position on the first d axes, and 0 past them.
+indicesTo : ℕ → (ℕ → ℕ) → ℕ → ℕ → ℕ
+indicesTo d l j t = if ltb t d then indexOf l j t else 0
+
+indices-in : (d : ℕ) (l : ℕ → ℕ) (j t : ℕ) → t < d → indicesTo d l j t ≡ indexOf l j t
+unfolding indicesTo
+indices-in d l j t h = rw (lt-ltb t d h)
+
+indices-past : (d : ℕ) (l : ℕ → ℕ) (j t : ℕ) → d ≤ t → indicesTo d l j t ≡ 0
+unfolding indicesTo
+indices-past d l j t h = rw (le-ltb t d h)
+
+-- The joint weight depends on the indices of its axes alone.
+joint-cong : (x l i j : ℕ → ℕ) (k : ℕ) → ((t : ℕ) → t < k → i t ≡ j t) → joint x l i k ≡ joint x l j k
+unfolding weightOn
+joint-cong x l i j zero same = joint-zero x l i ∙ sym (joint-zero x l j)
+joint-cong x l i j (suc k) same =
+    joint-suc x l i k
+    ∙ ap₂ (λ (a b : ℕ). a * weight (x k) (l k) b / unit) (joint-cong x l i j k (λ t h. same t (omega arith))) (same k (omega arith))
+    ∙ sym (joint-suc x l j k)
+
+module _ (d n : ℕ) (l : ℕ → ℕ) (rest : (t : ℕ) → d ≤ t → l t ≡ 0) (low : sumTo l d ≤ n) (j : ℕ) (j-in : j < 2 ^ sumTo l d) where
+  block-point : Named d n l (indicesTo d l j)
+  block-point =
+      record {
+        point = record {
+          sum = low;
+          odd = λ t h. ap (λ (x : ℕ). x % 2) (indices-in d l j t h) ∙ index-odd l j t;
+          below = λ t h. rw (indices-in d l j t h) (index-below l j t);
+        };
+        levels = rest;
+        indices = indices-past d l j;
+      }
+
+  block-number : number d l (indicesTo d l j) ≡ firstOf d l + j
+  block-number =
+      first-is d l (indicesTo d l j)
+      ∙ ap (λ (q : ℕ). firstOf d l + q)
+      (position-cong l (indicesTo d l j) l (indexOf l j) d (λ t h. refl) (indices-in d l j) ∙ position-of-index l j d j-in)
+
+  pub block-below : firstOf d l + j < points d n
+  block-below = rw (sym block-number) (number-lt (block-point .point))
+
+  pub block-levels : levelAt d n (firstOf d l + j) ≡ l
+  block-levels = ap (levelAt d n) (sym block-number) ∙ levels-again block-point
+
+  block-indices : indexAt d n (firstOf d l + j) ≡ indicesTo d l j
+  block-indices = ap (indexAt d n) (sym block-number) ∙ indices-again block-point
+
+  pub block-index : (t : ℕ) → t < d → indexAt d n (firstOf d l + j) t ≡ indexOf l j t
+  block-index t h = ap (λ (i : ℕ → ℕ). i t) block-indices ∙ indices-in d l j t h
+
+  pub block-joint : (x : ℕ → ℕ) → jointAt d n x (firstOf d l + j) ≡ joint x l (indexOf l j) d
+  unfolding jointAt
+  block-joint x =
+      ap₂ (λ (m i : ℕ → ℕ). joint x m i d) block-levels block-indices
+      ∙ joint-cong x l (indicesTo d l j) (indexOf l j) d (indices-in d l j)
+
+-- ---- the point in whose cells the coordinates lie
+
+module _ (x l : ℕ → ℕ) where
+  -- Its index on axis t, what the axis adds to its position, and the position.
+  unfoldable pub takenIndex : ℕ → ℕ
+  takenIndex t = indexOfPlace (placeOf (x t) (l t))
+
+  unfoldable pub takenStep : ℕ → ℕ
+  takenStep t = placeOf (x t) (l t) * 2 ^ sumTo l t
+
+  unfoldable pub takenAt : ℕ → ℕ
+  takenAt d = sumTo takenStep d
+
+  taken-position : (d : ℕ) → position l takenIndex d ≡ takenAt d
+  unfolding position digit takenAt takenStep takenIndex
+  taken-position d = sumTo-cong _ _ d (λ t h. ap (λ (a : ℕ). a * 2 ^ sumTo l t) (omega arith))
+
+  taken-point : (d : ℕ) → IsPoint d (sumTo l d) l takenIndex
+  unfolding takenIndex
+  taken-point d =
+      record {
+        sum = omega arith;
+        odd = λ t h. omega arith;
+        below = λ t h. taken-within (x t) (l t);
+      }
+
+  pub taken-below : (d : ℕ) → takenAt d < 2 ^ sumTo l d
+  taken-below d = rw (sym (taken-position d)) (position-lt (taken-point d) d (omega arith))
+
+  pub taken-index : (d t : ℕ) → t < d → indexOf l (takenAt d) t ≡ takenIndex t
+  taken-index d t h = ap (λ (q : ℕ). indexOf l q t) (sym (taken-position d)) ∙ index-of-position (taken-point d) t h
+
+module _ (d n : ℕ) (x l : ℕ → ℕ) (rest : (t : ℕ) → d ≤ t → l t ≡ 0) (low : sumTo l d ≤ n) where
+  pub taken-joint : jointAt d n x (firstOf d l + takenAt x l d) ≡ joint x l (takenIndex x l) d
+  taken-joint =
+      block-joint d n l rest low (takenAt x l d) (taken-below x l d) x
+      ∙ joint-cong x l (indexOf l (takenAt x l d)) (takenIndex x l) d (taken-index x l d)
+
+  module _ (inside : (t : ℕ) → t < d → x t ≤ unit) (j : ℕ) (j-in : j < 2 ^ sumTo l d) where
+    -- On each axis a weight above 0 is that of the cell's index.
+    index-taken : (t : ℕ) → t < d → 0 < weightOn x l (indexOf l j) t → indexOf l j t ≡ takenIndex x l t
+    unfolding weightOn takenIndex
+    index-taken t h some =
+        le-or-lt unit (x t)
+        (λ border.
+        let e : x t ≡ unit = omega (arith, inside t h) in
+        absurd (omega (
+          arith,
+          ap (λ (y : ℕ). weight y (l t) (indexOf l j t)) e,
+          weight-high (l t) (indexOf l j t) (index-below l j t),
+        )))
+        (λ within.
+        omega (
+          arith,
+          index-odd l j t,
+          only-half (x t) (l t) (indexOf l j t) (index-odd l j t) some,
+          place-inside (x t) (l t) within,
+        ))
+
+    pub block-zero : (j ≡ takenAt x l d → ⊥) → jointAt d n x (firstOf d l + j) ≡ 0
+    block-zero other =
+        block-joint d n l rest low j j-in x
+        ∙ ⊎-elim (λ none. none) (λ some. absurd (other (same some))) (eq-zero-or-pos (joint x l (indexOf l j) d))
+      where
+        same : 0 < joint x l (indexOf l j) d → j ≡ takenAt x l d
+        same some =
+            sym (position-of-index l j d j-in)
+            ∙ position-cong l (indexOf l j) l (takenIndex x l) d (λ t h. refl)
+            (λ t h. index-taken t h (joint-above x l (indexOf l j) d some t h))
+            ∙ taken-position x l d

@@ -1,0 +1,132 @@
+-- The walk over the axes that takes one point of a level vector: after t axes it has the position of their places, their joint weight, and the sum of
+-- their levels. True since each axis adds its place, shifted by the levels before it, and multiplies by its weight. No shift loses a bit, since a
+-- place is below 2^level, and no product overflows, since weights and joint weights are at most the unit.
+-- Assumes nothing.
+use mathlib.Core.List.{List}
+use mathlib.Core.Path.{_≡_, refl, ap, ap₂, sym, _∙_}
+use Prim.Native.Nat.{ℕ, zero, suc, _+_, _*_, _/_, _%_, _^_, _≤_, _<_}
+use native.Mathlib.Nat.{mul-comm, mul-le-mul, div-le-of-le-mul}
+use native.Mathlib.Numerals.{add-one}
+use native.Mathlib.Omega.{arith}
+use lib.Arith.{digits-lt}
+use lib.Pow.{pow-pos, pow-mono, shl-exact}
+use Rattle.naturals.specs.Sum.{sumTo}
+use Rattle.naturals.proofs.Sums.{sumTo-zero, sumTo-suc, sumTo-mono}
+use Rattle.numbering.specs.Point.{at}
+use Rattle.numbering.proofs.Position.{pow-sum}
+use Rattle.surfaces.specs.Weights.{unit}
+use Rattle.evaluation.specs.Steps.{entry, read, jointOf, stepOf, positionOf, Bounded}
+use Rattle.evaluation.proofs.Weighing.{unit-is}
+
+pub joint-zero : (ws : List ℕ) (l : ℕ → ℕ) → jointOf ws l 0 ≡ unit
+unfolding jointOf
+joint-zero ws l = refl
+
+pub joint-suc : (ws : List ℕ) (l : ℕ → ℕ) (k : ℕ) → jointOf ws l (suc k) ≡ jointOf ws l k * at ws (entry k (l k)) / unit
+unfolding jointOf read
+joint-suc ws l k = refl
+
+pub position-zero : (ps : List ℕ) (l : ℕ → ℕ) → positionOf ps l 0 ≡ 0
+unfolding positionOf
+position-zero ps l = sumTo-zero (stepOf ps l)
+
+pub position-suc : (ps : List ℕ) (l : ℕ → ℕ) (k : ℕ) → positionOf ps l (suc k) ≡ positionOf ps l k + at ps (entry k (l k)) * 2 ^ sumTo l k
+unfolding positionOf stepOf read
+position-suc ps l k = sumTo-suc (stepOf ps l) k
+
+-- A product of two numbers of at most the unit is at most the unit squared, so at most the unit once divided by it.
+part-le : (a b : ℕ) → a ≤ unit → b ≤ unit → a * b / unit ≤ unit
+part-le a b ha hb = div-le-of-le-mul unit (mul-le-mul ha hb)
+
+module _ {d : ℕ} {ws ps : List ℕ} (bounded : Bounded d ws ps) (l : ℕ → ℕ) (few : sumTo l d ≤ 8) where
+  level-le : (t : ℕ) → t < d → l t ≤ 8
+  level-le t h = omega (arith, sumTo-mono l (suc t) d h, sumTo-suc l t)
+
+  place-lt : (t : ℕ) → t < d → at ps (entry t (l t)) < 2 ^ l t
+  place-lt t h = bounded .place t (l t) h (omega (arith, level-le t h))
+
+  weight-le : (t : ℕ) → t < d → at ws (entry t (l t)) ≤ unit
+  weight-le t h = bounded .weight t (l t) h (omega (arith, level-le t h))
+
+  pub joint-le : (k : ℕ) → k ≤ d → jointOf ws l k ≤ unit
+  joint-le zero h = omega (arith, joint-zero ws l)
+  joint-le (suc k) h =
+      omega (
+        arith,
+        joint-suc ws l k,
+        part-le (jointOf ws l k) (at ws (entry k (l k))) (joint-le k (omega arith)) (weight-le k h),
+      )
+
+  pub position-lt : (k : ℕ) → k ≤ d → positionOf ps l k < 2 ^ sumTo l k
+  position-lt zero h = omega (arith, position-zero ps l, pow-pos (sumTo l 0))
+  position-lt (suc k) h =
+      omega (
+        arith,
+        position-suc ps l k,
+        pow-sum l k,
+        mul-comm (2 ^ sumTo l k) (2 ^ l k),
+        digits-lt (place-lt k h) (position-lt k (omega arith)),
+      )
+
+pub record Taken (ws ps : List ℕ) (l : ℕ → ℕ) (d t position joint sum : ℕ) : Type 0 where
+  pub axis : t ≤ d
+  pub total : sum ≡ sumTo l t
+  pub packed : position ≡ positionOf ps l t
+  pub weighed : joint ≡ jointOf ws l t
+
+pub taken-starts : (ws ps : List ℕ) (l : ℕ → ℕ) (d : ℕ) → Taken ws ps l d 0 0 (2 ^ 16) 0
+taken-starts ws ps l d =
+    record {
+      axis = omega arith;
+      total = sym (sumTo-zero l);
+      packed = sym (position-zero ps l);
+      weighed = sym (joint-zero ws l ∙ unit-is);
+    }
+
+module _ {d : ℕ} {ws ps : List ℕ} {l : ℕ → ℕ} {t position joint sum : ℕ} (bounded : Bounded d ws ps) (few : sumTo l d ≤ 8)
+    (state : Taken ws ps l d t position joint sum) (h : t < d) where
+  pub level-small : l t ≤ 8
+  level-small = level-le bounded l few t h
+
+  pub sum-fits : sum + l t ≤ 8
+  sum-fits = omega (arith, sumTo-mono l (suc t) d h, sumTo-suc l t)
+
+  turned : position + at ps (entry t (l t)) * 2 ^ sum % 2 ^ 64 ≡ positionOf ps l (suc t)
+  turned =
+      omega (
+        arith,
+        position-suc ps l t,
+        shl-exact {a = at ps (entry t (l t))} (l t) sum 64 (place-lt bounded l few t h) (omega (arith, sum-fits)),
+        ap (λ (s : ℕ). at ps (entry t (l t)) * 2 ^ s) (state .total),
+      )
+
+  pub position-fits : position + at ps (entry t (l t)) * 2 ^ sum % 2 ^ 64 < 256
+  position-fits =
+      omega (
+        arith,
+        turned,
+        position-lt bounded l few (suc t) h,
+        pow-mono {i = sumTo l (suc t)} {j = 8} (omega (arith, sumTo-mono l (suc t) d h)),
+      )
+
+  pub joint-fits : joint * at ws (entry t (l t)) ≤ 2 ^ 32
+  joint-fits =
+      let small : joint ≤ unit = omega (arith, joint-le bounded l few t (state .axis)) in
+      omega (arith, mul-le-mul small (weight-le bounded l few t h), ap₂ (λ (a b : ℕ). a * b) unit-is unit-is)
+
+  pub taken-steps :
+      Taken ws ps l d (t + 1) (position + at ps (entry t (l t)) * 2 ^ sum % 2 ^ 64) (joint * at ws (entry t (l t)) / 2 ^ 16) (sum + l t)
+  taken-steps =
+      record {
+        axis = omega arith;
+        total = rw add-one (omega (arith, sumTo-suc l t));
+        packed = rw add-one turned;
+        weighed =
+            rw (add-one, joint-suc ws l t, ← state .weighed) (ap (λ (u : ℕ). joint * at ws (entry t (l t)) / u) (sym unit-is));
+      }
+
+pub taken-ends : {ws ps : List ℕ} {l : ℕ → ℕ} {d t position joint sum : ℕ} → Taken ws ps l d t position joint sum → d ≤ t →
+    (position ≡ positionOf ps l d) × (joint ≡ jointOf ws l d)
+taken-ends {ws} {ps} {l} {d} {t} state h =
+    let last : t ≡ d = omega arith in
+    (state .packed ∙ ap (positionOf ps l) last, state .weighed ∙ ap (jointOf ws l) last)

@@ -1,0 +1,274 @@
+-- The walk over the level vectors: after each it has both sums over all points before the next vector's first, since of the points of a vector only the
+-- one taken has a weight above 0. There are at most 12,870 vectors, so neither sum leaves 64 bits; and the sums of the two parts make the estimate.
+-- Assumes nothing.
+use mathlib.Core.Bool.{Bool, true}
+use mathlib.Core.List.{List}
+use mathlib.Core.Path.{_≡_, refl, ap, ap₂, sym, _∙_}
+use Prim.Native.Nat.{ℕ, zero, suc, _+_, _-_, _*_, _/_, _^_, _≤_, _<_}
+use native.Mathlib.Nat.{mul-comm, mul-zero, mul-le-mul-right, suc-mul, zero-div}
+use native.Mathlib.Omega.{arith}
+use lib.Dec.{leb}
+use lib.IntN.{ℤ, pos, natAbs, _+ℤ_, _*ℤ_, *ℤ-zero}
+use lib.ListN.{length}
+use lib.Pow.{pow-pos}
+use borrow.Author.Tests.{leb-true}
+use Rattle.naturals.specs.Sum.{sumTo}
+use Rattle.naturals.specs.Test.{all}
+use Rattle.naturals.proofs.Cases.{le-or-lt}
+use Rattle.naturals.proofs.Sums.{sumTo-zero, sumTo-suc, sumTo-mono}
+use Rattle.naturals.proofs.Tests.{all-at}
+use Rattle.integers.specs.Floor.{floor, remainder}
+use Rattle.integers.specs.Half.{inLimit}
+use Rattle.integers.specs.Total.{total}
+use Rattle.integers.proofs.Floors.{floor-remainder, floor-plus}
+use Rattle.integers.proofs.Linear.{leaf, _⊕_, equal}
+use Rattle.integers.proofs.Products.{times-times, plus-times}
+use Rattle.integers.proofs.Sizes.{sum-size}
+use Rattle.integers.proofs.Totals.{total-zero, total-suc}
+use Rattle.numbering.specs.Binomial.{choose}
+use Rattle.numbering.specs.Count.{vectors, start, points}
+use Rattle.numbering.specs.Inverse.{levelAt, indexAt}
+use Rattle.numbering.specs.Number.{rank}
+use Rattle.numbering.specs.Point.{at}
+use Rattle.numbering.proofs.Numbering.{points-is, start-mono}
+use Rattle.numbering.proofs.Rank.{rank-lt}
+use Rattle.numbering.proofs.Succession.{rank-first}
+use Rattle.hierarchy.specs.Turns.{valueAt}
+use Rattle.shapes.proofs.Totals.{start-zero}
+use Rattle.interpolation.specs.Weighted.{weighted, weightedSum}
+use Rattle.surfaces.specs.Weights.{unit}
+use Rattle.surfaces.specs.Surface.{jointAt, rounded, estimateAt}
+use Rattle.surfaces.proofs.Cells.{joint-le}
+use Rattle.surfaces.proofs.Unit.{unit-pos}
+use Rattle.evaluation.specs.Steps.{VectorIn, firstOf, vectorsBefore, NextVector, Evaluable}
+use Rattle.evaluation.proofs.Blocks.{sum-block, total-block, block-below, takenAt, taken-below, block-zero}
+use Rattle.evaluation.proofs.Parts.{high-size, low-size}
+
+-- ---- how many level vectors there are
+
+enough : ℕ → Bool
+enough k = leb (sumTo (vectors (suc k)) 9) 12870
+
+all-enough : all enough 8 ≡ true
+unfolding all enough vectors sumTo choose
+all-enough = refl
+
+most-vectors : (d : ℕ) → 1 ≤ d → d ≤ 8 → sumTo (vectors d) 9 ≤ 12870
+unfolding enough
+most-vectors d low high =
+    let axes : suc (d - 1) ≡ d = omega arith in
+    rw axes at (leb-true (sumTo (vectors (suc (d - 1))) 9) 12870 (all-at enough 8 all-enough (d - 1) (omega arith)))
+
+-- A vector of a sum up to 8 is followed by one that has at most 12,870 before it.
+next-counted : (d : ℕ) (l : ℕ → ℕ) → 1 ≤ d → d ≤ 8 → sumTo l d ≤ 8 → suc (vectorsBefore d l) ≤ 12870
+unfolding vectorsBefore
+next-counted d l low high few =
+    omega (
+      arith,
+      rank-lt l d,
+      sumTo-suc (vectors d) (sumTo l d),
+      sumTo-mono (vectors d) (suc (sumTo l d)) 9 (omega arith),
+      most-vectors d low high,
+    )
+
+-- ---- both parts of the sum
+
+module _ (d n : ℕ) (xs : List ℤ) (x : ℕ → ℕ) where
+  -- What point number p adds to the two sums.
+  unfoldable pub highTerm : ℕ → ℤ
+  highTerm p = floor unit (valueAt xs (suc p)) *ℤ pos (jointAt d n x p)
+
+  unfoldable pub lowTerm : ℕ → ℕ
+  lowTerm p = remainder unit (valueAt xs (suc p)) * jointAt d n x p
+
+  pub weight-small : (p : ℕ) → jointAt d n x p ≤ unit
+  unfolding jointAt
+  weight-small p = joint-le x (levelAt d n p) (indexAt d n p) d
+
+  high-term : (p : ℕ) → inLimit (valueAt xs (suc p)) ≡ true → natAbs (highTerm p) ≤ 2 ^ 47
+  unfolding highTerm
+  high-term p e = high-size (valueAt xs (suc p)) (jointAt d n x p) e (weight-small p)
+
+  low-term : (p : ℕ) → lowTerm p ≤ 2 ^ 32
+  unfolding lowTerm
+  low-term p = low-size (valueAt xs (suc p)) (jointAt d n x p) (weight-small p)
+
+  whole-term : (p : ℕ) → weighted (valueAt xs) (jointAt d n x) p ≡ highTerm p *ℤ pos unit +ℤ pos (lowTerm p)
+  unfolding weighted highTerm lowTerm
+  whole-term p =
+      let c : ℤ = valueAt xs (suc p) in
+      let w : ℕ = jointAt d n x p in
+      ap (λ (z : ℤ). z *ℤ pos w) (sym (floor-remainder unit c unit-pos))
+      ∙ plus-times (floor unit c *ℤ pos unit) (pos (remainder unit c)) w
+      ∙ ap (λ (z : ℤ). z +ℤ pos (remainder unit c * w))
+      (sym (times-times (floor unit c) unit w)
+      ∙ ap (λ (k : ℕ). floor unit c *ℤ pos k) (mul-comm unit w)
+      ∙ times-times (floor unit c) w unit)
+
+  whole-sum : (m : ℕ) →
+      total (weighted (valueAt xs) (jointAt d n x)) m ≡ total highTerm m *ℤ pos unit +ℤ pos (sumTo lowTerm m)
+  whole-sum zero = rw (total-zero (weighted (valueAt xs) (jointAt d n x)), total-zero highTerm, sumTo-zero lowTerm) (ap pos (omega arith))
+  whole-sum (suc m) =
+      total-suc (weighted (valueAt xs) (jointAt d n x)) m
+      ∙ ap₂ _+ℤ_ (whole-sum m) (whole-term m)
+      ∙ (let a = leaf (total highTerm m *ℤ pos unit) in
+      let b = leaf (highTerm m *ℤ pos unit) in
+      let p = leaf (pos (sumTo lowTerm m)) in
+      let q = leaf (pos (lowTerm m)) in
+      equal ((a ⊕ p) ⊕ (b ⊕ q)) ((a ⊕ b) ⊕ (p ⊕ q)) (omega arith))
+      ∙ ap₂ (λ (z : ℤ) (k : ℕ). z +ℤ pos k)
+      (sym (plus-times (total highTerm m) (highTerm m) unit) ∙ ap (λ (z : ℤ). z *ℤ pos unit) (sym (total-suc highTerm m)))
+      (sym (sumTo-suc lowTerm m))
+
+  pub parts-joined : total highTerm (points d n) +ℤ pos (sumTo lowTerm (points d n) / unit) ≡ estimateAt d n (valueAt xs) x
+  unfolding estimateAt rounded weightedSum
+  parts-joined =
+      sym (ap (floor unit) (whole-sum (points d n))
+      ∙ floor-plus unit (total highTerm (points d n)) (sumTo lowTerm (points d n)) unit-pos)
+
+-- ---- the walk
+
+pub record Walked (d n : ℕ) (xs : List ℤ) (x : ℕ → ℕ) (high : ℤ) (low first sum : ℕ) (ls : List ℕ) : Type 0 where
+  pub vector : VectorIn d sum ls
+  pub here : firstOf d (at ls) ≡ first
+  pub within : first ≤ points d n
+  pub highs : high ≡ total (highTerm d n xs x) first
+  pub lows : low ≡ sumTo (lowTerm d n xs x) first
+  pub few : vectorsBefore d (at ls) ≤ 12870
+  pub high-small : natAbs high ≤ vectorsBefore d (at ls) * 2 ^ 47
+  pub low-small : low ≤ vectorsBefore d (at ls) * 2 ^ 32
+
+-- The walk starts at the vector of zeros.
+module _ (d n : ℕ) (xs : List ℤ) (x : ℕ → ℕ) (ls : List ℕ) (long : length ls ≡ 8) (zeros : (t : ℕ) → at ls t ≡ 0) where
+  no-levels : (k : ℕ) → sumTo (at ls) k ≡ 0
+  no-levels zero = sumTo-zero (at ls)
+  no-levels (suc k) = omega (arith, sumTo-suc (at ls) k, no-levels k, zeros k)
+
+  no-rank : rank (at ls) d ≡ 0
+  no-rank = rank-first (at ls) d (λ t pos h. zeros t)
+
+  none-before : vectorsBefore d (at ls) ≡ 0
+  unfolding vectorsBefore
+  none-before = rw (no-levels d, no-rank) (omega (arith, sumTo-zero (vectors d)))
+
+  pub walked-starts : Walked d n xs x (pos 0) 0 0 0 ls
+  unfolding firstOf
+  walked-starts =
+      record {
+        vector = record { long = long; total = no-levels d; rest = λ t h. zeros t };
+        here = rw (no-levels d, no-rank) (omega (arith, start-zero d));
+        within = omega arith;
+        highs = sym (total-zero (highTerm d n xs x));
+        lows = sym (sumTo-zero (lowTerm d n xs x));
+        few = omega (arith, none-before);
+        high-small = omega arith;
+        low-small = omega arith;
+      }
+
+-- Both sums leave room for one term more.
+module _ {d n : ℕ} {xs : List ℤ} {x : ℕ → ℕ} {high : ℤ} {low first sum : ℕ} {ls : List ℕ} (w : Walked d n xs x high low first sum ls) where
+  pub high-room : natAbs high ≤ 2 ^ 62
+  high-room = omega (arith, w .high-small, mul-le-mul-right (2 ^ 47) (w .few))
+
+  pub low-room : low ≤ 2 ^ 62
+  low-room = omega (arith, w .low-small, mul-le-mul-right (2 ^ 32) (w .few))
+
+  -- Before the last point the level sum is at most n.
+  pub sum-low : first < points d n → sum ≤ n
+  unfolding firstOf
+  sum-low h =
+      le-or-lt sum n (λ le. le)
+      (λ lt.
+      absurd (omega (
+        arith,
+        w .here,
+        w .vector .total,
+        points-is d n,
+        start-mono d (suc n) (sumTo (at ls) d) (omega (arith, w .vector .total)),
+      )))
+
+  module _ (h : first < points d n) (inside : (t : ℕ) → t < d → x t ≤ unit) where
+    levels-low : sumTo (at ls) d ≤ n
+    levels-low = omega (arith, w .vector .total, sum-low h)
+
+    -- The point taken is one of the table's.
+    pub taken-here : first + takenAt x (at ls) d < points d n
+    taken-here =
+        rw (sym (w .here))
+        (block-below d n (at ls) (w .vector .rest) levels-low (takenAt x (at ls) d) (taken-below x (at ls) d))
+
+    pub next-within : first + 2 ^ sum ≤ points d n
+    next-within =
+        let power : 2 ^ sumTo (at ls) d ≡ 2 ^ sum = ap (λ (k : ℕ). 2 ^ k) (w .vector .total) in
+        let last : 2 ^ sum - 1 < 2 ^ sumTo (at ls) d = omega (arith, power, pow-pos sum) in
+        omega (arith, w .here, pow-pos sum, block-below d n (at ls) (w .vector .rest) levels-low (2 ^ sum - 1) last)
+
+    others-zero : (j : ℕ) → j < 2 ^ sum → (j ≡ takenAt x (at ls) d → ⊥) → jointAt d n x (first + j) ≡ 0
+    others-zero j lt ne =
+        ap (λ (a : ℕ). jointAt d n x (a + j)) (sym (w .here))
+        ∙ block-zero d n x (at ls) (w .vector .rest) levels-low inside j (rw (w .vector .total) lt) ne
+
+    taken-in : takenAt x (at ls) d < 2 ^ sum
+    taken-in = rw (sym (w .vector .total)) (taken-below x (at ls) d)
+
+    pub high-step : total (highTerm d n xs x) (first + 2 ^ sum) ≡ high +ℤ highTerm d n xs x (first + takenAt x (at ls) d)
+    unfolding highTerm
+    high-step =
+        total-block (highTerm d n xs x) first (2 ^ sum) (takenAt x (at ls) d) taken-in
+        (λ j lt ne.
+        ap (λ (k : ℕ). floor unit (valueAt xs (suc (first + j))) *ℤ pos k) (others-zero j lt ne)
+        ∙ *ℤ-zero (floor unit (valueAt xs (suc (first + j)))))
+        ∙ ap (λ (z : ℤ). z +ℤ highTerm d n xs x (first + takenAt x (at ls) d)) (sym (w .highs))
+
+    pub low-step : sumTo (lowTerm d n xs x) (first + 2 ^ sum) ≡ low + lowTerm d n xs x (first + takenAt x (at ls) d)
+    unfolding lowTerm
+    low-step =
+        sum-block (lowTerm d n xs x) first (2 ^ sum) (takenAt x (at ls) d) taken-in
+        (λ j lt ne.
+        ap (λ (k : ℕ). remainder unit (valueAt xs (suc (first + j))) * k) (others-zero j lt ne)
+        ∙ mul-zero (remainder unit (valueAt xs (suc (first + j)))))
+        ∙ ap (λ (k : ℕ). k + lowTerm d n xs x (first + takenAt x (at ls) d)) (sym (w .lows))
+
+    -- One vector more.
+    pub walked-steps : (sum' : ℕ) (ls' : List ℕ) → 1 ≤ d → d ≤ 8 → n ≤ 8 → NextVector d sum ls sum' ls' →
+        inLimit (valueAt xs (suc (first + takenAt x (at ls) d))) ≡ true →
+        Walked d n xs x (high +ℤ highTerm d n xs x (first + takenAt x (at ls) d)) (low + lowTerm d n xs x (first + takenAt x (at ls) d))
+        (first + 2 ^ sum) sum' ls'
+    walked-steps sum' ls' some axes top next limited =
+        let p : ℕ = first + takenAt x (at ls) d in
+        record {
+          vector = next .vector;
+          here = next .first ∙ ap (λ (a : ℕ). a + 2 ^ sum) (w .here);
+          within = next-within;
+          highs = sym high-step;
+          lows = sym low-step;
+          few = omega (arith, next .count, next-counted d (at ls) some axes (omega (arith, levels-low)));
+          high-small =
+              omega (
+                arith,
+                next .count,
+                suc-mul (vectorsBefore d (at ls)) (2 ^ 47),
+                w .high-small,
+                sum-size high (highTerm d n xs x p),
+                high-term d n xs x p limited,
+                ap (λ (k : ℕ). k * 2 ^ 47) (next .count),
+              );
+          low-small =
+              omega (
+                arith,
+                next .count,
+                suc-mul (vectorsBefore d (at ls)) (2 ^ 32),
+                w .low-small,
+                low-term d n xs x p,
+                ap (λ (k : ℕ). k * 2 ^ 32) (next .count),
+              );
+        }
+
+-- Past the last point both sums are over all points.
+pub walked-ends : {d n : ℕ} {xs : List ℤ} {x : ℕ → ℕ} {high : ℤ} {low first sum : ℕ} {ls : List ℕ} → Walked d n xs x high low first sum ls →
+    points d n ≤ first → high +ℤ pos (low / unit) ≡ estimateAt d n (valueAt xs) x
+walked-ends {d} {n} {xs} {x} {high} {low} {first} w h =
+    let all-points : first ≡ points d n = omega (arith, w .within) in
+    ap₂ (λ (z : ℤ) (k : ℕ). z +ℤ pos (k / unit)) (w .highs) (w .lows)
+    ∙ ap (λ (m : ℕ). total (highTerm d n xs x) m +ℤ pos (sumTo (lowTerm d n xs x) m / unit)) all-points
+    ∙ parts-joined d n xs x
