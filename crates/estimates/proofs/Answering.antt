@@ -1,0 +1,102 @@
+-- What the estimate answers, by the first check that refuses, and what passed checks tell: all that the sum asks. Each case is the definition with its tests
+-- decided.
+-- Assumes nothing.
+use mathlib.Core.Path.{_≡_, ap, sym, _∙_}
+use mathlib.Core.Bool.{true, false}
+use mathlib.Core.List.{List}
+use Prim.Native.Nat.{ℕ, suc, _≤_, _<_, _^_}
+use native.Mathlib.Omega.{arith}
+use lib.Dec.{leb, ltb, eqb}
+use lib.IntN.{ℤ}
+use lib.ListN.{length}
+use borrow.Author.Tests.{leb-true, eqb-true}
+use Rattle.naturals.specs.Test.{all}
+use Rattle.naturals.proofs.Tests.{all-at}
+use Rattle.refusals.specs.declared.Refusal.{Refusal}
+use Rattle.refusals.specs.declared.Refusal.the-variants.{TableLength, ListLength, Coordinate, Contents, StrayBit}
+use Rattle.refusals.specs.declared.Verdict.the-variants as verdict
+use Rattle.refusals.specs.Checks.{unless}
+use Rattle.refusals.proofs.Passing.{first-passed, next-passed, test-passed}
+use Rattle.numbering.specs.Count.{points}
+use Rattle.numbering.specs.Point.{at}
+use Rattle.hierarchy.specs.Turns.{valueAt}
+use Rattle.surfaces.specs.Weights.{unit, isCoordinate}
+use Rattle.surfaces.specs.Surface.{estimateAt}
+use Rattle.shapes.specs.Shapes.{checkShape}
+use Rattle.shapes.proofs.Checked.{InRange, passed-in-range}
+use Rattle.states.specs.declared.State.{State}
+use Rattle.states.specs.States.{checkContents, checkState}
+use Rattle.tables.specs.Tables.{contentAt}
+use Rattle.tables.proofs.FirstFailing.{none-first}
+use Rattle.evaluation.specs.Steps.{Listed, Evaluable}
+use Rattle.estimates.specs.declared.Estimated.the-variants.{Value, Refused}
+use Rattle.estimates.specs.Estimates.{checkForward, coordinateAt, firstOutside, checkCoordinates, estimate}
+
+-- Where no coordinate is outside, each is at most the unit.
+each-inside : (d : ℕ) (cs : List ℕ) → d ≤ firstOutside d cs → (t : ℕ) → t < d → at cs t ≤ unit
+unfolding firstOutside coordinateAt isCoordinate
+each-inside d cs le t h = leb-true (at cs t) unit (none-first (coordinateAt cs) d le t h)
+
+module _ (s : State) (xs : List ℤ) (cs : List ℕ) where
+  pub unchecked : (r : Refusal) → checkState s (length xs) ≡ verdict.Refused r → estimate s xs cs ≡ Refused r
+  unfolding estimate
+  unchecked r e = rw e
+
+  module _ (e : checkState s (length xs) ≡ verdict.Passed) where
+    pub in-range : InRange (s .shape)
+    unfolding checkState
+    in-range = passed-in-range (s .shape) (first-passed (checkShape (s .shape)) (checkContents s (length xs)) e)
+
+    long : length xs ≡ points (s .shape .axes) (s .shape .level)
+    unfolding checkState checkContents
+    long =
+        let stray = unless (ltb (s .forward) (2 ^ (s .shape .axes))) StrayBit in
+        let places = unless (eqb (length xs) (points (s .shape .axes) (s .shape .level))) TableLength in
+        eqb-true (length xs) (points (s .shape .axes) (s .shape .level))
+        (test-passed (eqb (length xs) (points (s .shape .axes) (s .shape .level))) TableLength
+        (next-passed stray places (next-passed (checkShape (s .shape)) (checkContents s (length xs)) e)))
+
+    pub half-turned : (r : Refusal) → checkForward s ≡ verdict.Refused r → estimate s xs cs ≡ Refused r
+    unfolding estimate
+    half-turned r f = rw (e, f)
+
+    module _ (f : checkForward s ≡ verdict.Passed) where
+      pub outside : (r : Refusal) → checkCoordinates (s .shape .axes) cs ≡ verdict.Refused r → estimate s xs cs ≡ Refused r
+      unfolding estimate
+      outside r g = rw (e, f, g)
+
+      module _ (g : checkCoordinates (s .shape .axes) cs ≡ verdict.Passed) where
+        pub past-limit : all (contentAt xs) (length xs) ≡ false → estimate s xs cs ≡ Refused Contents
+        unfolding estimate
+        past-limit h = rw (e, f, g, h)
+
+        listed : Listed (s .shape .axes) cs
+        unfolding checkCoordinates
+        listed =
+            let d = s .shape .axes in
+            let lengths = unless (eqb (length cs) d) ListLength in
+            let places = unless (leb d (firstOutside d cs)) (Coordinate (suc (firstOutside d cs))) in
+            record {
+              few = in-range .high;
+              long = eqb-true (length cs) d (test-passed (eqb (length cs) d) ListLength (first-passed lengths places g));
+              coordinates =
+                  each-inside d cs
+                  (leb-true d (firstOutside d cs)
+                  (test-passed (leb d (firstOutside d cs)) (Coordinate (suc (firstOutside d cs))) (next-passed lengths places g)));
+            }
+
+        module _ (h : all (contentAt xs) (length xs) ≡ true) where
+          pub evaluable : Evaluable (s .shape .axes) (s .shape .level) xs cs
+          unfolding contentAt
+          evaluable =
+              record {
+                some = in-range .low;
+                low = in-range .top;
+                long = long;
+                contents = λ p lt. all-at (contentAt xs) (length xs) h p (omega (arith, long));
+                listed = listed;
+              }
+
+          pub estimated : estimate s xs cs ≡ Value (estimateAt (s .shape .axes) (s .shape .level) (valueAt xs) (at cs))
+          unfolding estimate
+          estimated = rw (e, f, g, h)
