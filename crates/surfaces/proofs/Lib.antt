@@ -4,3 +4,4 @@ pub mod Instance
 pub mod GridPoints
 pub mod Exact
 pub mod Cells
+pub mod Interpolates

@@ -2,7 +2,7 @@
 -- Assumes nothing.
 use mathlib.Core.Path.{_≡_}
 use mathlib.Core.List.{List, [], _∷_, map}
-use Prim.Native.Nat.{ℕ}
+use Prim.Native.Nat.{ℕ, _-_, _^_}
 use lib.IntN.{ℤ, pos, negsuc}
 use lib.ListN.{replicate}
 use Rattle.refusals.specs.declared.Verdict.the-variants.{Passed}
@@ -11,8 +11,13 @@ use Rattle.shapes.specs.declared.Counted.the-variants.{Points}
 use Rattle.shapes.specs.Shapes.{counted}
 use Rattle.numbers.specs.declared.Numbered.the-variants.{At}
 use Rattle.numbers.specs.Numbers.{numberOfPoint}
+use Rattle.states.specs.declared.State.{State}
+use Rattle.states.specs.declared.Answer.the-variants.{Done}
 use Rattle.states.specs.After.{left}
+use Rattle.tables.specs.Tables.{adopt}
 use Rattle.whole.specs.Whole.{ratesToCoefficients}
+use Rattle.estimates.specs.declared.Estimated.the-variants.{Value}
+use Rattle.estimates.specs.Estimates.{estimate as estimateOf}
 
 pub data Example : Type 0 where
   -- a shape has this many points
@@ -21,12 +26,19 @@ pub data Example : Type 0 where
   number : Shape → List ℕ → List ℕ → ℕ → Example
   -- rates of a shape have these coefficients
   coefficients : Shape → List ℤ → List ℤ → Example
+  -- coefficients of a shape, adopted, have this estimate at these coordinates
+  estimate : Shape → List ℤ → List ℕ → ℤ → Example
+
+-- The state of an adopted table: all axes forward.
+abbrev pub adopted : Shape → State
+adopted s = record { shape = s; forward = 2 ^ (s .axes) - 1 }
 
 -- What an example says: the call's definition gives the value.
 abbrev pub Holds : Example → Type 0
 Holds (count s n) = counted s ≡ Points n
 Holds (number s ls is k) = numberOfPoint s ls is ≡ At k
 Holds (coefficients s rates xs) = ratesToCoefficients s rates ≡ left Passed xs
+Holds (estimate s xs x v) = (adopt s xs ≡ Done (adopted s)) × (estimateOf (adopted s) xs x ≡ Value v)
 
 -- All examples of a list hold.
 abbrev pub AllHold : List Example → Type 0
@@ -48,4 +60,9 @@ examples =
     ∷ coefficients (shape 2 1) (pos 4 ∷ pos 3 ∷ pos 5 ∷ pos 2 ∷ pos 6 ∷ []) (pos 16 ∷ pos 4 ∷ pos 12 ∷ pos 0 ∷ pos 16 ∷ [])
     ∷ coefficients (shape 2 2) (replicate 17 (pos 1))
     (map pos (4 ∷ 2 ∷ 2 ∷ 2 ∷ 2 ∷ 2 ∷ 0 ∷ 0 ∷ 2 ∷ 1 ∷ 1 ∷ 1 ∷ 1 ∷ 2 ∷ 0 ∷ 0 ∷ 2 ∷ []))
+    ∷ estimate (shape 1 1) (pos 6 ∷ pos 7 ∷ pos 11 ∷ []) (16384 ∷ []) (pos 10)
+    ∷ estimate (shape 1 1) (pos 6 ∷ pos 7 ∷ pos 11 ∷ []) (8192 ∷ []) (pos 5)
+    ∷ estimate (shape 1 1) (pos 6 ∷ pos 7 ∷ pos 11 ∷ []) (0 ∷ []) (pos 0)
+    ∷ estimate (shape 1 1) (pos 6 ∷ pos 7 ∷ pos 11 ∷ []) (1 ∷ []) (pos 0)
+    ∷ estimate (shape 1 1) (negsuc 5 ∷ negsuc 6 ∷ negsuc 10 ∷ []) (1 ∷ []) (negsuc 0)
     ∷ []

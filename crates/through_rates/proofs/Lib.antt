@@ -1,0 +1,2 @@
+pub mod ThroughRates
+pub mod EstimateIsRate
