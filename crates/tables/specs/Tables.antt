@@ -56,11 +56,15 @@ load s xs =
 unfoldable pub contentAt : List ℤ → ℕ → Bool
 contentAt xs p = inLimit (valueAt xs (suc p))
 
+-- The state of an adopted table: all axes forward.
+abbrev pub adopted : Shape → State
+adopted s = record { shape = s; forward = 2 ^ (s .axes) - 1 }
+
 -- Adopt: coefficients, unchanged, all axes forward.
 unfoldable pub adopt : Shape → List ℤ → Answer
 adopt s xs =
     answer Refused (checkTable s xs andThen unless (all (contentAt xs) (length xs)) Contents)
-    (Done (record { shape = s; forward = 2 ^ (s .axes) - 1 }))
+    (Done (adopted s))
 
 -- A value divided by 2^d, rounded down.
 unfoldable pub quotient : ℕ → ℤ → ℤ

@@ -18,7 +18,7 @@ use Rattle.hierarchy.specs.Sets.{tableOf}
 use Rattle.hierarchy.proofs.Values.{value-zero, value-suc, values-at}
 use Rattle.zero_border.specs.ZeroBorder.{neighbour}
 use Rattle.surfaces.specs.Weights.{unit}
-use Rattle.surfaces.specs.Surface.{coordinatesOf, surface, exactValue}
+use Rattle.surfaces.specs.Surface.{coordinatesOf, exactValue, Exactly}
 use Rattle.surfaces.specs.Lines.{lineSum}
 use Rattle.surfaces.proofs.Interpolates.{surface-through, only-surface, line-through}
 use Rattle.shapes.specs.declared.Shape.{Shape}
@@ -26,6 +26,7 @@ use Rattle.shapes.proofs.Checked.{InRange, passed-in-range}
 use Rattle.states.specs.declared.State.{State}
 use Rattle.states.specs.declared.Answer.the-variants.{Done}
 use Rattle.states.specs.After.{after}
+use Rattle.tables.specs.Tables.{times}
 use Rattle.turns.specs.Turns.{isAccepted, forwardTurn}
 use Rattle.turns.proofs.Checking.{place-of}
 use Rattle.turns.proofs.Undoing.{turned-holds}
@@ -48,20 +49,21 @@ module _ (s : Shape) (rs : List ℤ) (a : Accepted s rs) where
 
   -- The surface passes through every rate, times 2^d.
   pub surface-of-coefficients : (q : ℕ) → q < points (s .axes) (s .level) →
-      exactValue (s .axes) (s .level) (valueAt (coefficientsOf s rs)) (coordinatesOf (s .axes) (s .level) q)
-      ≡ record { numerator = getD rs q (pos 0) *ℤ pos (2 ^ (s .axes)) *ℤ pos (unit ^ (s .axes)); denominator = unit ^ (s .axes) }
+      Exactly (exactValue (s .axes) (s .level) (valueAt (coefficientsOf s rs)) (coordinatesOf (s .axes) (s .level) q))
+      (times (s .axes) (getD rs q (pos 0)))
+  unfolding times
   surface-of-coefficients q h =
-      ap (λ (z : ℤ). record { numerator = z; denominator = unit ^ (s .axes) })
-      (surface-through (s .axes) (s .level) (range .low) (range .top) (valueAt (coefficientsOf s rs)) (valueAt rs) (value-zero rs)
+      surface-through (s .axes) (s .level) (range .low) (range .top) (valueAt (coefficientsOf s rs)) (valueAt rs) (value-zero rs)
       (coefficients-at s rs) q h
-      ∙ ap (λ (z : ℤ). z *ℤ pos (2 ^ (s .axes)) *ℤ pos (unit ^ (s .axes))) (value-suc rs q))
+      ∙ ap (λ (z : ℤ). z *ℤ pos (2 ^ (s .axes)) *ℤ pos (unit ^ (s .axes))) (value-suc rs q)
 
   -- No other coefficients have such a surface.
   pub only-coefficients-through : (xs : List ℤ) → length xs ≡ points (s .axes) (s .level) →
       ((q : ℕ) → q < points (s .axes) (s .level) →
-      surface (s .axes) (s .level) (valueAt xs) (coordinatesOf (s .axes) (s .level) q)
-      ≡ getD rs q (pos 0) *ℤ pos (2 ^ (s .axes)) *ℤ pos (unit ^ (s .axes))) →
+      Exactly (exactValue (s .axes) (s .level) (valueAt xs) (coordinatesOf (s .axes) (s .level) q))
+      (times (s .axes) (getD rs q (pos 0)))) →
       xs ≡ coefficientsOf s rs
+  unfolding times
   only-coefficients-through xs long through =
       ext-getD (pos 0) xs (coefficientsOf s rs) (long ∙ sym (coefficients-length s (range .top) rs))
       (λ i h. at-place i (omega arith))
