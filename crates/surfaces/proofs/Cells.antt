@@ -61,6 +61,8 @@ module _ (x l i : ℕ → ℕ) where
 -- ---- the points of a shape
 
 module _ (d n : ℕ) (x : ℕ → ℕ) where
+  -- A point whose joint weight is above 0 has on each axis the index of the cell in which the coordinate lies. At the coordinate `unit` itself no point has a
+  -- weight above 0.
   pub which-point : (p : ℕ) → p < points d n → 0 < jointAt d n x p →
       (t : ℕ) → t < d → indexAt d n p t ≡ 2 * (x t * 2 ^ levelAt d n p t / unit) + 1
   unfolding jointAt weightOn
