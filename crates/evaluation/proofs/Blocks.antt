@@ -4,17 +4,14 @@
 use mathlib.Core.Path.{_≡_, refl, ap, ap₂, sym, _∙_}
 use mathlib.Core.Logic.{⊎-elim}
 use Prim.Native.Nat.{ℕ, zero, suc, _+_, _*_, _/_, _%_, _^_, _≤_, _<_}
-use native.Mathlib.Nat.{add-zero, add-suc, eq-zero-or-pos}
+use native.Mathlib.Nat.{eq-zero-or-pos}
 use native.Mathlib.Omega.{arith}
 use lib.Dec.{ltb}
-use lib.IntN.{ℤ, pos, _+ℤ_, +ℤ-idr}
 use borrow.Author.Tests.{lt-ltb, le-ltb}
 use Rattle.naturals.specs.Sum.{sumTo}
 use Rattle.naturals.specs.Test.{if_then_else_}
-use Rattle.naturals.proofs.Cases.{le-or-lt, eq-or-not}
-use Rattle.naturals.proofs.Sums.{sumTo-suc, sumTo-cong}
-use Rattle.integers.specs.Total.{total}
-use Rattle.integers.proofs.Totals.{total-suc}
+use Rattle.naturals.proofs.Cases.{le-or-lt}
+use Rattle.naturals.proofs.Sums.{sumTo-cong}
 use Rattle.numbering.specs.Count.{points}
 use Rattle.numbering.specs.Point.{IsPoint}
 use Rattle.numbering.specs.Number.{number, digit, position}
@@ -29,54 +26,6 @@ use Rattle.surfaces.proofs.GridPoints.{joint-zero, joint-suc}
 use Rattle.surfaces.proofs.Cells.{only-half, joint-above}
 use Rattle.evaluation.specs.Steps.{placeOf, firstOf, indexOfPlace}
 use Rattle.evaluation.proofs.Weighing.{place-inside, index-below as taken-within}
-
--- ---- sums of which one term of the last b is left
-
-sum-none : (f : ℕ → ℕ) (a b : ℕ) → ((j : ℕ) → j < b → f (a + j) ≡ 0) → sumTo f (a + b) ≡ sumTo f a
-sum-none f a zero none = ap (sumTo f) (add-zero a)
-sum-none f a (suc b) none =
-    omega (
-      arith,
-      ap (sumTo f) (add-suc a b),
-      sumTo-suc f (a + b),
-      sum-none f a b (λ j h. none j (omega arith)),
-      none b (omega arith),
-    )
-
-pub sum-block : (f : ℕ → ℕ) (a b q : ℕ) → q < b → ((j : ℕ) → j < b → (j ≡ q → ⊥) → f (a + j) ≡ 0) →
-    sumTo f (a + b) ≡ sumTo f a + f (a + q)
-sum-block f a zero q h others = absurd (omega arith)
-sum-block f a (suc b) q h others =
-    ap (sumTo f) (add-suc a b)
-    ∙ sumTo-suc f (a + b)
-    ∙ eq-or-not q b
-    (λ e. ap₂ _+_ (sum-none f a b (λ j lt. others j (omega arith) (λ i. omega arith))) (ap (λ (j : ℕ). f (a + j)) (sym e)))
-    (λ e.
-    omega (
-      arith,
-      sum-block f a b q (omega arith) (λ j lt ne. others j (omega arith) ne),
-      others b (omega arith) (λ i. e (sym i)),
-    ))
-
-total-none-past : (f : ℕ → ℤ) (a b : ℕ) → ((j : ℕ) → j < b → f (a + j) ≡ pos 0) → total f (a + b) ≡ total f a
-total-none-past f a zero none = ap (total f) (add-zero a)
-total-none-past f a (suc b) none =
-    ap (total f) (add-suc a b)
-    ∙ total-suc f (a + b)
-    ∙ ap₂ _+ℤ_ (total-none-past f a b (λ j h. none j (omega arith))) (none b (omega arith))
-    ∙ +ℤ-idr (total f a)
-
-pub total-block : (f : ℕ → ℤ) (a b q : ℕ) → q < b → ((j : ℕ) → j < b → (j ≡ q → ⊥) → f (a + j) ≡ pos 0) →
-    total f (a + b) ≡ total f a +ℤ f (a + q)
-total-block f a zero q h others = absurd (omega arith)
-total-block f a (suc b) q h others =
-    ap (total f) (add-suc a b)
-    ∙ total-suc f (a + b)
-    ∙ eq-or-not q b
-    (λ e. ap₂ _+ℤ_ (total-none-past f a b (λ j lt. others j (omega arith) (λ i. omega arith))) (ap (λ (j : ℕ). f (a + j)) (sym e)))
-    (λ e.
-    ap₂ _+ℤ_ (total-block f a b q (omega arith) (λ j lt ne. others j (omega arith) ne)) (others b (omega arith) (λ i. e (sym i)))
-    ∙ +ℤ-idr (total f a +ℤ f (a + q)))
 
 -- ---- the points of a level vector
 

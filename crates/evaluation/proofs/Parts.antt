@@ -18,7 +18,7 @@ use Rattle.integers.proofs.Floors.{shift-floor, remainder-lt}
 use Rattle.integers.proofs.Products.{size-times}
 use Rattle.integers.proofs.Sizes.{limit-size, sum-size}
 use Rattle.surfaces.specs.Weights.{unit}
-use Rattle.evaluation.proofs.Weighing.{unit-is}
+use Rattle.surfaces.proofs.Unit.{unit-is}
 
 -- Below 2^63, a number is one of 64 bits.
 pub fits-below : (z : ℤ) → natAbs z < 2 ^ 63 → SFits w64 z

@@ -11,8 +11,9 @@ use lib.Seq.{getD-set-same, getD-set-other}
 use Rattle.naturals.proofs.Cases.{eq-or-not}
 use Rattle.numbering.specs.Point.{at}
 use Rattle.surfaces.specs.Weights.{weight}
+use Rattle.surfaces.proofs.Cells.{weight-le}
 use Rattle.evaluation.specs.Steps.{placeOf, indexOfPlace, entry, Tabulated, Bounded}
-use Rattle.evaluation.proofs.Weighing.{place-below, weight-le}
+use Rattle.evaluation.proofs.Weighing.{place-below}
 
 pub record Tabulating (x : ℕ → ℕ) (d : ℕ) (ws ps : List ℕ) (k t level : ℕ) : Type 0 where
   pub within : k ≤ 9 * d

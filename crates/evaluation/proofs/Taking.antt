@@ -15,16 +15,16 @@ use Rattle.naturals.proofs.Sums.{sumTo-zero, sumTo-suc, sumTo-mono}
 use Rattle.numbering.specs.Point.{at}
 use Rattle.numbering.proofs.Position.{pow-sum}
 use Rattle.surfaces.specs.Weights.{unit}
+use Rattle.surfaces.proofs.Unit.{unit-is}
 use Rattle.evaluation.specs.Steps.{entry, read, jointOf, stepOf, positionOf, Bounded}
-use Rattle.evaluation.proofs.Weighing.{unit-is}
 
-pub joint-zero : (ws : List ℕ) (l : ℕ → ℕ) → jointOf ws l 0 ≡ unit
+pub jointOf-zero : (ws : List ℕ) (l : ℕ → ℕ) → jointOf ws l 0 ≡ unit
 unfolding jointOf
-joint-zero ws l = refl
+jointOf-zero ws l = refl
 
-pub joint-suc : (ws : List ℕ) (l : ℕ → ℕ) (k : ℕ) → jointOf ws l (suc k) ≡ jointOf ws l k * at ws (entry k (l k)) / unit
+pub jointOf-suc : (ws : List ℕ) (l : ℕ → ℕ) (k : ℕ) → jointOf ws l (suc k) ≡ jointOf ws l k * at ws (entry k (l k)) / unit
 unfolding jointOf read
-joint-suc ws l k = refl
+jointOf-suc ws l k = refl
 
 pub position-zero : (ps : List ℕ) (l : ℕ → ℕ) → positionOf ps l 0 ≡ 0
 unfolding positionOf
@@ -49,11 +49,11 @@ module _ {d : ℕ} {ws ps : List ℕ} (bounded : Bounded d ws ps) (l : ℕ → �
   weight-le t h = bounded .weight t (l t) h (omega (arith, level-le t h))
 
   pub joint-le : (k : ℕ) → k ≤ d → jointOf ws l k ≤ unit
-  joint-le zero h = omega (arith, joint-zero ws l)
+  joint-le zero h = omega (arith, jointOf-zero ws l)
   joint-le (suc k) h =
       omega (
         arith,
-        joint-suc ws l k,
+        jointOf-suc ws l k,
         part-le (jointOf ws l k) (at ws (entry k (l k))) (joint-le k (omega arith)) (weight-le k h),
       )
 
@@ -80,7 +80,7 @@ taken-starts ws ps l d =
       axis = omega arith;
       total = sym (sumTo-zero l);
       packed = sym (position-zero ps l);
-      weighed = sym (joint-zero ws l ∙ unit-is);
+      weighed = sym (jointOf-zero ws l ∙ unit-is);
     }
 
 module _ {d : ℕ} {ws ps : List ℕ} {l : ℕ → ℕ} {t position joint sum : ℕ} (bounded : Bounded d ws ps) (few : sumTo l d ≤ 8)
@@ -122,7 +122,7 @@ module _ {d : ℕ} {ws ps : List ℕ} {l : ℕ → ℕ} {t position joint sum : 
         total = rw add-one (omega (arith, sumTo-suc l t));
         packed = rw add-one turned;
         weighed =
-            rw (add-one, joint-suc ws l t, ← state .weighed) (ap (λ (u : ℕ). joint * at ws (entry t (l t)) / u) (sym unit-is));
+            rw (add-one, jointOf-suc ws l t, ← state .weighed) (ap (λ (u : ℕ). joint * at ws (entry t (l t)) / u) (sym unit-is));
       }
 
 pub taken-ends : {ws ps : List ℕ} {l : ℕ → ℕ} {d t position joint sum : ℕ} → Taken ws ps l d t position joint sum → d ≤ t →

@@ -15,7 +15,7 @@ use borrow.Author.Tests.{leb-true}
 use Rattle.naturals.specs.Sum.{sumTo}
 use Rattle.naturals.specs.Test.{all}
 use Rattle.naturals.proofs.Cases.{le-or-lt}
-use Rattle.naturals.proofs.Sums.{sumTo-zero, sumTo-suc, sumTo-mono}
+use Rattle.naturals.proofs.Sums.{sumTo-zero, sumTo-suc, sumTo-mono, sum-block}
 use Rattle.naturals.proofs.Tests.{all-at}
 use Rattle.integers.specs.Floor.{floor, remainder}
 use Rattle.integers.specs.Half.{inLimit}
@@ -24,7 +24,7 @@ use Rattle.integers.proofs.Floors.{floor-remainder, floor-plus}
 use Rattle.integers.proofs.Linear.{leaf, _⊕_, equal}
 use Rattle.integers.proofs.Products.{times-times, plus-times}
 use Rattle.integers.proofs.Sizes.{sum-size}
-use Rattle.integers.proofs.Totals.{total-zero, total-suc}
+use Rattle.integers.proofs.Totals.{total-zero, total-suc, total-block}
 use Rattle.numbering.specs.Binomial.{choose}
 use Rattle.numbering.specs.Count.{vectors, start, points}
 use Rattle.numbering.specs.Inverse.{levelAt, indexAt}
@@ -41,7 +41,7 @@ use Rattle.surfaces.specs.Surface.{jointAt, rounded, estimateAt}
 use Rattle.surfaces.proofs.Cells.{joint-le}
 use Rattle.surfaces.proofs.Unit.{unit-pos}
 use Rattle.evaluation.specs.Steps.{VectorIn, firstOf, vectorsBefore, NextVector, Evaluable}
-use Rattle.evaluation.proofs.Blocks.{sum-block, total-block, block-below, takenAt, taken-below, block-zero}
+use Rattle.evaluation.proofs.Blocks.{block-below, takenAt, taken-below, block-zero}
 use Rattle.evaluation.proofs.Parts.{high-size, low-size}
 
 -- ---- how many level vectors there are

@@ -1,19 +1,16 @@
 -- The shifts of weights and places lose nothing: coordinates are at most 2^16, levels at most 8 and indices below 2^9, so all stays far below 2^64.
 -- Assumes nothing.
-use mathlib.Core.Path.{_≡_, refl, ap, sym, _∙_}
-use Prim.Native.Nat.{ℕ, suc, _+_, _-_, _*_, _/_, _%_, _^_, _≤_, _<_}
+use mathlib.Core.Path.{_≡_, ap, sym, _∙_}
+use Prim.Native.Nat.{ℕ, suc, _+_, _*_, _/_, _%_, _^_, _≤_, _<_}
 use native.Mathlib.Nat.{suc-mul, mul-comm, mul-le-mul-right, pow-suc, div-lt-iff-lt-mul}
 use native.Mathlib.Numerals.{add-one}
 use native.Mathlib.Omega.{arith}
 use lib.Pow.{pow-pos, shl-exact}
 use borrow.Author.Tests.{lt-ltb, le-ltb}
 use Rattle.naturals.proofs.Cases.{le-or-lt}
-use Rattle.surfaces.specs.Weights.{unit, distance, weight}
+use Rattle.surfaces.specs.Weights.{unit}
+use Rattle.surfaces.proofs.Unit.{unit-is}
 use Rattle.evaluation.specs.Steps.{placeOf, indexOfPlace}
-
-pub unit-is : unit ≡ 2 ^ 16
-unfolding unit
-unit-is = refl
 
 module _ (x l : ℕ) (small : x ≤ unit) (low : l ≤ 8) where
   pub here-shifted : x * 2 ^ (l + 1) % 2 ^ 64 ≡ x * 2 ^ suc l
@@ -47,12 +44,3 @@ module _ (x l : ℕ) where
 
   pub index-below : indexOfPlace (placeOf x l) < 2 ^ suc l
   index-below = omega (arith, place-below, pow-suc 2 l)
-
--- What is left of the unit where the distance is larger: nothing.
-module _ (x l i : ℕ) where
-  pub weight-is : weight x l i ≡ unit - distance (x * 2 ^ suc l) (i * unit)
-  unfolding weight
-  weight-is = refl
-
-  pub weight-le : weight x l i ≤ unit
-  weight-le = omega (arith, weight-is)

@@ -15,6 +15,7 @@ use Rattle.integers.proofs.Linear.{leaf, _⊕_, ⊖_, equal, known}
 use Rattle.numbering.specs.declared.Side.the-variants.{Left, Right}
 use Rattle.hierarchy.specs.Grid.{Neighbours, Grid}
 use Rattle.hierarchy.specs.Turns.{sumOn, forward}
+use Rattle.hierarchy.specs.Sets.{everyAxis, noAxis}
 use Rattle.hierarchy.proofs.Turned.{turned}
 use Rattle.hierarchy.proofs.Closed.{closed, With}
 use Rattle.interpolation.specs.Weighted.{weightedSum}
@@ -27,7 +28,6 @@ use Rattle.interpolation.proofs.Injective.{
   multiple,
   multiple-at,
   multiple-zero,
-  everyAxis,
   turned-multiple,
   turned-cong,
   turned-zero,
@@ -41,9 +41,6 @@ use Rattle.interpolation.proofs.Injective.{
 }
 
 -- ---- sets of axes
-
-abbrev pub noAxis : ℕ → Bool
-noAxis t = false
 
 -- The first k axes.
 unfoldable below : ℕ → ℕ → Bool

@@ -17,7 +17,7 @@ use Rattle.integers.proofs.Floors.{floor-unique}
 use Rattle.numbering.specs.Count.{points}
 use Rattle.numbering.specs.Inverse.{levelAt, indexAt}
 use Rattle.hierarchy.specs.Turns.{sumOn, forward}
-use Rattle.hierarchy.specs.Sets.{tableOf}
+use Rattle.hierarchy.specs.Sets.{tableOf, everyAxis, noAxis}
 use Rattle.hierarchy.specs.Work.{put}
 use Rattle.hierarchy.proofs.Work.{put-same, put-other}
 use Rattle.hierarchy.proofs.Closed.{table-closed}
@@ -28,8 +28,7 @@ use Rattle.interpolation.specs.Hats.{indicator, factor, factors}
 use Rattle.interpolation.proofs.Products.{prodTo-cong, prodTo-split}
 use Rattle.interpolation.proofs.Weighted.{weightedSum-cong}
 use Rattle.interpolation.proofs.Partly.{prodTo-indicator}
-use Rattle.interpolation.proofs.Injective.{everyAxis}
-use Rattle.interpolation.proofs.Through.{noAxis, others, others-in, others-out, passes-through, only-coefficients, line-sums}
+use Rattle.interpolation.proofs.Through.{others, others-in, others-out, passes-through, only-coefficients, line-sums}
 use Rattle.surfaces.specs.Weights.{unit, weightOn}
 use Rattle.surfaces.specs.Surface.{coordinatesOf, productAt, jointAt, surface, rounded, estimateAt}
 use Rattle.surfaces.specs.Lines.{sameBeside, onLine, lineWeight, lineSum}

@@ -23,6 +23,7 @@ use Rattle.numbering.specs.Point.{at}
 use Rattle.numbering.specs.Inverse.{levelAt, indexAt}
 use Rattle.numbering.proofs.Numbering.{index-zero, point-of-number}
 use Rattle.hierarchy.specs.Turns.{valueAt}
+use Rattle.hierarchy.specs.Sets.{everyAxis}
 use Rattle.hierarchy.proofs.Values.{value-zero, value-suc, value-past}
 use Rattle.hierarchy.proofs.Bounds.{table-in-limit}
 use Rattle.zero_border.specs.ZeroBorder.{neighbour}
@@ -39,13 +40,13 @@ use Rattle.tables.proofs.FirstFailing.{first-none}
 use Rattle.tables.proofs.Checking.{table-passes}
 use Rattle.tables.proofs.Answering.{adopt-done}
 use Rattle.whole.specs.Accepted.{Accepted}
-use Rattle.whole.specs.Whole.{allAxes, coefficientsOf}
+use Rattle.whole.specs.Whole.{coefficientsOf}
 use Rattle.whole.proofs.Inverse.{coefficients-length}
+use Rattle.whole.proofs.AnswersDown.{coefficient-at}
 use Rattle.estimates.specs.declared.Estimated.the-variants.{Value}
 use Rattle.estimates.specs.Estimates.{firstSampled, checkForward, coordinateAt, firstOutside, checkCoordinates, estimate}
 use Rattle.estimates.proofs.Answering.{estimated}
 use Rattle.through_rates.specs.Coordinates.{firstValues, coordinateList}
-use Rattle.through_rates.proofs.ThroughRates.{coefficients-at}
 
 -- ---- the list of coordinates
 
@@ -146,8 +147,8 @@ module _ (s : Shape) (rs : List ℤ) (a : Accepted s rs) where
   contents-pass =
       all-from (contentAt (coefficientsOf s rs)) (length (coefficientsOf s rs))
       (λ p h.
-      ap inLimit (coefficients-at s rs p (omega (arith, coefficients-length s (range .top) rs)))
-      ∙ table-in-limit (neighbour (s .axes) (s .level)) allAxes (s .axes) (valueAt rs) (range .high) rate-small (suc p))
+      ap inLimit (coefficient-at s rs p (omega (arith, coefficients-length s (range .top) rs)))
+      ∙ table-in-limit (neighbour (s .axes) (s .level)) everyAxis (s .axes) (valueAt rs) (range .high) rate-small (suc p))
 
   -- The coefficients can be adopted.
   pub adopted-coefficients : adopt s (coefficientsOf s rs) ≡ Done (adopted s)
@@ -165,5 +166,5 @@ module _ (s : Shape) (rs : List ℤ) (a : Accepted s rs) where
       ∙ ap Value
       (ap (estimateAt (s .axes) (s .level) (valueAt (coefficientsOf s rs))) (list-holds s q)
       ∙ estimate-through (s .axes) (s .level) (range .low) (range .top) (valueAt (coefficientsOf s rs)) (valueAt rs) (value-zero rs)
-      (coefficients-at s rs) q h
+      (coefficient-at s rs) q h
       ∙ ap (times (s .axes)) (value-suc rs q))

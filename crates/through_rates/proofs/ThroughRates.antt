@@ -14,8 +14,7 @@ use Rattle.integers.specs.Half.{isEven, inLimit}
 use Rattle.numbering.specs.Count.{points}
 use Rattle.hierarchy.specs.Grid.{Neighbours}
 use Rattle.hierarchy.specs.Turns.{valueAt, sumOn, forward, acceptedAt, accepted}
-use Rattle.hierarchy.specs.Sets.{tableOf}
-use Rattle.hierarchy.proofs.Values.{value-zero, value-suc, values-at}
+use Rattle.hierarchy.proofs.Values.{value-zero, value-suc}
 use Rattle.zero_border.specs.ZeroBorder.{neighbour}
 use Rattle.surfaces.specs.Weights.{unit}
 use Rattle.surfaces.specs.Surface.{coordinatesOf, exactValue, Exactly}
@@ -32,16 +31,9 @@ use Rattle.turns.proofs.Checking.{place-of}
 use Rattle.turns.proofs.Undoing.{turned-holds}
 use Rattle.turns.proofs.BothWays.{went-forward}
 use Rattle.whole.specs.Accepted.{Accepted}
-use Rattle.whole.specs.Whole.{allAxes, coefficientsOf}
+use Rattle.whole.specs.Whole.{coefficientsOf}
 use Rattle.whole.proofs.Inverse.{coefficients-length}
-
--- What the list of coefficients holds at a point.
-pub coefficients-at : (s : Shape) (rs : List ℤ) (q : ℕ) → q < points (s .axes) (s .level) →
-    valueAt (coefficientsOf s rs) (suc q) ≡ tableOf (neighbour (s .axes) (s .level)) (s .axes) allAxes (valueAt rs) (suc q)
-unfolding coefficientsOf
-coefficients-at s rs q h =
-    value-suc (coefficientsOf s rs) q
-    ∙ values-at (points (s .axes) (s .level)) (tableOf (neighbour (s .axes) (s .level)) (s .axes) allAxes (valueAt rs)) q h
+use Rattle.whole.proofs.AnswersDown.{coefficient-at}
 
 module _ (s : Shape) (rs : List ℤ) (a : Accepted s rs) where
   range : InRange s
@@ -54,7 +46,7 @@ module _ (s : Shape) (rs : List ℤ) (a : Accepted s rs) where
   unfolding times
   surface-of-coefficients q h =
       surface-through (s .axes) (s .level) (range .low) (range .top) (valueAt (coefficientsOf s rs)) (valueAt rs) (value-zero rs)
-      (coefficients-at s rs) q h
+      (coefficient-at s rs) q h
       ∙ ap (λ (z : ℤ). z *ℤ pos (2 ^ (s .axes)) *ℤ pos (unit ^ (s .axes))) (value-suc rs q)
 
   -- No other coefficients have such a surface.
@@ -75,7 +67,7 @@ module _ (s : Shape) (rs : List ℤ) (a : Accepted s rs) where
           (λ q lt.
           through q lt ∙ ap (λ (z : ℤ). z *ℤ pos (2 ^ (s .axes)) *ℤ pos (unit ^ (s .axes))) (sym (value-suc rs q)))
           i h
-          ∙ sym (coefficients-at s rs i h)
+          ∙ sym (coefficient-at s rs i h)
           ∙ value-suc (coefficientsOf s rs) i
 
 -- An accepted turn has an even sum at each point.

@@ -8,7 +8,7 @@ use mir.ValLaws.{toZ-ofZ}
 use borrow.Author.Needs.{needs}
 use Rattle.integers.specs.Floor.{floor}
 use Rattle.surfaces.specs.Weights.{unit}
-use Rattle.evaluation.proofs.Weighing.{unit-is}
+use Rattle.surfaces.proofs.Unit.{unit-is}
 use Rattle.evaluation.proofs.Parts.{high-product, high-product-fits, high-sum-fits}
 use Rattle.evaluation.proofs.add_high.Statement.{statement}
 use Rattle.evaluation.proofs.add_high.Tie as tie

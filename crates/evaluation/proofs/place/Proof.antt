@@ -4,7 +4,8 @@ use mathlib.Core.Path.{ap₂, sym, _∙_}
 use Prim.Native.Nat.{ℕ, _/_}
 use native.Mathlib.Omega.{arith}
 use borrow.Author.Needs.{needs}
-use Rattle.evaluation.proofs.Weighing.{unit-is, cell-shifted, place-inside, place-border}
+use Rattle.surfaces.proofs.Unit.{unit-is}
+use Rattle.evaluation.proofs.Weighing.{cell-shifted, place-inside, place-border}
 use Rattle.evaluation.proofs.place.Statement.{statement}
 use Rattle.evaluation.proofs.place.Tie as tie
 

@@ -5,7 +5,9 @@ use Prim.Native.Nat.{ℕ, suc, _*_, _^_}
 use native.Mathlib.Omega.{arith}
 use borrow.Author.Needs.{needs}
 use Rattle.surfaces.specs.Weights.{unit, distance}
-use Rattle.evaluation.proofs.Weighing.{unit-is, here-shifted, centre-shifted, weight-is}
+use Rattle.surfaces.proofs.Cells.{weight-is}
+use Rattle.surfaces.proofs.Unit.{unit-is}
+use Rattle.evaluation.proofs.Weighing.{here-shifted, centre-shifted}
 use Rattle.evaluation.proofs.weight.Statement.{statement}
 use Rattle.evaluation.proofs.weight.Tie as tie
 
