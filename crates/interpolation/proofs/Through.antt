@@ -19,9 +19,9 @@ use Rattle.hierarchy.specs.Sets.{everyAxis, noAxis}
 use Rattle.hierarchy.proofs.Turned.{turned}
 use Rattle.hierarchy.proofs.Closed.{closed, With}
 use Rattle.interpolation.specs.Weighted.{weightedSum}
-use Rattle.interpolation.specs.Hats.{Weights, Agreement, Hats, factors}
+use Rattle.interpolation.specs.Hats.{Weights, Agreement, Hats}
 use Rattle.integers.proofs.Products.{times-plus, times-one, times-times, plus-times, times-cancel}
-use Rattle.interpolation.proofs.Partly.{partly, partly-zero, partly-all, partly-turn}
+use Rattle.interpolation.proofs.Partly.{factors, partly, partly-zero, partly-all, partly-turn}
 use Rattle.interpolation.proofs.Injective.{
   Agree,
   agree-from,

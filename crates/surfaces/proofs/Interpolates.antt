@@ -24,10 +24,10 @@ use Rattle.hierarchy.proofs.Closed.{table-closed}
 use Rattle.zero_border.specs.ZeroBorder.{neighbour, depth}
 use Rattle.zero_border.proofs.Instance.{zero-border}
 use Rattle.interpolation.specs.Weighted.{weightedSum}
-use Rattle.interpolation.specs.Hats.{indicator, factor, factors}
+use Rattle.interpolation.specs.Hats.{indicator}
 use Rattle.interpolation.proofs.Products.{prodTo-cong, prodTo-split}
 use Rattle.interpolation.proofs.Weighted.{weightedSum-cong}
-use Rattle.interpolation.proofs.Partly.{prodTo-indicator}
+use Rattle.interpolation.proofs.Partly.{prodTo-indicator, factor, factors}
 use Rattle.interpolation.proofs.Through.{others, others-in, others-out, passes-through, only-coefficients, line-sums}
 use Rattle.surfaces.specs.Weights.{unit, weightOn}
 use Rattle.surfaces.specs.Surface.{coordinatesOf, productAt, jointAt, surface, rounded, estimateAt}
