@@ -24,8 +24,8 @@ use Rattle.surfaces.specs.Surface.{jointAt}
 use Rattle.surfaces.proofs.Hat.{weight-high}
 use Rattle.surfaces.proofs.GridPoints.{joint-zero, joint-suc}
 use Rattle.surfaces.proofs.Cells.{only-half, joint-above}
-use Rattle.evaluation.specs.Steps.{placeOf, firstOf, indexOfPlace}
-use Rattle.evaluation.proofs.Weighing.{place-inside, index-below as taken-within}
+use Rattle.evaluation.specs.Steps.{cellOf, firstOf, indexOfCell}
+use Rattle.evaluation.proofs.Weighing.{cell-inside, index-below as taken-within}
 
 -- ---- the points of a level vector
 
@@ -96,10 +96,10 @@ module _ (d n : ℕ) (l : ℕ → ℕ) (rest : (t : ℕ) → d ≤ t → l t ≡
 module _ (x l : ℕ → ℕ) where
   -- Its index on axis t, what the axis adds to its position, and the position.
   unfoldable pub takenIndex : ℕ → ℕ
-  takenIndex t = indexOfPlace (placeOf (x t) (l t))
+  takenIndex t = indexOfCell (cellOf (x t) (l t))
 
   unfoldable pub takenStep : ℕ → ℕ
-  takenStep t = placeOf (x t) (l t) * 2 ^ sumTo l t
+  takenStep t = cellOf (x t) (l t) * 2 ^ sumTo l t
 
   unfoldable pub takenAt : ℕ → ℕ
   takenAt d = sumTo takenStep d
@@ -147,7 +147,7 @@ module _ (d n : ℕ) (x l : ℕ → ℕ) (rest : (t : ℕ) → d ≤ t → l t �
           arith,
           index-odd l j t,
           only-half (x t) (l t) (indexOf l j t) (index-odd l j t) some,
-          place-inside (x t) (l t) within,
+          cell-inside (x t) (l t) within,
         ))
 
     pub block-zero : (j ≡ takenAt x l d → ⊥) → jointAt d n x (firstOf d l + j) ≡ 0

@@ -44,7 +44,7 @@ use Rattle.whole.specs.Whole.{coefficientsOf}
 use Rattle.whole.proofs.Inverse.{coefficients-length}
 use Rattle.whole.proofs.AnswersDown.{coefficient-at}
 use Rattle.estimates.specs.declared.Estimated.the-variants.{Value}
-use Rattle.estimates.specs.Estimates.{firstSampled, checkForward, coordinateAt, firstOutside, checkCoordinates, estimate}
+use Rattle.estimates.specs.Estimates.{firstSampled, checkForward, insideAt, firstOutside, checkCoordinates, estimate}
 use Rattle.estimates.proofs.Answering.{estimated}
 use Rattle.through_rates.specs.Coordinates.{firstValues, coordinateList}
 
@@ -97,8 +97,8 @@ module _ (s : Shape) (q : ℕ) where
       (mul-le-mul-right unit (omega (arith, point-of-number (s .axes) (s .level) q h .below t axis)))
 
   module _ (h : q < points (s .axes) (s .level)) where
-    is-coordinate : (t : ℕ) → t < s .axes → coordinateAt (coordinateList s q) t ≡ true
-    unfolding coordinateAt isCoordinate
+    is-coordinate : (t : ℕ) → t < s .axes → insideAt (coordinateList s q) t ≡ true
+    unfolding insideAt isCoordinate
     is-coordinate t axis =
         ap (λ (x : ℕ → ℕ). isCoordinate (x t)) list-holds
         ∙ le-leb (coordinatesOf (s .axes) (s .level) q t) unit (coordinate-small h t axis)
@@ -108,7 +108,7 @@ module _ (s : Shape) (q : ℕ) where
     coordinates-pass =
         rw (
           eq-eqb (length (coordinateList s q)) (s .axes) list-length,
-          first-none (coordinateAt (coordinateList s q)) (s .axes) is-coordinate,
+          first-none (insideAt (coordinateList s q)) (s .axes) is-coordinate,
           le-leb (s .axes) (s .axes) (omega arith),
         )
 

@@ -24,11 +24,11 @@ use Rattle.evaluation.proofs.evaluate.Statement.{statement}
 use Rattle.evaluation.proofs.evaluate.Tie as tie
 
 abbrev Inv-loop : tie.InvT-loop
-Inv-loop axes level table coordinates count weights places high₀ low₀ first₀ sum₀ levels₀ high low first sum levels =
+Inv-loop axes level table coordinates count weights cells high₀ low₀ first₀ sum₀ levels₀ high low first sum levels =
     Walked axes level table (at coordinates) (toZ w64 high) low first sum levels
 
 abbrev μ-loop : tie.MeasureT-loop
-μ-loop axes level table coordinates count weights places high₀ low₀ first₀ sum₀ levels₀ high low first sum levels =
+μ-loop axes level table coordinates count weights cells high₀ low₀ first₀ sum₀ levels₀ high low first sum levels =
     length table - first
 
 tabulated-requires : tie.Need-tabulated-requires Inv-loop μ-loop
@@ -60,7 +60,7 @@ asked c = c .before .before .before .before .before .before .before .before .bef
 
 tables : (c : tie.After-taken Inv-loop μ-loop) →
     let t = c .before .before .before .before .before .before .before in
-    Tabulated (at (t .before .before .args .coordinates .now)) (9 * t .before .before .args .axes) (t .tabulated .result .weights) (t .tabulated .result .places)
+    Tabulated (at (t .before .before .args .coordinates .now)) (9 * t .before .before .args .axes) (t .tabulated .result .weights) (t .tabulated .result .cells)
 tables c = c .before .before .before .before .before .before .before .tabulated .ensures
 
 add-c : tie.Need-add-c Inv-loop μ-loop
