@@ -1,5 +1,5 @@
 -- The surface of a table of coefficients: its exact value at coordinates, and the estimate (document 01, "Estimates"). A table is a function from
--- codes to whole numbers; point number p is at code p + 1.
+-- codes to whole numbers: code 0 is the border, and code p + 1 is point number p.
 -- Assumes nothing.
 use mathlib.Core.Path.{_≡_}
 use Prim.Native.Nat.{ℕ, _^_}
@@ -40,7 +40,7 @@ Exactly f z = f .numerator ≡ z *ℤ pos (f .denominator)
 abbrev pub exactValue : ℕ → ℕ → (ℕ → ℤ) → (ℕ → ℕ) → Fraction
 exactValue d n c x = record { numerator = surface d n c x; denominator = unit ^ d }
 
--- The last division of an estimate, by 65,536, rounded down, also below zero.
+-- The last division of an estimate, by the unit, rounded down, also below zero.
 unfoldable pub rounded : ℤ → ℤ
 rounded z = floor unit z
 

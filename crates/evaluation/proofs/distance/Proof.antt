@@ -1,3 +1,5 @@
+-- `evaluation::distance` meets its contract: of the two differences one is 0, and the code returns the other.
+-- Assumes nothing.
 use mathlib.Core.Path.{_≡_, refl, sym, subst, ap, _∙_}
 use Prim.Native.Nat.{ℕ, zero, suc, _+_, _-_, _*_, _/_, _%_, _^_, _≤_, _<_}
 use native.Mathlib.Omega.{arith}
