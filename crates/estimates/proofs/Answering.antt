@@ -1,7 +1,7 @@
 -- What the estimate answers, by the first check that refuses, and what passed checks tell: all that the sum asks. Each case is the definition with its tests
 -- decided.
 -- Assumes nothing.
-use mathlib.Core.Path.{_≡_, ap, sym, _∙_}
+use mathlib.Core.Path.{_≡_}
 use mathlib.Core.Bool.{true, false}
 use mathlib.Core.List.{List}
 use Prim.Native.Nat.{ℕ, suc, _≤_, _<_, _^_}

@@ -76,16 +76,13 @@ module _ (d n : ℕ) (l : ℕ → ℕ) (rest : (t : ℕ) → d ≤ t → l t ≡
   pub block-below : firstOf d l + j < points d n
   block-below = rw (sym block-number) (number-lt (block-point .point))
 
-  pub block-levels : levelAt d n (firstOf d l + j) ≡ l
+  block-levels : levelAt d n (firstOf d l + j) ≡ l
   block-levels = ap (levelAt d n) (sym block-number) ∙ levels-again block-point
 
   block-indices : indexAt d n (firstOf d l + j) ≡ indicesTo d l j
   block-indices = ap (indexAt d n) (sym block-number) ∙ indices-again block-point
 
-  pub block-index : (t : ℕ) → t < d → indexAt d n (firstOf d l + j) t ≡ indexOf l j t
-  block-index t h = ap (λ (i : ℕ → ℕ). i t) block-indices ∙ indices-in d l j t h
-
-  pub block-joint : (x : ℕ → ℕ) → jointAt d n x (firstOf d l + j) ≡ joint x l (indexOf l j) d
+  block-joint : (x : ℕ → ℕ) → jointAt d n x (firstOf d l + j) ≡ joint x l (indexOf l j) d
   unfolding jointAt
   block-joint x =
       ap₂ (λ (m i : ℕ → ℕ). joint x m i d) block-levels block-indices
@@ -120,7 +117,7 @@ module _ (x l : ℕ → ℕ) where
   pub taken-below : (d : ℕ) → takenAt d < 2 ^ sumTo l d
   taken-below d = rw (sym (taken-position d)) (position-lt (taken-point d) d (omega arith))
 
-  pub taken-index : (d t : ℕ) → t < d → indexOf l (takenAt d) t ≡ takenIndex t
+  taken-index : (d t : ℕ) → t < d → indexOf l (takenAt d) t ≡ takenIndex t
   taken-index d t h = ap (λ (q : ℕ). indexOf l q t) (sym (taken-position d)) ∙ index-of-position (taken-point d) t h
 
 module _ (d n : ℕ) (x l : ℕ → ℕ) (rest : (t : ℕ) → d ≤ t → l t ≡ 0) (low : sumTo l d ≤ n) where

@@ -2,14 +2,14 @@
 -- Assumes nothing.
 use mathlib.Core.List.{List}
 use mathlib.Core.Path.{_≡_, ap, ap₂, sym, _∙_}
-use Prim.Native.Nat.{ℕ, zero, suc, _+_, _*_, _/_, _^_, _≤_, _<_}
+use Prim.Native.Nat.{ℕ, zero, suc, _*_, _/_, _^_, _≤_, _<_}
 use native.Mathlib.Omega.{arith}
 use Rattle.naturals.specs.Sum.{sumTo}
 use Rattle.naturals.proofs.Sums.{sumTo-cong, term-le}
 use Rattle.numbering.specs.Point.{at}
 use Rattle.surfaces.specs.Weights.{unit, weight, weightOn, joint}
 use Rattle.surfaces.proofs.GridPoints.{joint-zero, joint-suc}
-use Rattle.evaluation.specs.Steps.{cellOf, indexOfCell, entry, Tabulated, read, jointOf, stepOf, positionOf}
+use Rattle.evaluation.specs.Steps.{entry, Tabulated, read, jointOf, stepOf, positionOf}
 use Rattle.evaluation.proofs.Blocks.{takenIndex, takenStep, takenAt}
 use Rattle.evaluation.proofs.Taking.{jointOf-zero, jointOf-suc}
 

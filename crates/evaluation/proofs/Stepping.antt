@@ -31,7 +31,7 @@ use Rattle.evaluation.proofs.Parts.{fits-below}
 
 module _ {d n : ℕ} {xs : List ℤ} {cs : List ℕ} (ev : Evaluable d n xs cs) {high : ℤ} {low first sum : ℕ} {ls : List ℕ}
     (w : Walked d n xs (at cs) high low first sum ls) (more : first < length xs) where
-  pub before-last : first < points d n
+  before-last : first < points d n
   before-last = omega (arith, ev .long)
 
   pub sum-small : sum ≤ 8

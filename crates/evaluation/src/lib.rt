@@ -3,7 +3,6 @@ ghost use mathlib.Core.Bool.{true};
 ghost use mathlib.Core.Path.{_≡_};
 ghost use Prim.Native.Nat.{suc, _+_, _*_, _/_, _^_, _≤_, _<_};
 ghost use lib.IntN.{pos, natAbs, _+ℤ_, _*ℤ_};
-ghost use lib.ListN.{length};
 ghost use Rattle.naturals.specs.Sum.{sumTo};
 ghost use Rattle.integers.specs.Half.{inLimit};
 ghost use Rattle.integers.specs.Floor.{floor, remainder};
@@ -11,7 +10,7 @@ ghost use Rattle.numbering.specs.Point.{at};
 ghost use Rattle.hierarchy.specs.Turns.{valueAt};
 ghost use Rattle.surfaces.specs.Weights.{unit, isCoordinate, distance, weight};
 ghost use Rattle.surfaces.specs.Surface.{estimateAt};
-ghost use Rattle.evaluation.specs.Steps.{cellOf, indexOfCell, Tabulated, jointOf, positionOf, Bounded, VectorIn, NextVector, Listed, Evaluable};
+ghost use Rattle.evaluation.specs.Steps.{cellOf, Tabulated, jointOf, positionOf, Bounded, VectorIn, NextVector, Listed, Evaluable};
 
 // The unit of coordinates and weights is 2 to this.
 const BITS: u32 = 16;

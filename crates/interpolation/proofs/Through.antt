@@ -130,7 +130,7 @@ module _ (m d u : ℕ) (nb : Neighbours) (depth : ℕ → ℕ → ℕ) (grid : G
       ∙ sym (times-times (partly m d w same (below (suc k)) c (suc q)) (u + u) size))
 
   -- The turns of all axes leave the coefficient.
-  pub turns-all : (c : ℕ → ℤ) (q : ℕ) → 1 ≤ d → q < m →
+  turns-all : (c : ℕ → ℤ) (q : ℕ) → 1 ≤ d → q < m →
       closed nb everyAxis d (partly m d w same noAxis c) (suc q) ≡ c (suc q) *ℤ pos ((u + u) ^ d)
   turns-all c q dim point =
       turns-below c d q (omega arith) dim point

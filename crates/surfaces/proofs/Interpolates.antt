@@ -54,7 +54,7 @@ times-swap z a b = sym (times-times z a b) ∙ ap (λ (x : ℕ). z *ℤ pos x) (
 
 module _ (d n : ℕ) where
   -- The surface at a point is the sum that interpolation speaks of.
-  pub surface-factors : (c : ℕ → ℤ) (q : ℕ) →
+  surface-factors : (c : ℕ → ℤ) (q : ℕ) →
       surface d n c (coordinatesOf d n q) ≡ weightedSum (points d n) c (factors (gridWeight d n) (gridSame d n) d noAxis (suc q))
   unfolding surface productAt factors factor gridWeight
   surface-factors c q = refl

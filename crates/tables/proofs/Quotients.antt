@@ -3,8 +3,8 @@
 -- Assumes nothing.
 use mathlib.Core.Path.{_≡_, refl, ap, sym, _∙_}
 use mathlib.Core.Bool.{Bool, true, false, _&&_}
-use Prim.Native.Nat.{ℕ, zero, suc, _+_, _-_, _*_, _/_, _%_, _^_, _≤_, _<_}
-use native.Mathlib.Nat.{zero-mul, zero-div, suc-mul, mul-le-mul, mul-mod-left, mul-div-cancel, mul-add-div-right, div-add-mod', mod-lt, mod-eq-of-lt, mul-add-mod-self-right, div-eq-of-lt}
+use Prim.Native.Nat.{ℕ, suc, _+_, _*_, _/_, _%_, _^_, _≤_, _<_}
+use native.Mathlib.Nat.{zero-mul, zero-div, suc-mul, mul-le-mul, mul-mod-left, div-add-mod', mod-lt, mod-eq-of-lt, mul-add-mod-self-right}
 use native.Mathlib.Omega.{arith}
 use lib.Dec.{eqb}
 use lib.IntN.{ℤ, pos, negsuc, negℤ, natAbs, _*ℤ_, +ℤ-idr}

@@ -5,7 +5,6 @@ use mathlib.Core.Path.{_≡_, ap, sym, _∙_}
 use mathlib.Core.Bool.{true}
 use mathlib.Core.List.{List, map}
 use Prim.Native.Nat.{ℕ, suc, _^_, _≤_, _<_}
-use native.Mathlib.Nat.{zero-div}
 use native.Mathlib.Omega.{arith}
 use lib.IntN.{ℤ, pos, natAbs, _*ℤ_, _-ℤ_, zero-*ℤ, +ℤ-invr}
 use lib.ListN.{length, getD, length-map, List·getD-map}

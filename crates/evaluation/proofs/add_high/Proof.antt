@@ -1,6 +1,5 @@
 -- `evaluation::add_high` meets its contract: product and sum fit 64 bits, and the shift is the division rounded down.
 -- Assumes nothing.
-use mathlib.Core.Path.{sym}
 use native.Mathlib.Omega.{arith}
 use lib.IntN.{pos, _+ℤ_, _*ℤ_}
 use mir.Syntax.{w64}

@@ -1,8 +1,8 @@
 -- `evaluation::evaluate` meets its contract. The loop's invariant is `Walked`, and the measure is what is left of the table.
 -- Assumes nothing.
-use mathlib.Core.Path.{_≡_, refl, sym, subst, ap, _∙_}
+use mathlib.Core.Path.{_≡_, refl, ap, _∙_}
 use mathlib.Core.List.{[], _∷_}
-use Prim.Native.Nat.{ℕ, zero, suc, _+_, _-_, _*_, _/_, _%_, _^_, _≤_, _<_}
+use Prim.Native.Nat.{ℕ, _+_, _-_, _*_}
 use native.Mathlib.Omega.{arith}
 use lib.IntN.{ℤ, pos, _+ℤ_, _*ℤ_}
 use lib.ListN.{length, getD, replicate, getD-replicate, List·getD-eq-default}
@@ -10,7 +10,6 @@ use lib.Pow.{pow-pos}
 use mir.Syntax.{w64}
 use mir.Val.{toZ}
 use mir.ValLaws.{toZ-ofZ}
-use borrow.Author.Needs.{needs}
 use Rattle.naturals.proofs.Cases.{le-or-lt}
 use Rattle.integers.specs.Floor.{floor, remainder}
 use Rattle.integers.specs.Half.{inLimit}

@@ -1,7 +1,7 @@
 -- `evaluation::weight` meets its contract: the shifts lose nothing, and where the distance is larger than the unit nothing is left.
 -- Assumes nothing.
-use mathlib.Core.Path.{_≡_, ap, ap₂, sym, _∙_}
-use Prim.Native.Nat.{ℕ, suc, _*_, _^_}
+use mathlib.Core.Path.{_≡_, ap₂, _∙_}
+use Prim.Native.Nat.{suc, _*_, _^_}
 use native.Mathlib.Omega.{arith}
 use borrow.Author.Needs.{needs}
 use Rattle.surfaces.specs.Weights.{unit, distance}
