@@ -1,7 +1,7 @@
 -- What the estimate answers, by the first check that refuses, and what passed checks tell: all that the sum asks. Each case is the definition with its tests
 -- decided.
 -- Assumes nothing.
-use mathlib.Core.Path.{_≡_, ap, sym, _∙_}
+use mathlib.Core.Path.{_≡_}
 use mathlib.Core.Bool.{true, false}
 use mathlib.Core.List.{List}
 use Prim.Native.Nat.{ℕ, suc, _≤_, _<_, _^_}
@@ -30,12 +30,12 @@ use Rattle.tables.specs.Tables.{contentAt}
 use Rattle.tables.proofs.FirstFailing.{none-first}
 use Rattle.evaluation.specs.Steps.{Listed, Evaluable}
 use Rattle.estimates.specs.declared.Estimated.the-variants.{Value, Refused}
-use Rattle.estimates.specs.Estimates.{checkForward, coordinateAt, firstOutside, checkCoordinates, estimate}
+use Rattle.estimates.specs.Estimates.{checkForward, insideAt, firstOutside, checkCoordinates, estimate}
 
 -- Where no coordinate is outside, each is at most the unit.
 each-inside : (d : ℕ) (cs : List ℕ) → d ≤ firstOutside d cs → (t : ℕ) → t < d → at cs t ≤ unit
-unfolding firstOutside coordinateAt isCoordinate
-each-inside d cs le t h = leb-true (at cs t) unit (none-first (coordinateAt cs) d le t h)
+unfolding firstOutside insideAt isCoordinate
+each-inside d cs le t h = leb-true (at cs t) unit (none-first (insideAt cs) d le t h)
 
 module _ (s : State) (xs : List ℤ) (cs : List ℕ) where
   pub unchecked : (r : Refusal) → checkState s (length xs) ≡ verdict.Refused r → estimate s xs cs ≡ Refused r

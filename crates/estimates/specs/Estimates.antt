@@ -20,7 +20,7 @@ use Rattle.tables.specs.Tables.{firstFailing, contentAt}
 use Rattle.estimates.specs.declared.Estimated.{Estimated}
 use Rattle.estimates.specs.declared.Estimated.the-variants.{Value, Refused}
 
--- The place of the first axis that is not forward, or d.
+-- The first axis that is not forward, counted from 0, or d.
 unfoldable pub firstSampled : State → ℕ
 firstSampled s = firstFailing (has (s .forward)) (s .shape .axes)
 
@@ -28,14 +28,15 @@ firstSampled s = firstFailing (has (s .forward)) (s .shape .axes)
 unfoldable pub checkForward : State → Verdict
 checkForward s = unless (leb (s .shape .axes) (firstSampled s)) (StillSampled (suc (firstSampled s)))
 
--- The coordinate on axis t is at most 65,536; the place of the first axis where it is not, or d.
-unfoldable pub coordinateAt : List ℕ → ℕ → Bool
-coordinateAt xs t = isCoordinate (at xs t)
+-- The coordinate on axis t, counted from 0, is at most the unit.
+unfoldable pub insideAt : List ℕ → ℕ → Bool
+insideAt xs t = isCoordinate (at xs t)
 
+-- The first axis where it is not, counted from 0, or d.
 unfoldable pub firstOutside : ℕ → List ℕ → ℕ
-firstOutside d xs = firstFailing (coordinateAt xs) d
+firstOutside d xs = firstFailing (insideAt xs) d
 
--- There is a coordinate for each axis, else refused with 7; each is at most 65,536, else with 8 and the first axis where it is not.
+-- There is a coordinate for each axis, else refused with 7; each is at most the unit, else with 8 and the first axis where it is not.
 unfoldable pub checkCoordinates : ℕ → List ℕ → Verdict
 checkCoordinates d xs =
     unless (eqb (length xs) d) ListLength

@@ -4,17 +4,14 @@
 use mathlib.Core.Path.{_≡_, refl, ap, ap₂, sym, _∙_}
 use mathlib.Core.Logic.{⊎-elim}
 use Prim.Native.Nat.{ℕ, zero, suc, _+_, _*_, _/_, _%_, _^_, _≤_, _<_}
-use native.Mathlib.Nat.{add-zero, add-suc, eq-zero-or-pos}
+use native.Mathlib.Nat.{eq-zero-or-pos}
 use native.Mathlib.Omega.{arith}
 use lib.Dec.{ltb}
-use lib.IntN.{ℤ, pos, _+ℤ_, +ℤ-idr}
 use borrow.Author.Tests.{lt-ltb, le-ltb}
 use Rattle.naturals.specs.Sum.{sumTo}
 use Rattle.naturals.specs.Test.{if_then_else_}
-use Rattle.naturals.proofs.Cases.{le-or-lt, eq-or-not}
-use Rattle.naturals.proofs.Sums.{sumTo-suc, sumTo-cong}
-use Rattle.integers.specs.Total.{total}
-use Rattle.integers.proofs.Totals.{total-suc}
+use Rattle.naturals.proofs.Cases.{le-or-lt}
+use Rattle.naturals.proofs.Sums.{sumTo-cong}
 use Rattle.numbering.specs.Count.{points}
 use Rattle.numbering.specs.Point.{IsPoint}
 use Rattle.numbering.specs.Number.{number, digit, position}
@@ -27,56 +24,8 @@ use Rattle.surfaces.specs.Surface.{jointAt}
 use Rattle.surfaces.proofs.Hat.{weight-high}
 use Rattle.surfaces.proofs.GridPoints.{joint-zero, joint-suc}
 use Rattle.surfaces.proofs.Cells.{only-half, joint-above}
-use Rattle.evaluation.specs.Steps.{placeOf, firstOf, indexOfPlace}
-use Rattle.evaluation.proofs.Weighing.{place-inside, index-below as taken-within}
-
--- ---- sums of which one term of the last b is left
-
-sum-none : (f : ℕ → ℕ) (a b : ℕ) → ((j : ℕ) → j < b → f (a + j) ≡ 0) → sumTo f (a + b) ≡ sumTo f a
-sum-none f a zero none = ap (sumTo f) (add-zero a)
-sum-none f a (suc b) none =
-    omega (
-      arith,
-      ap (sumTo f) (add-suc a b),
-      sumTo-suc f (a + b),
-      sum-none f a b (λ j h. none j (omega arith)),
-      none b (omega arith),
-    )
-
-pub sum-block : (f : ℕ → ℕ) (a b q : ℕ) → q < b → ((j : ℕ) → j < b → (j ≡ q → ⊥) → f (a + j) ≡ 0) →
-    sumTo f (a + b) ≡ sumTo f a + f (a + q)
-sum-block f a zero q h others = absurd (omega arith)
-sum-block f a (suc b) q h others =
-    ap (sumTo f) (add-suc a b)
-    ∙ sumTo-suc f (a + b)
-    ∙ eq-or-not q b
-    (λ e. ap₂ _+_ (sum-none f a b (λ j lt. others j (omega arith) (λ i. omega arith))) (ap (λ (j : ℕ). f (a + j)) (sym e)))
-    (λ e.
-    omega (
-      arith,
-      sum-block f a b q (omega arith) (λ j lt ne. others j (omega arith) ne),
-      others b (omega arith) (λ i. e (sym i)),
-    ))
-
-total-none-past : (f : ℕ → ℤ) (a b : ℕ) → ((j : ℕ) → j < b → f (a + j) ≡ pos 0) → total f (a + b) ≡ total f a
-total-none-past f a zero none = ap (total f) (add-zero a)
-total-none-past f a (suc b) none =
-    ap (total f) (add-suc a b)
-    ∙ total-suc f (a + b)
-    ∙ ap₂ _+ℤ_ (total-none-past f a b (λ j h. none j (omega arith))) (none b (omega arith))
-    ∙ +ℤ-idr (total f a)
-
-pub total-block : (f : ℕ → ℤ) (a b q : ℕ) → q < b → ((j : ℕ) → j < b → (j ≡ q → ⊥) → f (a + j) ≡ pos 0) →
-    total f (a + b) ≡ total f a +ℤ f (a + q)
-total-block f a zero q h others = absurd (omega arith)
-total-block f a (suc b) q h others =
-    ap (total f) (add-suc a b)
-    ∙ total-suc f (a + b)
-    ∙ eq-or-not q b
-    (λ e. ap₂ _+ℤ_ (total-none-past f a b (λ j lt. others j (omega arith) (λ i. omega arith))) (ap (λ (j : ℕ). f (a + j)) (sym e)))
-    (λ e.
-    ap₂ _+ℤ_ (total-block f a b q (omega arith) (λ j lt ne. others j (omega arith) ne)) (others b (omega arith) (λ i. e (sym i)))
-    ∙ +ℤ-idr (total f a +ℤ f (a + q)))
+use Rattle.evaluation.specs.Steps.{cellOf, firstOf, indexOfCell}
+use Rattle.evaluation.proofs.Weighing.{cell-inside, index-below as taken-within}
 
 -- ---- the points of a level vector
 
@@ -127,16 +76,13 @@ module _ (d n : ℕ) (l : ℕ → ℕ) (rest : (t : ℕ) → d ≤ t → l t ≡
   pub block-below : firstOf d l + j < points d n
   block-below = rw (sym block-number) (number-lt (block-point .point))
 
-  pub block-levels : levelAt d n (firstOf d l + j) ≡ l
+  block-levels : levelAt d n (firstOf d l + j) ≡ l
   block-levels = ap (levelAt d n) (sym block-number) ∙ levels-again block-point
 
   block-indices : indexAt d n (firstOf d l + j) ≡ indicesTo d l j
   block-indices = ap (indexAt d n) (sym block-number) ∙ indices-again block-point
 
-  pub block-index : (t : ℕ) → t < d → indexAt d n (firstOf d l + j) t ≡ indexOf l j t
-  block-index t h = ap (λ (i : ℕ → ℕ). i t) block-indices ∙ indices-in d l j t h
-
-  pub block-joint : (x : ℕ → ℕ) → jointAt d n x (firstOf d l + j) ≡ joint x l (indexOf l j) d
+  block-joint : (x : ℕ → ℕ) → jointAt d n x (firstOf d l + j) ≡ joint x l (indexOf l j) d
   unfolding jointAt
   block-joint x =
       ap₂ (λ (m i : ℕ → ℕ). joint x m i d) block-levels block-indices
@@ -147,10 +93,10 @@ module _ (d n : ℕ) (l : ℕ → ℕ) (rest : (t : ℕ) → d ≤ t → l t ≡
 module _ (x l : ℕ → ℕ) where
   -- Its index on axis t, what the axis adds to its position, and the position.
   unfoldable pub takenIndex : ℕ → ℕ
-  takenIndex t = indexOfPlace (placeOf (x t) (l t))
+  takenIndex t = indexOfCell (cellOf (x t) (l t))
 
   unfoldable pub takenStep : ℕ → ℕ
-  takenStep t = placeOf (x t) (l t) * 2 ^ sumTo l t
+  takenStep t = cellOf (x t) (l t) * 2 ^ sumTo l t
 
   unfoldable pub takenAt : ℕ → ℕ
   takenAt d = sumTo takenStep d
@@ -171,7 +117,7 @@ module _ (x l : ℕ → ℕ) where
   pub taken-below : (d : ℕ) → takenAt d < 2 ^ sumTo l d
   taken-below d = rw (sym (taken-position d)) (position-lt (taken-point d) d (omega arith))
 
-  pub taken-index : (d t : ℕ) → t < d → indexOf l (takenAt d) t ≡ takenIndex t
+  taken-index : (d t : ℕ) → t < d → indexOf l (takenAt d) t ≡ takenIndex t
   taken-index d t h = ap (λ (q : ℕ). indexOf l q t) (sym (taken-position d)) ∙ index-of-position (taken-point d) t h
 
 module _ (d n : ℕ) (x l : ℕ → ℕ) (rest : (t : ℕ) → d ≤ t → l t ≡ 0) (low : sumTo l d ≤ n) where
@@ -198,7 +144,7 @@ module _ (d n : ℕ) (x l : ℕ → ℕ) (rest : (t : ℕ) → d ≤ t → l t �
           arith,
           index-odd l j t,
           only-half (x t) (l t) (indexOf l j t) (index-odd l j t) some,
-          place-inside (x t) (l t) within,
+          cell-inside (x t) (l t) within,
         ))
 
     pub block-zero : (j ≡ takenAt x l d → ⊥) → jointAt d n x (firstOf d l + j) ≡ 0

@@ -23,7 +23,7 @@ pub first-is : (d : ℕ) (l : ℕ → ℕ) → firstOf d l ≡ start d (sumTo l 
 unfolding firstOf
 first-is d l = refl
 
-pub before-is : (d : ℕ) (l : ℕ → ℕ) → vectorsBefore d l ≡ sumTo (vectors d) (sumTo l d) + rank l d
+before-is : (d : ℕ) (l : ℕ → ℕ) → vectorsBefore d l ≡ sumTo (vectors d) (sumTo l d) + rank l d
 unfolding vectorsBefore
 before-is d l = refl
 

@@ -1,10 +1,10 @@
 -- A coefficient in two parts, times a weight, in 64 bits: the shift is the division by the unit rounded down, the mask what is left, and both products
 -- are far below 2^63, since a coefficient is at most 2^47 and a weight at most the unit.
 -- Assumes nothing.
-use mathlib.Core.Path.{_≡_, refl, ap, ap₂, sym, _∙_}
+use mathlib.Core.Path.{_≡_, ap, ap₂, sym, _∙_}
 use mathlib.Core.Bool.{true}
-use Prim.Native.Nat.{ℕ, suc, _+_, _-_, _*_, _/_, _%_, _^_, _≤_, _<_}
-use native.Mathlib.Nat.{mul-le-mul, mod-lt}
+use Prim.Native.Nat.{ℕ, suc, _-_, _*_, _/_, _%_, _^_, _≤_, _<_}
+use native.Mathlib.Nat.{mul-le-mul}
 use native.Mathlib.Omega.{arith}
 use lib.Bits.{bitAnd, and-mask}
 use lib.IntN.{ℤ, pos, negsuc, natAbs, _+ℤ_, _*ℤ_}
@@ -18,7 +18,7 @@ use Rattle.integers.proofs.Floors.{shift-floor, remainder-lt}
 use Rattle.integers.proofs.Products.{size-times}
 use Rattle.integers.proofs.Sizes.{limit-size, sum-size}
 use Rattle.surfaces.specs.Weights.{unit}
-use Rattle.evaluation.proofs.Weighing.{unit-is}
+use Rattle.surfaces.proofs.Unit.{unit-is}
 
 -- Below 2^63, a number is one of 64 bits.
 pub fits-below : (z : ℤ) → natAbs z < 2 ^ 63 → SFits w64 z

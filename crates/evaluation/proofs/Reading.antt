@@ -1,38 +1,32 @@
--- What the tables of weights and places give for a level vector is the point taken there, and its joint weight: entry by entry.
+-- What the tables of weights and cells give for a level vector is the point taken there, and its joint weight: entry by entry.
 -- Assumes nothing.
 use mathlib.Core.List.{List}
-use mathlib.Core.Path.{_≡_, refl, ap, ap₂, sym, _∙_}
-use Prim.Native.Nat.{ℕ, zero, suc, _+_, _*_, _/_, _^_, _≤_, _<_}
+use mathlib.Core.Path.{_≡_, ap, ap₂, sym, _∙_}
+use Prim.Native.Nat.{ℕ, zero, suc, _*_, _/_, _^_, _≤_, _<_}
 use native.Mathlib.Omega.{arith}
 use Rattle.naturals.specs.Sum.{sumTo}
 use Rattle.naturals.proofs.Sums.{sumTo-cong, term-le}
+use Rattle.numbering.specs.Point.{at}
 use Rattle.surfaces.specs.Weights.{unit, weight, weightOn, joint}
 use Rattle.surfaces.proofs.GridPoints.{joint-zero, joint-suc}
-use Rattle.evaluation.specs.Steps.{placeOf, indexOfPlace, entry, Tabulated, read, jointOf, stepOf, positionOf}
+use Rattle.evaluation.specs.Steps.{entry, Tabulated, read, jointOf, stepOf, positionOf}
 use Rattle.evaluation.proofs.Blocks.{takenIndex, takenStep, takenAt}
+use Rattle.evaluation.proofs.Taking.{jointOf-zero, jointOf-suc}
 
-jointOf-zero : (ws : List ℕ) (l : ℕ → ℕ) → jointOf ws l 0 ≡ unit
-unfolding jointOf
-jointOf-zero ws l = refl
-
-jointOf-suc : (ws : List ℕ) (l : ℕ → ℕ) (k : ℕ) → jointOf ws l (suc k) ≡ jointOf ws l k * read ws l k / unit
-unfolding jointOf
-jointOf-suc ws l k = refl
-
-module _ (x l : ℕ → ℕ) (d : ℕ) (ws ps : List ℕ) (table : Tabulated x (9 * d) ws ps) (low : sumTo l d ≤ 8) where
+module _ (x l : ℕ → ℕ) (d : ℕ) (ws cells : List ℕ) (table : Tabulated x (9 * d) ws cells) (low : sumTo l d ≤ 8) where
   below : (t : ℕ) → t < d → l t < 9
   below t h = omega (arith, term-le l d t h)
 
-  step-taken : (t : ℕ) → t < d → stepOf ps l t ≡ takenStep x l t
+  step-taken : (t : ℕ) → t < d → stepOf cells l t ≡ takenStep x l t
   unfolding stepOf read takenStep
-  step-taken t h = ap (λ (p : ℕ). p * 2 ^ sumTo l t) (table .place t (l t) (below t h) (omega (arith, below t h)))
+  step-taken t h = ap (λ (p : ℕ). p * 2 ^ sumTo l t) (table .cell t (l t) (below t h) (omega (arith, below t h)))
 
-  pub position-taken : positionOf ps l d ≡ takenAt x l d
+  pub position-taken : positionOf cells l d ≡ takenAt x l d
   unfolding positionOf takenAt
-  position-taken = sumTo-cong (stepOf ps l) (takenStep x l) d step-taken
+  position-taken = sumTo-cong (stepOf cells l) (takenStep x l) d step-taken
 
-  weight-taken : (t : ℕ) → t < d → read ws l t ≡ weightOn x l (takenIndex x l) t
-  unfolding read weightOn takenIndex
+  weight-taken : (t : ℕ) → t < d → at ws (entry t (l t)) ≡ weightOn x l (takenIndex x l) t
+  unfolding weightOn takenIndex
   weight-taken t h = table .weight t (l t) (below t h) (omega (arith, below t h))
 
   joint-taken-to : (k : ℕ) → k ≤ d → jointOf ws l k ≡ joint x l (takenIndex x l) k

@@ -31,7 +31,7 @@ use Rattle.evaluation.proofs.Parts.{fits-below}
 
 module _ {d n : ℕ} {xs : List ℤ} {cs : List ℕ} (ev : Evaluable d n xs cs) {high : ℤ} {low first sum : ℕ} {ls : List ℕ}
     (w : Walked d n xs (at cs) high low first sum ls) (more : first < length xs) where
-  pub before-last : first < points d n
+  before-last : first < points d n
   before-last = omega (arith, ev .long)
 
   pub sum-small : sum ≤ 8
@@ -54,10 +54,10 @@ module _ {d n : ℕ} {xs : List ℤ} {cs : List ℕ} (ev : Evaluable d n xs cs) 
         start-small d (ev .some) (ev .listed .few) (suc n) (omega (arith, ev .low)),
       )
 
-  module _ {ws ps : List ℕ} (table : Tabulated (at cs) (9 * d) ws ps) {position joint : ℕ}
-      (found : (position ≡ positionOf ps (at ls) d) × (joint ≡ jointOf ws (at ls) d)) where
+  module _ {ws cells : List ℕ} (table : Tabulated (at cs) (9 * d) ws cells) {position joint : ℕ}
+      (found : (position ≡ positionOf cells (at ls) d) × (joint ≡ jointOf ws (at ls) d)) where
     taken : position ≡ takenAt (at cs) (at ls) d
-    taken = found .0 ∙ position-taken (at cs) (at ls) d ws ps table levels-small
+    taken = found .0 ∙ position-taken (at cs) (at ls) d ws cells table levels-small
 
     pub place-read : first + position < length xs
     place-read = omega (arith, taken, taken-here w before-last (ev .listed .coordinates), ev .long)
@@ -69,7 +69,7 @@ module _ {d n : ℕ} {xs : List ℤ} {cs : List ℕ} (ev : Evaluable d n xs cs) 
     weight-read : joint ≡ jointAt d n (at cs) (first + position)
     weight-read =
         found .1
-        ∙ joint-taken (at cs) (at ls) d ws ps table levels-small
+        ∙ joint-taken (at cs) (at ls) d ws cells table levels-small
         ∙ sym (taken-joint d n (at cs) (at ls) (w .vector .rest) (omega (arith, w .vector .total, sum-low w before-last)))
         ∙ ap₂ (λ (a q : ℕ). jointAt d n (at cs) (a + q)) (w .here) (sym taken)
 

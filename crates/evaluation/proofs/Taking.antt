@@ -1,6 +1,6 @@
--- The walk over the axes that takes one point of a level vector: after t axes it has the position of their places, their joint weight, and the sum of
--- their levels. True since each axis adds its place, shifted by the levels before it, and multiplies by its weight. No shift loses a bit, since a
--- place is below 2^level, and no product overflows, since weights and joint weights are at most the unit.
+-- The walk over the axes that takes one point of a level vector: after t axes it has the position that their cells give, their joint weight, and the sum of
+-- their levels. True since each axis adds its cell, shifted by the levels before it, and multiplies by its weight. No shift loses a bit, since a
+-- cell is below 2^level, and no product overflows, since weights and joint weights are at most the unit.
 -- Assumes nothing.
 use mathlib.Core.List.{List}
 use mathlib.Core.Path.{_≡_, refl, ap, ap₂, sym, _∙_}
@@ -15,92 +15,92 @@ use Rattle.naturals.proofs.Sums.{sumTo-zero, sumTo-suc, sumTo-mono}
 use Rattle.numbering.specs.Point.{at}
 use Rattle.numbering.proofs.Position.{pow-sum}
 use Rattle.surfaces.specs.Weights.{unit}
+use Rattle.surfaces.proofs.Unit.{unit-is}
 use Rattle.evaluation.specs.Steps.{entry, read, jointOf, stepOf, positionOf, Bounded}
-use Rattle.evaluation.proofs.Weighing.{unit-is}
 
-pub joint-zero : (ws : List ℕ) (l : ℕ → ℕ) → jointOf ws l 0 ≡ unit
+pub jointOf-zero : (ws : List ℕ) (l : ℕ → ℕ) → jointOf ws l 0 ≡ unit
 unfolding jointOf
-joint-zero ws l = refl
+jointOf-zero ws l = refl
 
-pub joint-suc : (ws : List ℕ) (l : ℕ → ℕ) (k : ℕ) → jointOf ws l (suc k) ≡ jointOf ws l k * at ws (entry k (l k)) / unit
+pub jointOf-suc : (ws : List ℕ) (l : ℕ → ℕ) (k : ℕ) → jointOf ws l (suc k) ≡ jointOf ws l k * at ws (entry k (l k)) / unit
 unfolding jointOf read
-joint-suc ws l k = refl
+jointOf-suc ws l k = refl
 
-pub position-zero : (ps : List ℕ) (l : ℕ → ℕ) → positionOf ps l 0 ≡ 0
+pub position-zero : (cells : List ℕ) (l : ℕ → ℕ) → positionOf cells l 0 ≡ 0
 unfolding positionOf
-position-zero ps l = sumTo-zero (stepOf ps l)
+position-zero cells l = sumTo-zero (stepOf cells l)
 
-pub position-suc : (ps : List ℕ) (l : ℕ → ℕ) (k : ℕ) → positionOf ps l (suc k) ≡ positionOf ps l k + at ps (entry k (l k)) * 2 ^ sumTo l k
+pub position-suc : (cells : List ℕ) (l : ℕ → ℕ) (k : ℕ) → positionOf cells l (suc k) ≡ positionOf cells l k + at cells (entry k (l k)) * 2 ^ sumTo l k
 unfolding positionOf stepOf read
-position-suc ps l k = sumTo-suc (stepOf ps l) k
+position-suc cells l k = sumTo-suc (stepOf cells l) k
 
 -- A product of two numbers of at most the unit is at most the unit squared, so at most the unit once divided by it.
 part-le : (a b : ℕ) → a ≤ unit → b ≤ unit → a * b / unit ≤ unit
 part-le a b ha hb = div-le-of-le-mul unit (mul-le-mul ha hb)
 
-module _ {d : ℕ} {ws ps : List ℕ} (bounded : Bounded d ws ps) (l : ℕ → ℕ) (few : sumTo l d ≤ 8) where
+module _ {d : ℕ} {ws cells : List ℕ} (bounded : Bounded d ws cells) (l : ℕ → ℕ) (few : sumTo l d ≤ 8) where
   level-le : (t : ℕ) → t < d → l t ≤ 8
   level-le t h = omega (arith, sumTo-mono l (suc t) d h, sumTo-suc l t)
 
-  place-lt : (t : ℕ) → t < d → at ps (entry t (l t)) < 2 ^ l t
-  place-lt t h = bounded .place t (l t) h (omega (arith, level-le t h))
+  cell-lt : (t : ℕ) → t < d → at cells (entry t (l t)) < 2 ^ l t
+  cell-lt t h = bounded .cell t (l t) h (omega (arith, level-le t h))
 
   weight-le : (t : ℕ) → t < d → at ws (entry t (l t)) ≤ unit
   weight-le t h = bounded .weight t (l t) h (omega (arith, level-le t h))
 
   pub joint-le : (k : ℕ) → k ≤ d → jointOf ws l k ≤ unit
-  joint-le zero h = omega (arith, joint-zero ws l)
+  joint-le zero h = omega (arith, jointOf-zero ws l)
   joint-le (suc k) h =
       omega (
         arith,
-        joint-suc ws l k,
+        jointOf-suc ws l k,
         part-le (jointOf ws l k) (at ws (entry k (l k))) (joint-le k (omega arith)) (weight-le k h),
       )
 
-  pub position-lt : (k : ℕ) → k ≤ d → positionOf ps l k < 2 ^ sumTo l k
-  position-lt zero h = omega (arith, position-zero ps l, pow-pos (sumTo l 0))
+  pub position-lt : (k : ℕ) → k ≤ d → positionOf cells l k < 2 ^ sumTo l k
+  position-lt zero h = omega (arith, position-zero cells l, pow-pos (sumTo l 0))
   position-lt (suc k) h =
       omega (
         arith,
-        position-suc ps l k,
+        position-suc cells l k,
         pow-sum l k,
         mul-comm (2 ^ sumTo l k) (2 ^ l k),
-        digits-lt (place-lt k h) (position-lt k (omega arith)),
+        digits-lt (cell-lt k h) (position-lt k (omega arith)),
       )
 
-pub record Taken (ws ps : List ℕ) (l : ℕ → ℕ) (d t position joint sum : ℕ) : Type 0 where
+pub record Taken (ws cells : List ℕ) (l : ℕ → ℕ) (d t position joint sum : ℕ) : Type 0 where
   pub axis : t ≤ d
   pub total : sum ≡ sumTo l t
-  pub packed : position ≡ positionOf ps l t
+  pub packed : position ≡ positionOf cells l t
   pub weighed : joint ≡ jointOf ws l t
 
-pub taken-starts : (ws ps : List ℕ) (l : ℕ → ℕ) (d : ℕ) → Taken ws ps l d 0 0 (2 ^ 16) 0
-taken-starts ws ps l d =
+pub taken-starts : (ws cells : List ℕ) (l : ℕ → ℕ) (d : ℕ) → Taken ws cells l d 0 0 (2 ^ 16) 0
+taken-starts ws cells l d =
     record {
       axis = omega arith;
       total = sym (sumTo-zero l);
-      packed = sym (position-zero ps l);
-      weighed = sym (joint-zero ws l ∙ unit-is);
+      packed = sym (position-zero cells l);
+      weighed = sym (jointOf-zero ws l ∙ unit-is);
     }
 
-module _ {d : ℕ} {ws ps : List ℕ} {l : ℕ → ℕ} {t position joint sum : ℕ} (bounded : Bounded d ws ps) (few : sumTo l d ≤ 8)
-    (state : Taken ws ps l d t position joint sum) (h : t < d) where
+module _ {d : ℕ} {ws cells : List ℕ} {l : ℕ → ℕ} {t position joint sum : ℕ} (bounded : Bounded d ws cells) (few : sumTo l d ≤ 8)
+    (state : Taken ws cells l d t position joint sum) (h : t < d) where
   pub level-small : l t ≤ 8
   level-small = level-le bounded l few t h
 
   pub sum-fits : sum + l t ≤ 8
   sum-fits = omega (arith, sumTo-mono l (suc t) d h, sumTo-suc l t)
 
-  turned : position + at ps (entry t (l t)) * 2 ^ sum % 2 ^ 64 ≡ positionOf ps l (suc t)
+  turned : position + at cells (entry t (l t)) * 2 ^ sum % 2 ^ 64 ≡ positionOf cells l (suc t)
   turned =
       omega (
         arith,
-        position-suc ps l t,
-        shl-exact {a = at ps (entry t (l t))} (l t) sum 64 (place-lt bounded l few t h) (omega (arith, sum-fits)),
-        ap (λ (s : ℕ). at ps (entry t (l t)) * 2 ^ s) (state .total),
+        position-suc cells l t,
+        shl-exact {a = at cells (entry t (l t))} (l t) sum 64 (cell-lt bounded l few t h) (omega (arith, sum-fits)),
+        ap (λ (s : ℕ). at cells (entry t (l t)) * 2 ^ s) (state .total),
       )
 
-  pub position-fits : position + at ps (entry t (l t)) * 2 ^ sum % 2 ^ 64 < 256
+  pub position-fits : position + at cells (entry t (l t)) * 2 ^ sum % 2 ^ 64 < 256
   position-fits =
       omega (
         arith,
@@ -115,18 +115,18 @@ module _ {d : ℕ} {ws ps : List ℕ} {l : ℕ → ℕ} {t position joint sum : 
       omega (arith, mul-le-mul small (weight-le bounded l few t h), ap₂ (λ (a b : ℕ). a * b) unit-is unit-is)
 
   pub taken-steps :
-      Taken ws ps l d (t + 1) (position + at ps (entry t (l t)) * 2 ^ sum % 2 ^ 64) (joint * at ws (entry t (l t)) / 2 ^ 16) (sum + l t)
+      Taken ws cells l d (t + 1) (position + at cells (entry t (l t)) * 2 ^ sum % 2 ^ 64) (joint * at ws (entry t (l t)) / 2 ^ 16) (sum + l t)
   taken-steps =
       record {
         axis = omega arith;
         total = rw add-one (omega (arith, sumTo-suc l t));
         packed = rw add-one turned;
         weighed =
-            rw (add-one, joint-suc ws l t, ← state .weighed) (ap (λ (u : ℕ). joint * at ws (entry t (l t)) / u) (sym unit-is));
+            rw (add-one, jointOf-suc ws l t, ← state .weighed) (ap (λ (u : ℕ). joint * at ws (entry t (l t)) / u) (sym unit-is));
       }
 
-pub taken-ends : {ws ps : List ℕ} {l : ℕ → ℕ} {d t position joint sum : ℕ} → Taken ws ps l d t position joint sum → d ≤ t →
-    (position ≡ positionOf ps l d) × (joint ≡ jointOf ws l d)
-taken-ends {ws} {ps} {l} {d} {t} state h =
+pub taken-ends : {ws cells : List ℕ} {l : ℕ → ℕ} {d t position joint sum : ℕ} → Taken ws cells l d t position joint sum → d ≤ t →
+    (position ≡ positionOf cells l d) × (joint ≡ jointOf ws l d)
+taken-ends {ws} {cells} {l} {d} {t} state h =
     let last : t ≡ d = omega arith in
-    (state .packed ∙ ap (positionOf ps l) last, state .weighed ∙ ap (jointOf ws l) last)
+    (state .packed ∙ ap (positionOf cells l) last, state .weighed ∙ ap (jointOf ws l) last)

@@ -5,7 +5,7 @@ use mathlib.Core.Bool.{Bool, true}
 use mathlib.Core.List.{List}
 use mathlib.Core.Path.{_≡_, refl, ap, ap₂, sym, _∙_}
 use Prim.Native.Nat.{ℕ, zero, suc, _+_, _-_, _*_, _/_, _^_, _≤_, _<_}
-use native.Mathlib.Nat.{mul-comm, mul-zero, mul-le-mul-right, suc-mul, zero-div}
+use native.Mathlib.Nat.{mul-comm, mul-zero, mul-le-mul-right, suc-mul}
 use native.Mathlib.Omega.{arith}
 use lib.Dec.{leb}
 use lib.IntN.{ℤ, pos, natAbs, _+ℤ_, _*ℤ_, *ℤ-zero}
@@ -15,7 +15,7 @@ use borrow.Author.Tests.{leb-true}
 use Rattle.naturals.specs.Sum.{sumTo}
 use Rattle.naturals.specs.Test.{all}
 use Rattle.naturals.proofs.Cases.{le-or-lt}
-use Rattle.naturals.proofs.Sums.{sumTo-zero, sumTo-suc, sumTo-mono}
+use Rattle.naturals.proofs.Sums.{sumTo-zero, sumTo-suc, sumTo-mono, sum-block}
 use Rattle.naturals.proofs.Tests.{all-at}
 use Rattle.integers.specs.Floor.{floor, remainder}
 use Rattle.integers.specs.Half.{inLimit}
@@ -24,9 +24,9 @@ use Rattle.integers.proofs.Floors.{floor-remainder, floor-plus}
 use Rattle.integers.proofs.Linear.{leaf, _⊕_, equal}
 use Rattle.integers.proofs.Products.{times-times, plus-times}
 use Rattle.integers.proofs.Sizes.{sum-size}
-use Rattle.integers.proofs.Totals.{total-zero, total-suc}
+use Rattle.integers.proofs.Totals.{total-zero, total-suc, total-block}
 use Rattle.numbering.specs.Binomial.{choose}
-use Rattle.numbering.specs.Count.{vectors, start, points}
+use Rattle.numbering.specs.Count.{vectors, points}
 use Rattle.numbering.specs.Inverse.{levelAt, indexAt}
 use Rattle.numbering.specs.Number.{rank}
 use Rattle.numbering.specs.Point.{at}
@@ -40,8 +40,8 @@ use Rattle.surfaces.specs.Weights.{unit}
 use Rattle.surfaces.specs.Surface.{jointAt, rounded, estimateAt}
 use Rattle.surfaces.proofs.Cells.{joint-le}
 use Rattle.surfaces.proofs.Unit.{unit-pos}
-use Rattle.evaluation.specs.Steps.{VectorIn, firstOf, vectorsBefore, NextVector, Evaluable}
-use Rattle.evaluation.proofs.Blocks.{sum-block, total-block, block-below, takenAt, taken-below, block-zero}
+use Rattle.evaluation.specs.Steps.{VectorIn, firstOf, vectorsBefore, NextVector}
+use Rattle.evaluation.proofs.Blocks.{block-below, takenAt, taken-below, block-zero}
 use Rattle.evaluation.proofs.Parts.{high-size, low-size}
 
 -- ---- how many level vectors there are
@@ -120,7 +120,7 @@ module _ (d n : ℕ) (xs : List ℤ) (x : ℕ → ℕ) where
       (sym (plus-times (total highTerm m) (highTerm m) unit) ∙ ap (λ (z : ℤ). z *ℤ pos unit) (sym (total-suc highTerm m)))
       (sym (sumTo-suc lowTerm m))
 
-  pub parts-joined : total highTerm (points d n) +ℤ pos (sumTo lowTerm (points d n) / unit) ≡ estimateAt d n (valueAt xs) x
+  parts-joined : total highTerm (points d n) +ℤ pos (sumTo lowTerm (points d n) / unit) ≡ estimateAt d n (valueAt xs) x
   unfolding estimateAt rounded weightedSum
   parts-joined =
       sym (ap (floor unit) (whole-sum (points d n))
@@ -211,7 +211,7 @@ module _ {d n : ℕ} {xs : List ℤ} {x : ℕ → ℕ} {high : ℤ} {low first s
     taken-in : takenAt x (at ls) d < 2 ^ sum
     taken-in = rw (sym (w .vector .total)) (taken-below x (at ls) d)
 
-    pub high-step : total (highTerm d n xs x) (first + 2 ^ sum) ≡ high +ℤ highTerm d n xs x (first + takenAt x (at ls) d)
+    high-step : total (highTerm d n xs x) (first + 2 ^ sum) ≡ high +ℤ highTerm d n xs x (first + takenAt x (at ls) d)
     unfolding highTerm
     high-step =
         total-block (highTerm d n xs x) first (2 ^ sum) (takenAt x (at ls) d) taken-in
@@ -220,7 +220,7 @@ module _ {d n : ℕ} {xs : List ℤ} {x : ℕ → ℕ} {high : ℤ} {low first s
         ∙ *ℤ-zero (floor unit (valueAt xs (suc (first + j)))))
         ∙ ap (λ (z : ℤ). z +ℤ highTerm d n xs x (first + takenAt x (at ls) d)) (sym (w .highs))
 
-    pub low-step : sumTo (lowTerm d n xs x) (first + 2 ^ sum) ≡ low + lowTerm d n xs x (first + takenAt x (at ls) d)
+    low-step : sumTo (lowTerm d n xs x) (first + 2 ^ sum) ≡ low + lowTerm d n xs x (first + takenAt x (at ls) d)
     unfolding lowTerm
     low-step =
         sum-block (lowTerm d n xs x) first (2 ^ sum) (takenAt x (at ls) d) taken-in

@@ -16,24 +16,25 @@ use Rattle.numbering.specs.Number.{rank}
 use Rattle.hierarchy.specs.Turns.{valueAt}
 use Rattle.surfaces.specs.Weights.{unit, weight}
 
--- On one axis, which point of level l can have a weight above 0 at x, as (index − 1)/2: the one in whose cell x lies. At the far border none has.
-unfoldable pub placeOf : ℕ → ℕ → ℕ
-placeOf x l = if ltb x unit then x * 2 ^ l / unit else 0
+-- On one axis, the cell of level l in which x lies, counted from 0. The point in the middle of it alone can have a weight above 0 at x. At the unit itself no
+-- point has, and 0 stands for the cell.
+unfoldable pub cellOf : ℕ → ℕ → ℕ
+cellOf x l = if ltb x unit then x * 2 ^ l / unit else 0
 
--- The index of a place.
-abbrev pub indexOfPlace : ℕ → ℕ
-indexOfPlace place = 2 * place + 1
+-- The index of the point in the middle of a cell.
+abbrev pub indexOfCell : ℕ → ℕ
+indexOfCell cell = 2 * cell + 1
 
 -- Axis t and level l in a table of nine levels for each axis.
 abbrev pub entry : ℕ → ℕ → ℕ
 entry t l = 9 * t + l
 
--- The places and their weights at the coordinates x, for the first b entries.
-pub record Tabulated (x : ℕ → ℕ) (b : ℕ) (weights places : List ℕ) : Type 0 where
+-- The cells in which the coordinates x lie and the weights of their points, for the first b entries.
+pub record Tabulated (x : ℕ → ℕ) (b : ℕ) (weights cells : List ℕ) : Type 0 where
   pub long-weights : length weights ≡ 72
-  pub long-places : length places ≡ 72
-  pub place : (t l : ℕ) → l < 9 → entry t l < b → at places (entry t l) ≡ placeOf (x t) l
-  pub weight : (t l : ℕ) → l < 9 → entry t l < b → at weights (entry t l) ≡ weight (x t) l (indexOfPlace (placeOf (x t) l))
+  pub long-cells : length cells ≡ 72
+  pub cell : (t l : ℕ) → l < 9 → entry t l < b → at cells (entry t l) ≡ cellOf (x t) l
+  pub weight : (t l : ℕ) → l < 9 → entry t l < b → at weights (entry t l) ≡ weight (x t) l (indexOfCell (cellOf (x t) l))
 
 -- What the tables hold for the level that a level vector has on axis t.
 unfoldable pub read : List ℕ → (ℕ → ℕ) → ℕ → ℕ
@@ -45,18 +46,18 @@ jointOf weights l zero = unit
 jointOf weights l (suc k) = jointOf weights l k * read weights l k / unit
 
 unfoldable pub stepOf : List ℕ → (ℕ → ℕ) → ℕ → ℕ
-stepOf places l t = read places l t * 2 ^ sumTo l t
+stepOf cells l t = read cells l t * 2 ^ sumTo l t
 
 unfoldable pub positionOf : List ℕ → (ℕ → ℕ) → ℕ → ℕ
-positionOf places l k = sumTo (stepOf places l) k
+positionOf cells l k = sumTo (stepOf cells l) k
 
--- Weights of at most the unit, places among those of their level.
-pub record Bounded (d : ℕ) (weights places : List ℕ) : Type 0 where
+-- Weights of at most the unit, cells among those of their level.
+pub record Bounded (d : ℕ) (weights cells : List ℕ) : Type 0 where
   pub few : d ≤ 8
   pub long-weights : length weights ≡ 72
-  pub long-places : length places ≡ 72
+  pub long-cells : length cells ≡ 72
   pub weight : (t l : ℕ) → t < d → l < 9 → at weights (entry t l) ≤ unit
-  pub place : (t l : ℕ) → t < d → l < 9 → at places (entry t l) < 2 ^ l
+  pub cell : (t l : ℕ) → t < d → l < 9 → at cells (entry t l) < 2 ^ l
 
 -- A level vector of d axes in a list of eight places, those past axis d zero, with its sum.
 pub record VectorIn (d sum : ℕ) (ls : List ℕ) : Type 0 where

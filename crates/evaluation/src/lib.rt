@@ -3,7 +3,6 @@ ghost use mathlib.Core.Bool.{true};
 ghost use mathlib.Core.Path.{_≡_};
 ghost use Prim.Native.Nat.{suc, _+_, _*_, _/_, _^_, _≤_, _<_};
 ghost use lib.IntN.{pos, natAbs, _+ℤ_, _*ℤ_};
-ghost use lib.ListN.{length};
 ghost use Rattle.naturals.specs.Sum.{sumTo};
 ghost use Rattle.integers.specs.Half.{inLimit};
 ghost use Rattle.integers.specs.Floor.{floor, remainder};
@@ -11,7 +10,7 @@ ghost use Rattle.numbering.specs.Point.{at};
 ghost use Rattle.hierarchy.specs.Turns.{valueAt};
 ghost use Rattle.surfaces.specs.Weights.{unit, isCoordinate, distance, weight};
 ghost use Rattle.surfaces.specs.Surface.{estimateAt};
-ghost use Rattle.evaluation.specs.Steps.{placeOf, indexOfPlace, Tabulated, jointOf, positionOf, Bounded, VectorIn, NextVector, Listed, Evaluable};
+ghost use Rattle.evaluation.specs.Steps.{cellOf, Tabulated, jointOf, positionOf, Bounded, VectorIn, NextVector, Listed, Evaluable};
 
 // The unit of coordinates and weights is 2 to this.
 const BITS: u32 = 16;
@@ -45,10 +44,10 @@ fn weight(x: u64, level: u32, index: u64) -> u64
     (1 << BITS) - apart
 }
 
-// Which point of a level on one axis can have a weight above 0 at x: (index − 1)/2.
-fn place(x: u64, level: u32) -> u64
+// The cell of a level on one axis in which x lies, counted from 0: the point of index 2 × cell + 1 alone can have a weight above 0 at x.
+fn cell(x: u64, level: u32) -> u64
     requires { ⌜ (x ≤ unit) × (level ≤ 8) ⌝ }
-    ensures { λ r. ⌜ r ≡ placeOf x level ⌝ }
+    ensures { λ r. ⌜ r ≡ cellOf x level ⌝ }
 {
     if x < 1 << BITS {
         return (x << level) >> BITS;
@@ -56,26 +55,26 @@ fn place(x: u64, level: u32) -> u64
     0
 }
 
-// For each axis, nine levels each: the places, and their weights.
+// For each axis, nine levels each: the cells, and the weights of their points.
 struct Hats {
     weights: [u64; 72],
-    places: [u64; 72],
+    cells: [u64; 72],
 }
 
-// The places at these coordinates and their weights, by axis and level.
+// The cells in which these coordinates lie and the weights of their points, by axis and level.
 fn tabulated(axes: usize, coordinates: &[u32]) -> Hats
     requires { ⌜ Listed axes (now coordinates) ⌝ }
-    ensures { λ r. ⌜ Tabulated (at (now (coordinates .entry))) (9 * axes) (r .weights) (r .places) ⌝ }
+    ensures { λ r. ⌜ Tabulated (at (now (coordinates .entry))) (9 * axes) (r .weights) (r .cells) ⌝ }
 {
     let mut weights = [0; 72];
-    let mut places = [0; 72];
+    let mut cells = [0; 72];
     let mut k: usize = 0;
     let mut t: usize = 0;
     let mut level: u32 = 0;
     while t < axes {
         let x = coordinates[t] as u64;
-        let here = place(x, level);
-        places[k] = here;
+        let here = cell(x, level);
+        cells[k] = here;
         weights[k] = weight(x, level, 2 * here + 1);
         k += 1;
         level += 1;
@@ -86,7 +85,7 @@ fn tabulated(axes: usize, coordinates: &[u32]) -> Hats
     }
     Hats {
         weights: weights,
-        places: places,
+        cells: cells,
     }
 }
 
@@ -96,9 +95,9 @@ struct Term {
     joint: u64,
 }
 
-fn taken(axes: usize, levels: [u32; 8], weights: &[u64; 72], places: &[u64; 72]) -> Term
-    requires { ⌜ Bounded axes (now weights) (now places) × (sumTo (at levels) axes ≤ 8) ⌝ }
-    ensures { λ r. ⌜ (r .position ≡ positionOf (now (places .entry)) (at levels) axes) × (r .joint ≡ jointOf (now (weights .entry)) (at levels) axes) ⌝ }
+fn taken(axes: usize, levels: [u32; 8], weights: &[u64; 72], cells: &[u64; 72]) -> Term
+    requires { ⌜ Bounded axes (now weights) (now cells) × (sumTo (at levels) axes ≤ 8) ⌝ }
+    ensures { λ r. ⌜ (r .position ≡ positionOf (now (cells .entry)) (at levels) axes) × (r .joint ≡ jointOf (now (weights .entry)) (at levels) axes) ⌝ }
 {
     let mut position: u64 = 0;
     let mut joint: u64 = 1 << BITS;
@@ -107,7 +106,7 @@ fn taken(axes: usize, levels: [u32; 8], weights: &[u64; 72], places: &[u64; 72])
     while t < axes {
         let level = levels[t];
         let k = 9 * t + level as usize;
-        position += places[k] << sum;
+        position += cells[k] << sum;
         joint = (joint * weights[k]) >> BITS;
         sum += level;
         t += 1;
@@ -175,14 +174,14 @@ pub fn evaluate(axes: u32, level: u32, table: &[i64], coordinates: &[u32]) -> i6
     let count = axes as usize;
     let hats = tabulated(count, coordinates);
     let weights = hats.weights;
-    let places = hats.places;
+    let cells = hats.cells;
     let mut high: i64 = 0;
     let mut low: u64 = 0;
     let mut first: usize = 0;
     let mut sum: u32 = 0;
     let mut levels = [0; 8];
     while first < table.len() {
-        let point = taken(count, levels, &weights, &places);
+        let point = taken(count, levels, &weights, &cells);
         let c = table[first + point.position as usize];
         high = add_high(high, c, point.joint);
         low = add_low(low, c, point.joint);

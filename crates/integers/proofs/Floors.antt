@@ -2,10 +2,10 @@
 -- natural numbers, and below zero what is left counts from the other end.
 -- Assumes nothing.
 use mathlib.Core.Path.{_≡_, refl, ap, sym, _∙_}
-use Prim.Native.Nat.{ℕ, suc, _+_, _-_, _*_, _/_, _%_, _≤_, _<_}
-use native.Mathlib.Nat.{suc-mul, mod-lt, div-add-mod', mul-add-div-right, div-eq-of-lt, div-le-self}
+use Prim.Native.Nat.{ℕ, suc, _+_, _-_, _*_, _/_, _%_, _<_}
+use native.Mathlib.Nat.{suc-mul, mod-lt, div-add-mod', mul-add-div-right, div-eq-of-lt}
 use native.Mathlib.Omega.{arith}
-use lib.IntN.{ℤ, pos, negsuc, negℤ, natAbs, subℕ, _+ℤ_, _*ℤ_, +ℤ-assoc}
+use lib.IntN.{ℤ, pos, negsuc, negℤ, _+ℤ_, _*ℤ_, +ℤ-assoc}
 use lib.Signed.{shrZ}
 use borrow.Author.Tests.{lt-ltb}
 use Rattle.integers.specs.Floor.{floor, remainder}
@@ -15,11 +15,6 @@ pub shift-floor : (m : ℕ) (z : ℤ) → shrZ z m ≡ floor m z
 unfolding floor
 shift-floor m (pos n) = refl
 shift-floor m (negsuc n) = refl
-
-pub floor-size : (m : ℕ) (z : ℤ) → natAbs (floor m z) ≤ natAbs z
-unfolding floor
-floor-size m (pos n) = div-le-self n m
-floor-size m (negsuc n) = omega (arith, div-le-self n m)
 
 pub remainder-lt : (m : ℕ) (z : ℤ) → 0 < m → remainder m z < m
 unfolding remainder

@@ -40,13 +40,13 @@ plus-times x y (suc n) =
     equal (a ⊕ b ⊕ (leaf x ⊕ leaf y)) (a ⊕ leaf x ⊕ (b ⊕ leaf y)) (omega arith))
     ∙ ap₂ _+ℤ_ (sym (times-suc x n)) (sym (times-suc y n))
 
+pub size-neg : (k : ℕ) → natAbs (negℤ (pos k)) ≡ k
+size-neg zero = refl
+size-neg (suc k) = refl
+
 pub size-times : (z : ℤ) (n : ℕ) → natAbs (z *ℤ pos n) ≡ natAbs z * n
 size-times (pos m) n = refl
 size-times (negsuc m) n = size-neg (suc m * n)
-  where
-    size-neg : (k : ℕ) → natAbs (negℤ (pos k)) ≡ k
-    size-neg zero = refl
-    size-neg (suc k) = refl
 
 -- A factor above 0 cancels.
 pub times-cancel : (x y : ℤ) (n : ℕ) → 0 < n → x *ℤ pos n ≡ y *ℤ pos n → x ≡ y

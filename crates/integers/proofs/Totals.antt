@@ -1,7 +1,8 @@
 -- Laws of finite sums of whole numbers: they are linear in their terms, and a sum with one term that is not 0 is that term. By induction over the length.
 -- Assumes nothing.
 use mathlib.Core.Path.{_≡_, refl, ap, ap₂, sym, _∙_}
-use Prim.Native.Nat.{ℕ, zero, suc, _<_}
+use Prim.Native.Nat.{ℕ, zero, suc, _+_, _<_}
+use native.Mathlib.Nat.{zero-add, add-zero, add-suc}
 use native.Mathlib.Omega.{arith}
 use lib.IntN.{ℤ, pos, _+ℤ_, _*ℤ_, +ℤ-idl, +ℤ-idr, zero-*ℤ}
 use Rattle.naturals.proofs.Cases.{eq-or-not}
@@ -50,16 +51,31 @@ total-times f k (suc m) =
     ∙ sym (plus-times (total f m) (f m) k)
     ∙ ap (λ (z : ℤ). z *ℤ pos k) (sym (total-suc f m))
 
+-- A total of which one term of the last b is left.
+total-none-past : (f : ℕ → ℤ) (a b : ℕ) → ((j : ℕ) → j < b → f (a + j) ≡ pos 0) → total f (a + b) ≡ total f a
+total-none-past f a zero none = ap (total f) (add-zero a)
+total-none-past f a (suc b) none =
+    ap (total f) (add-suc a b)
+    ∙ total-suc f (a + b)
+    ∙ ap₂ _+ℤ_ (total-none-past f a b (λ j h. none j (omega arith))) (none b (omega arith))
+    ∙ +ℤ-idr (total f a)
+
+pub total-block : (f : ℕ → ℤ) (a b q : ℕ) → q < b → ((j : ℕ) → j < b → (j ≡ q → ⊥) → f (a + j) ≡ pos 0) →
+    total f (a + b) ≡ total f a +ℤ f (a + q)
+total-block f a zero q h others = absurd (omega arith)
+total-block f a (suc b) q h others =
+    ap (total f) (add-suc a b)
+    ∙ total-suc f (a + b)
+    ∙ eq-or-not q b
+    (λ e. ap₂ _+ℤ_ (total-none-past f a b (λ j lt. others j (omega arith) (λ i. omega arith))) (ap (λ (j : ℕ). f (a + j)) (sym e)))
+    (λ e.
+    ap₂ _+ℤ_ (total-block f a b q (omega arith) (λ j lt ne. others j (omega arith) ne)) (others b (omega arith) (λ i. e (sym i)))
+    ∙ +ℤ-idr (total f a +ℤ f (a + q)))
+
 -- A total of which one term is left.
 pub total-one : (f : ℕ → ℤ) (m q : ℕ) → q < m → ((p : ℕ) → p < m → (p ≡ q → ⊥) → f p ≡ pos 0) → total f m ≡ f q
-total-one f zero q h others = absurd (omega arith)
-total-one f (suc m) q h others =
-    eq-or-not q m
-    (λ e.
-    total-suc f m
-    ∙ ap₂ _+ℤ_ (total-none f m (λ p lt. others p (omega arith) (λ i. omega arith))) (ap f (sym e))
-    ∙ +ℤ-idl (f q))
-    (λ e.
-    total-suc f m
-    ∙ ap₂ _+ℤ_ (total-one f m q (omega arith) (λ p lt ne. others p (omega arith) ne)) (others m (omega arith) (λ i. e (sym i)))
-    ∙ +ℤ-idr (f q))
+total-one f m q h others =
+    ap (total f) (sym (zero-add m))
+    ∙ total-block f 0 m q h (λ j lt ne. ap f (zero-add j) ∙ others j lt ne)
+    ∙ ap₂ _+ℤ_ (total-zero f) (ap f (zero-add q))
+    ∙ +ℤ-idl (f q)

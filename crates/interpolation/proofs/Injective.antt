@@ -2,7 +2,6 @@
 -- 0 at the border, whose turns agree are equal. By the falling depth: a value is found from its turn and the parents' values.
 -- Assumes nothing.
 use mathlib.Core.Path.{_≡_, refl, ap, ap₂, sym, _∙_}
-use mathlib.Core.Bool.{Bool, true}
 use Prim.Native.Nat.{ℕ, zero, suc, _≤_, _<_}
 use native.Mathlib.Omega.{arith}
 use lib.IntN.{ℤ, pos, negℤ, _+ℤ_, _*ℤ_, zero-*ℤ}
@@ -11,6 +10,7 @@ use Rattle.integers.proofs.Linear.{leaf, _⊕_, ⊖_, equal, known}
 use Rattle.numbering.specs.declared.Side.{Side}
 use Rattle.numbering.specs.declared.Side.the-variants.{Left, Right}
 use Rattle.hierarchy.specs.Grid.{Neighbours, Grid}
+use Rattle.hierarchy.specs.Sets.{everyAxis}
 use Rattle.hierarchy.proofs.Turned.{turned}
 use Rattle.hierarchy.proofs.Closed.{closed}
 use Rattle.integers.proofs.Products.{plus-times, neg-times}
@@ -35,10 +35,6 @@ multiple-at k f p = refl
 pub multiple-zero : (k : ℕ) (f : ℕ → ℤ) → f 0 ≡ pos 0 → multiple k f 0 ≡ pos 0
 unfolding multiple
 multiple-zero k f z = ap (λ (x : ℤ). x *ℤ pos k) z ∙ zero-*ℤ (pos k)
-
--- The set of all axes.
-abbrev pub everyAxis : ℕ → Bool
-everyAxis t = true
 
 module _ (nb : Neighbours) where
   pub turned-multiple : (t k : ℕ) (f : ℕ → ℤ) (p : ℕ) → turned nb t (multiple k f) p ≡ turned nb t f p *ℤ pos k

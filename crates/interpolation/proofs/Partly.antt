@@ -21,7 +21,7 @@ use Rattle.hierarchy.proofs.Work.{put-same, put-other}
 use Rattle.hierarchy.proofs.Turned.{turned}
 use Rattle.hierarchy.proofs.Closed.{With}
 use Rattle.interpolation.specs.Weighted.{weightedSum}
-use Rattle.interpolation.specs.Hats.{indicator, Weights, Agreement, Hats, factor, factors}
+use Rattle.interpolation.specs.Hats.{indicator, Weights, Agreement, Hats}
 use Rattle.interpolation.proofs.Products.{prodTo-zero, prodTo-suc, prodTo-cong, prodTo-split, prodTo-none}
 use Rattle.integers.proofs.Products.{times-one}
 use Rattle.interpolation.proofs.Weighted.{
@@ -46,6 +46,15 @@ prodTo-indicator b (suc d) =
     both true false = refl
     both false true = refl
     both false false = refl
+
+module _ (w : Weights) (same : Agreement) where
+  -- What axis t contributes for point p at a code: agreement, 1 or 0, on an axis of the set, and the weight on every other.
+  unfoldable pub factor : (ℕ → Bool) → ℕ → ℕ → ℕ → ℕ
+  factor set p q t = if set t then indicator (same t p q) else w t p q
+
+  -- The product over d axes.
+  unfoldable pub factors : ℕ → (ℕ → Bool) → ℕ → ℕ → ℕ
+  factors d set q p = prodTo (factor set p q) d
 
 module _ (m d : ℕ) (w : Weights) (same : Agreement) where
   -- The weighted sum at a code, with agreement for the weight on each axis of the set.

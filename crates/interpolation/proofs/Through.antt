@@ -15,19 +15,19 @@ use Rattle.integers.proofs.Linear.{leaf, _⊕_, ⊖_, equal, known}
 use Rattle.numbering.specs.declared.Side.the-variants.{Left, Right}
 use Rattle.hierarchy.specs.Grid.{Neighbours, Grid}
 use Rattle.hierarchy.specs.Turns.{sumOn, forward}
+use Rattle.hierarchy.specs.Sets.{everyAxis, noAxis}
 use Rattle.hierarchy.proofs.Turned.{turned}
 use Rattle.hierarchy.proofs.Closed.{closed, With}
 use Rattle.interpolation.specs.Weighted.{weightedSum}
-use Rattle.interpolation.specs.Hats.{Weights, Agreement, Hats, factors}
+use Rattle.interpolation.specs.Hats.{Weights, Agreement, Hats}
 use Rattle.integers.proofs.Products.{times-plus, times-one, times-times, plus-times, times-cancel}
-use Rattle.interpolation.proofs.Partly.{partly, partly-zero, partly-all, partly-turn}
+use Rattle.interpolation.proofs.Partly.{factors, partly, partly-zero, partly-all, partly-turn}
 use Rattle.interpolation.proofs.Injective.{
   Agree,
   agree-from,
   multiple,
   multiple-at,
   multiple-zero,
-  everyAxis,
   turned-multiple,
   turned-cong,
   turned-zero,
@@ -41,9 +41,6 @@ use Rattle.interpolation.proofs.Injective.{
 }
 
 -- ---- sets of axes
-
-abbrev pub noAxis : ℕ → Bool
-noAxis t = false
 
 -- The first k axes.
 unfoldable below : ℕ → ℕ → Bool
@@ -133,7 +130,7 @@ module _ (m d u : ℕ) (nb : Neighbours) (depth : ℕ → ℕ → ℕ) (grid : G
       ∙ sym (times-times (partly m d w same (below (suc k)) c (suc q)) (u + u) size))
 
   -- The turns of all axes leave the coefficient.
-  pub turns-all : (c : ℕ → ℤ) (q : ℕ) → 1 ≤ d → q < m →
+  turns-all : (c : ℕ → ℤ) (q : ℕ) → 1 ≤ d → q < m →
       closed nb everyAxis d (partly m d w same noAxis c) (suc q) ≡ c (suc q) *ℤ pos ((u + u) ^ d)
   turns-all c q dim point =
       turns-below c d q (omega arith) dim point

@@ -4,7 +4,6 @@
 use mathlib.Core.Bool.{Bool, true}
 use mathlib.Core.Path.{_≡_}
 use Prim.Native.Nat.{ℕ, suc, _+_, _*_, _<_}
-use Rattle.naturals.specs.Sum.{prodTo}
 use Rattle.naturals.specs.Test.{if_then_else_}
 use Rattle.numbering.specs.declared.Side.{Side}
 use Rattle.numbering.specs.declared.Side.the-variants.{Left, Right}
@@ -34,12 +33,3 @@ pub record Hats (m d u : ℕ) (nb : Neighbours) (w : Weights) (same : Agreement)
       w t p (suc q) + w t p (suc q) ≡ w t p (nb t Left (suc q)) + w t p (nb t Right (suc q)) + indicator (same t p (suc q)) * (u + u)
   pub itself : (t p : ℕ) → t < d → p < m → same t p (suc p) ≡ true
   pub one-point : (p q : ℕ) → p < m → q < m → ((t : ℕ) → t < d → same t p (suc q) ≡ true) → p ≡ q
-
-module _ (w : Weights) (same : Agreement) where
-  -- What axis t contributes for point p at a code: agreement, 1 or 0, on an axis of the set, and the weight on every other.
-  unfoldable pub factor : (ℕ → Bool) → ℕ → ℕ → ℕ → ℕ
-  factor set p q t = if set t then indicator (same t p q) else w t p q
-
-  -- The product over d axes.
-  unfoldable pub factors : ℕ → (ℕ → Bool) → ℕ → ℕ → ℕ
-  factors d set q p = prodTo (factor set p q) d

@@ -9,13 +9,13 @@ use lib.Pow.{pow-pos}
 use Rattle.numbering.specs.Count.{points}
 use Rattle.hierarchy.specs.declared.Turn.{Turn}
 use Rattle.hierarchy.specs.Turns.{valuesOf}
-use Rattle.hierarchy.specs.Sets.{tableOf}
+use Rattle.hierarchy.specs.Sets.{tableOf, noAxis}
 use Rattle.zero_border.specs.ZeroBorder.{neighbour}
 use Rattle.shapes.specs.declared.Shape.{Shape}
 use Rattle.shapes.proofs.Checked.{InRange}
 use Rattle.states.specs.States.{has}
 use Rattle.states.proofs.Bits.{no-bits}
-use Rattle.runs.specs.Model.{Axes, noAxis, modelSet, modelAnswers, modelAfter}
+use Rattle.runs.specs.Model.{Axes, modelSet, modelAnswers, modelAfter}
 use Rattle.runs.specs.Runs.{carriedOut, Ran, run}
 use Rattle.runs.proofs.Calls.{stateOf, Rates, Agrees, one-call}
 

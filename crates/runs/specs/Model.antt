@@ -16,9 +16,6 @@ use Rattle.hierarchy.specs.Work.{put}
 abbrev pub Axes : Type 0
 Axes = ℕ → Bool
 
-abbrev pub noAxis : Axes
-noAxis t = false
-
 -- Axis outside 1 to d: refused with 5. Forward on axis t: refused with 15 if t is in the set. Back on axis t: refused with 16 if t is not in the set.
 unfoldable pub modelAnswer : ℕ → Axes → Turn → Verdict
 modelAnswer d set (Forward axis) =

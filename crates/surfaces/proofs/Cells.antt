@@ -16,11 +16,15 @@ use Rattle.surfaces.proofs.GridPoints.{joint-zero, joint-suc}
 
 -- ---- one axis
 
-weight-is : (x l i : ℕ) → weight x l i ≡ unit - ((x * 2 ^ suc l - i * unit) + (i * unit - x * 2 ^ suc l))
-unfolding weight distance
+pub weight-is : (x l i : ℕ) → weight x l i ≡ unit - distance (x * 2 ^ suc l) (i * unit)
+unfolding weight
 weight-is x l i = refl
 
+pub weight-le : (x l i : ℕ) → weight x l i ≤ unit
+weight-le x l i = omega (arith, weight-is x l i)
+
 pub only-half : (x l i : ℕ) → i % 2 ≡ 1 → 0 < weight x l i → (i - 1) / 2 ≡ x * 2 ^ l / unit
+unfolding distance
 only-half x l i odd some =
     let index : i ≡ 2 * ((i - 1) / 2) + 1 = omega arith in
     sym (in-cell (x * 2 ^ l) ((i - 1) / 2) unit
@@ -50,17 +54,16 @@ module _ (x l i : ℕ → ℕ) where
       (λ e. rw e (right-above (joint x l i k) (weightOn x l i k) both))
       (λ ne. joint-above k (left-above (joint x l i k) (weightOn x l i k) both) t (omega arith))
 
-  weight-le : (t : ℕ) → weightOn x l i t ≤ unit
-  unfolding weightOn
-  weight-le t = omega (arith, weight-is (x t) (l t) (i t))
-
   pub joint-le : (k : ℕ) → joint x l i k ≤ unit
+  unfolding weightOn
   joint-le zero = omega (arith, joint-zero x l i)
-  joint-le (suc k) = rw (joint-suc x l i k) (div-le-of-le-mul unit (mul-le-mul (joint-le k) (weight-le k)))
+  joint-le (suc k) = rw (joint-suc x l i k) (div-le-of-le-mul unit (mul-le-mul (joint-le k) (weight-le (x k) (l k) (i k))))
 
 -- ---- the points of a shape
 
 module _ (d n : ℕ) (x : ℕ → ℕ) where
+  -- A point whose joint weight is above 0 has on each axis the index of the cell in which the coordinate lies. At the coordinate `unit` itself no point has a
+  -- weight above 0.
   pub which-point : (p : ℕ) → p < points d n → 0 < jointAt d n x p →
       (t : ℕ) → t < d → indexAt d n p t ≡ 2 * (x t * 2 ^ levelAt d n p t / unit) + 1
   unfolding jointAt weightOn

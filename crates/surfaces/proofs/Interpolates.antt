@@ -17,19 +17,18 @@ use Rattle.integers.proofs.Floors.{floor-unique}
 use Rattle.numbering.specs.Count.{points}
 use Rattle.numbering.specs.Inverse.{levelAt, indexAt}
 use Rattle.hierarchy.specs.Turns.{sumOn, forward}
-use Rattle.hierarchy.specs.Sets.{tableOf}
+use Rattle.hierarchy.specs.Sets.{tableOf, everyAxis, noAxis}
 use Rattle.hierarchy.specs.Work.{put}
 use Rattle.hierarchy.proofs.Work.{put-same, put-other}
 use Rattle.hierarchy.proofs.Closed.{table-closed}
 use Rattle.zero_border.specs.ZeroBorder.{neighbour, depth}
 use Rattle.zero_border.proofs.Instance.{zero-border}
 use Rattle.interpolation.specs.Weighted.{weightedSum}
-use Rattle.interpolation.specs.Hats.{indicator, factor, factors}
+use Rattle.interpolation.specs.Hats.{indicator}
 use Rattle.interpolation.proofs.Products.{prodTo-cong, prodTo-split}
 use Rattle.interpolation.proofs.Weighted.{weightedSum-cong}
-use Rattle.interpolation.proofs.Partly.{prodTo-indicator}
-use Rattle.interpolation.proofs.Injective.{everyAxis}
-use Rattle.interpolation.proofs.Through.{noAxis, others, others-in, others-out, passes-through, only-coefficients, line-sums}
+use Rattle.interpolation.proofs.Partly.{prodTo-indicator, factor, factors}
+use Rattle.interpolation.proofs.Through.{others, others-in, others-out, passes-through, only-coefficients, line-sums}
 use Rattle.surfaces.specs.Weights.{unit, weightOn}
 use Rattle.surfaces.specs.Surface.{coordinatesOf, productAt, jointAt, surface, rounded, estimateAt}
 use Rattle.surfaces.specs.Lines.{sameBeside, onLine, lineWeight, lineSum}
@@ -55,7 +54,7 @@ times-swap z a b = sym (times-times z a b) ∙ ap (λ (x : ℕ). z *ℤ pos x) (
 
 module _ (d n : ℕ) where
   -- The surface at a point is the sum that interpolation speaks of.
-  pub surface-factors : (c : ℕ → ℤ) (q : ℕ) →
+  surface-factors : (c : ℕ → ℤ) (q : ℕ) →
       surface d n c (coordinatesOf d n q) ≡ weightedSum (points d n) c (factors (gridWeight d n) (gridSame d n) d noAxis (suc q))
   unfolding surface productAt factors factor gridWeight
   surface-factors c q = refl

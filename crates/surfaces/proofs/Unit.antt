@@ -11,7 +11,7 @@ use Rattle.surfaces.specs.Weights.{unit, coordinate}
 abbrev pub unitBits : ℕ
 unitBits = 16
 
-unit-is : unit ≡ 2 ^ unitBits
+pub unit-is : unit ≡ 2 ^ unitBits
 unfolding unit
 unit-is = refl
 

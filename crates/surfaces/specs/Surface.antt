@@ -1,8 +1,9 @@
 -- The surface of a table of coefficients: its exact value at coordinates, and the estimate (document 01, "Estimates"). A table is a function from
--- codes to whole numbers; point number p is at code p + 1.
+-- codes to whole numbers: code 0 is the border, and code p + 1 is point number p.
 -- Assumes nothing.
+use mathlib.Core.Path.{_≡_}
 use Prim.Native.Nat.{ℕ, _^_}
-use lib.IntN.{ℤ}
+use lib.IntN.{ℤ, pos, _*ℤ_}
 use Rattle.naturals.specs.Sum.{prodTo}
 use Rattle.integers.specs.Floor.{floor}
 use Rattle.numbering.specs.Count.{points}
@@ -31,11 +32,15 @@ pub record Fraction : Type 0 where
   pub numerator : ℤ
   pub denominator : ℕ
 
+-- The fraction is this whole number: its numerator is the number times its denominator.
+abbrev pub Exactly : Fraction → ℤ → Type 0
+Exactly f z = f .numerator ≡ z *ℤ pos (f .denominator)
+
 -- The exact value of the surface at the coordinates x: the sum over the unit to the d.
 abbrev pub exactValue : ℕ → ℕ → (ℕ → ℤ) → (ℕ → ℕ) → Fraction
 exactValue d n c x = record { numerator = surface d n c x; denominator = unit ^ d }
 
--- The last division of an estimate, by 65,536, rounded down, also below zero.
+-- The last division of an estimate, by the unit, rounded down, also below zero.
 unfoldable pub rounded : ℤ → ℤ
 rounded z = floor unit z
 

@@ -12,7 +12,7 @@ unit = 65536
 unfoldable pub isCoordinate : ℕ → Bool
 isCoordinate x = leb x unit
 
--- The coordinate of a point on one axis, i / 2^(l+1).
+-- The coordinate of a point on one axis: i / 2^(l+1) in units. For the levels that a shape has the division loses nothing, since 2^(l+1) divides the unit.
 unfoldable pub coordinate : ℕ → ℕ → ℕ
 coordinate l i = i * unit / 2 ^ suc l
 
@@ -20,7 +20,7 @@ coordinate l i = i * unit / 2 ^ suc l
 unfoldable pub distance : ℕ → ℕ → ℕ
 distance a b = (a - b) + (b - a)
 
--- The weight at x of a point of level l and index i on one axis: 65,536 − |x × 2^(l+1) − i × 65,536|, or 0 where that is negative. (The hat function
+-- The weight at x of a point of level l and index i on one axis: the unit − |x × 2^(l+1) − i × the unit|, or 0 where that is negative. (The hat function
 -- of the point.)
 unfoldable pub weight : ℕ → ℕ → ℕ → ℕ
 weight x l i = unit - distance (x * 2 ^ suc l) (i * unit)
@@ -29,7 +29,7 @@ weight x l i = unit - distance (x * 2 ^ suc l) (i * unit)
 unfoldable pub weightOn : (ℕ → ℕ) → (ℕ → ℕ) → (ℕ → ℕ) → ℕ → ℕ
 weightOn x l i t = weight (x t) (l t) (i t)
 
--- The joint weight over the first k axes: it starts at 65,536; for each axis in turn it is multiplied by the axis weight, divided by 65,536 and
+-- The joint weight over the first k axes: it starts at the unit; for each axis in turn it is multiplied by the axis weight, divided by the unit and
 -- rounded down.
 unfoldable pub joint : (ℕ → ℕ) → (ℕ → ℕ) → (ℕ → ℕ) → ℕ → ℕ
 joint x l i zero = unit

@@ -3,7 +3,6 @@
 use mathlib.Core.Path.{_≡_}
 use mathlib.Core.Bool.{true, false}
 use mathlib.Core.List.{List, map}
-use Prim.Native.Nat.{_-_, _^_}
 use lib.IntN.{ℤ}
 use lib.ListN.{length}
 use Rattle.naturals.specs.Test.{all}
@@ -15,7 +14,7 @@ use Rattle.states.specs.declared.State.{State}
 use Rattle.states.specs.declared.Answer.the-variants.{Done, Refused}
 use Rattle.states.specs.After.{after, kept, left}
 use Rattle.states.specs.States.{checkState}
-use Rattle.tables.specs.Tables.{checkTable, checkRates, times, load, contentAt, adopt, quotient, scaledAt, unload}
+use Rattle.tables.specs.Tables.{checkTable, checkRates, times, load, contentAt, adopted, adopt, quotient, scaledAt, unload}
 use Rattle.tables.specs.Steps.{checkSampled}
 
 module _ (s : Shape) (xs : List ℤ) where
@@ -41,7 +40,7 @@ module _ (s : Shape) (xs : List ℤ) where
     unfolding adopt
     adopt-refused h = rw (e, h)
 
-    pub adopt-done : all (contentAt xs) (length xs) ≡ true → adopt s xs ≡ Done (record { shape = s; forward = 2 ^ (s .axes) - 1 })
+    pub adopt-done : all (contentAt xs) (length xs) ≡ true → adopt s xs ≡ Done (adopted s)
     unfolding adopt
     adopt-done h = rw (e, h)
 

@@ -3,11 +3,11 @@
 -- Assumes nothing.
 use mathlib.Core.Path.{_≡_, refl, ap, sym, _∙_}
 use mathlib.Core.Bool.{Bool, true, false, _&&_}
-use Prim.Native.Nat.{ℕ, zero, suc, _+_, _-_, _*_, _/_, _%_, _^_, _≤_, _<_}
-use native.Mathlib.Nat.{zero-mul, zero-div, suc-mul, mul-le-mul, mul-mod-left, mul-div-cancel, mul-add-div-right, div-add-mod', mod-lt, mod-eq-of-lt, mul-add-mod-self-right, div-eq-of-lt}
+use Prim.Native.Nat.{ℕ, suc, _+_, _*_, _/_, _%_, _^_, _≤_, _<_}
+use native.Mathlib.Nat.{zero-mul, zero-div, suc-mul, mul-le-mul, mul-mod-left, div-add-mod', mod-lt, mod-eq-of-lt, mul-add-mod-self-right}
 use native.Mathlib.Omega.{arith}
 use lib.Dec.{eqb}
-use lib.IntN.{ℤ, pos, negsuc, negℤ, natAbs}
+use lib.IntN.{ℤ, pos, negsuc, negℤ, natAbs, _*ℤ_, +ℤ-idr}
 use lib.Pow.{pow-pos, pow-lt, pow-mono}
 use lib.Signed.{shrZ, mag-shr}
 use mir.Syntax.{w64}
@@ -17,6 +17,9 @@ use borrow.Author.Tests.{eq-eqb, ne-eqb, eqb-true}
 use Rattle.naturals.proofs.Cases.{eq-or-not, le-or-lt}
 use Rattle.naturals.proofs.Tests.{and-left, and-right}
 use Rattle.integers.specs.Half.{isRate}
+use Rattle.integers.specs.Floor.{floor}
+use Rattle.integers.proofs.Floors.{shift-floor, floor-unique}
+use Rattle.integers.proofs.Products.{size-times}
 use Rattle.integers.proofs.Sizes.{small-fits, rate-size}
 use Rattle.states.proofs.Bits.{one-shifted}
 use Rattle.tables.specs.Tables.{times, quotient, isScaled}
@@ -25,26 +28,17 @@ use Rattle.tables.specs.Tables.{times, quotient, isScaled}
 pub unit-shifted : (d : ℕ) → d ≤ 8 → toZ w64 (1 * 2 ^ d % 2 ^ 64) ≡ pos (2 ^ d)
 unit-shifted d h = ap (toZ w64) (one-shifted 64 d (omega arith)) ∙ toZ-pos w64 (2 ^ d) (pow-lt {j = 63} (omega arith))
 
-value-shifted : (d : ℕ) (z : ℤ) → shrZ z (2 ^ d) ≡ quotient d z
-unfolding quotient
-value-shifted d (pos n) = refl
-value-shifted d (negsuc n) = refl
-
 pub shifted-bits : (d : ℕ) (z : ℤ) → SFits w64 z → toZ w64 (ofZ w64 (shrZ (toZ w64 (ofZ w64 z)) (2 ^ d))) ≡ quotient d z
+unfolding quotient
 shifted-bits d z fits =
     rw (toZ-ofZ w64 z fits, toZ-ofZ w64 (shrZ z (2 ^ d)) (record { sfits = omega (arith, mag-shr z (2 ^ d), fits .sfits) }))
-    (value-shifted d z)
+    (shift-floor (2 ^ d) z)
 
 -- ---- products
 
-neg-size : (n : ℕ) → natAbs (negℤ (pos n)) ≡ n
-neg-size zero = refl
-neg-size (suc n) = refl
-
 pub times-size : (d : ℕ) (z : ℤ) → natAbs (times d z) ≡ natAbs z * 2 ^ d
 unfolding times
-times-size d (pos n) = refl
-times-size d (negsuc n) = neg-size (suc n * 2 ^ d)
+times-size d z = size-times z (2 ^ d)
 
 pub times-fits : (d : ℕ) (z : ℤ) → d ≤ 8 → isRate z ≡ true → SFits w64 (times d z)
 times-fits d z h rate =
@@ -57,13 +51,7 @@ neg-pos n k e = rw e
 
 pub quotient-times : (d : ℕ) (z : ℤ) → quotient d (times d z) ≡ z
 unfolding times quotient
-quotient-times d (pos n) = ap pos (mul-div-cancel n (pow-pos d))
-quotient-times d (negsuc n) =
-    let m : ℕ = 2 ^ d in
-    let k : ℕ = n * m + (m - 1) in
-    let product : suc n * m ≡ suc k = omega (arith, suc-mul n m, pow-pos d) in
-    let least : (m - 1) / m ≡ 0 = div-eq-of-lt (omega (arith, pow-pos d)) in
-    ap (quotient d) (neg-pos (suc n * m) k product) ∙ ap negsuc (omega (arith, mul-add-div-right (pow-pos d) n (m - 1)))
+quotient-times d z = ap (floor (2 ^ d)) (sym (+ℤ-idr (z *ℤ pos (2 ^ d)))) ∙ floor-unique (2 ^ d) z 0 (pow-pos d)
 
 -- The last of m places in a row is the one after which the next row begins.
 row-ends : (n m : ℕ) → 0 < m → suc n % m ≡ 0 → suc (n / m) * m ≡ suc n
@@ -76,7 +64,7 @@ row-ends n m low e =
     (λ less. absurd (omega (arith, mod-eq-of-lt less)))
 
 pub times-quotient : (d : ℕ) (z : ℤ) → natAbs z % 2 ^ d ≡ 0 → times d (quotient d z) ≡ z
-unfolding times quotient
+unfolding times quotient floor
 times-quotient d (pos n) e = ap pos (omega (arith, div-add-mod' n (2 ^ d)))
 times-quotient d (negsuc n) e = neg-pos (suc (n / 2 ^ d) * 2 ^ d) n (row-ends n (2 ^ d) (pow-pos d) e)
 
@@ -89,7 +77,7 @@ unfolding times
 times-zero d = ap pos (zero-mul (2 ^ d))
 
 pub quotient-zero : (d : ℕ) → quotient d (pos 0) ≡ pos 0
-unfolding quotient
+unfolding quotient floor
 quotient-zero d = ap pos (zero-div (2 ^ d))
 
 -- ---- the test of a value

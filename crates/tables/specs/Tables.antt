@@ -2,15 +2,16 @@
 -- Assumes nothing.
 use mathlib.Core.Bool.{Bool, not, _&&_}
 use mathlib.Core.List.{List, map}
-use Prim.Native.Nat.{ℕ, zero, suc, _-_, _/_, _%_, _^_}
+use Prim.Native.Nat.{ℕ, zero, suc, _-_, _%_, _^_}
 use lib.Dec.{leb, ltb, eqb}
-use lib.IntN.{ℤ, pos, negsuc, natAbs, _*ℤ_}
+use lib.IntN.{ℤ, pos, natAbs, _*ℤ_}
 use lib.ListN.{length}
 use Rattle.naturals.specs.Test.{if_then_else_, all}
 use Rattle.refusals.specs.declared.Refusal.the-variants.{TableLength, Rate, Contents, StillForward}
 use Rattle.refusals.specs.declared.Verdict.{Verdict}
 use Rattle.refusals.specs.Checks.{unless, _andThen_, answer}
 use Rattle.integers.specs.Half.{inLimit, isRate}
+use Rattle.integers.specs.Floor.{floor}
 use Rattle.numbering.specs.Count.{points}
 use Rattle.hierarchy.specs.Turns.{valueAt}
 use Rattle.shapes.specs.declared.Shape.{Shape}
@@ -56,16 +57,19 @@ load s xs =
 unfoldable pub contentAt : List ℤ → ℕ → Bool
 contentAt xs p = inLimit (valueAt xs (suc p))
 
+-- The state of an adopted table: all axes forward.
+abbrev pub adopted : Shape → State
+adopted s = record { shape = s; forward = 2 ^ (s .axes) - 1 }
+
 -- Adopt: coefficients, unchanged, all axes forward.
 unfoldable pub adopt : Shape → List ℤ → Answer
 adopt s xs =
     answer Refused (checkTable s xs andThen unless (all (contentAt xs) (length xs)) Contents)
-    (Done (record { shape = s; forward = 2 ^ (s .axes) - 1 }))
+    (Done (adopted s))
 
 -- A value divided by 2^d, rounded down.
 unfoldable pub quotient : ℕ → ℤ → ℤ
-quotient d (pos n) = pos (n / 2 ^ d)
-quotient d (negsuc n) = negsuc (n / 2 ^ d)
+quotient d z = floor (2 ^ d) z
 
 -- The value is 2^d times a rate: it is divisible, and the quotient is a rate.
 unfoldable pub isScaled : ℕ → ℤ → Bool

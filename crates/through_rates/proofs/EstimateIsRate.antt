@@ -23,6 +23,7 @@ use Rattle.numbering.specs.Point.{at}
 use Rattle.numbering.specs.Inverse.{levelAt, indexAt}
 use Rattle.numbering.proofs.Numbering.{index-zero, point-of-number}
 use Rattle.hierarchy.specs.Turns.{valueAt}
+use Rattle.hierarchy.specs.Sets.{everyAxis}
 use Rattle.hierarchy.proofs.Values.{value-zero, value-suc, value-past}
 use Rattle.hierarchy.proofs.Bounds.{table-in-limit}
 use Rattle.zero_border.specs.ZeroBorder.{neighbour}
@@ -31,19 +32,21 @@ use Rattle.surfaces.specs.Surface.{coordinatesOf, estimateAt}
 use Rattle.surfaces.proofs.Interpolates.{estimate-through}
 use Rattle.shapes.specs.declared.Shape.{Shape}
 use Rattle.shapes.proofs.Checked.{InRange, passed-in-range}
-use Rattle.states.specs.declared.State.{State}
+use Rattle.states.specs.declared.Answer.the-variants.{Done}
 use Rattle.states.specs.States.{has, checkContents, checkState}
 use Rattle.states.proofs.Bits.{all-bits-in}
-use Rattle.tables.specs.Tables.{contentAt, times}
+use Rattle.tables.specs.Tables.{times, contentAt, adopted, adopt}
 use Rattle.tables.proofs.FirstFailing.{first-none}
+use Rattle.tables.proofs.Checking.{table-passes}
+use Rattle.tables.proofs.Answering.{adopt-done}
 use Rattle.whole.specs.Accepted.{Accepted}
-use Rattle.whole.specs.Whole.{allAxes, coefficientsOf}
+use Rattle.whole.specs.Whole.{coefficientsOf}
 use Rattle.whole.proofs.Inverse.{coefficients-length}
+use Rattle.whole.proofs.AnswersDown.{coefficient-at}
 use Rattle.estimates.specs.declared.Estimated.the-variants.{Value}
-use Rattle.estimates.specs.Estimates.{firstSampled, checkForward, coordinateAt, firstOutside, checkCoordinates, estimate}
+use Rattle.estimates.specs.Estimates.{firstSampled, checkForward, insideAt, firstOutside, checkCoordinates, estimate}
 use Rattle.estimates.proofs.Answering.{estimated}
 use Rattle.through_rates.specs.Coordinates.{firstValues, coordinateList}
-use Rattle.through_rates.proofs.ThroughRates.{coefficients-at}
 
 -- ---- the list of coordinates
 
@@ -94,8 +97,8 @@ module _ (s : Shape) (q : ℕ) where
       (mul-le-mul-right unit (omega (arith, point-of-number (s .axes) (s .level) q h .below t axis)))
 
   module _ (h : q < points (s .axes) (s .level)) where
-    is-coordinate : (t : ℕ) → t < s .axes → coordinateAt (coordinateList s q) t ≡ true
-    unfolding coordinateAt isCoordinate
+    is-coordinate : (t : ℕ) → t < s .axes → insideAt (coordinateList s q) t ≡ true
+    unfolding insideAt isCoordinate
     is-coordinate t axis =
         ap (λ (x : ℕ → ℕ). isCoordinate (x t)) list-holds
         ∙ le-leb (coordinatesOf (s .axes) (s .level) q t) unit (coordinate-small h t axis)
@@ -105,7 +108,7 @@ module _ (s : Shape) (q : ℕ) where
     coordinates-pass =
         rw (
           eq-eqb (length (coordinateList s q)) (s .axes) list-length,
-          first-none (coordinateAt (coordinateList s q)) (s .axes) is-coordinate,
+          first-none (insideAt (coordinateList s q)) (s .axes) is-coordinate,
           le-leb (s .axes) (s .axes) (omega arith),
         )
 
@@ -115,11 +118,7 @@ module _ (s : Shape) (rs : List ℤ) (a : Accepted s rs) where
   range : InRange s
   range = passed-in-range s (a .shape)
 
-  -- The state of an adopted table: all axes forward.
-  abbrev adopted : State
-  adopted = record { shape = s; forward = 2 ^ (s .axes) - 1 }
-
-  state-passes : checkState adopted (length (coefficientsOf s rs)) ≡ Passed
+  state-passes : checkState (adopted s) (length (coefficientsOf s rs)) ≡ Passed
   unfolding checkState checkContents
   state-passes =
       rw (
@@ -128,7 +127,7 @@ module _ (s : Shape) (rs : List ℤ) (a : Accepted s rs) where
         eq-eqb (length (coefficientsOf s rs)) (points (s .axes) (s .level)) (coefficients-length s (range .top) rs),
       )
 
-  forward-passes : checkForward adopted ≡ Passed
+  forward-passes : checkForward (adopted s) ≡ Passed
   unfolding checkForward firstSampled
   forward-passes =
       rw (
@@ -148,18 +147,24 @@ module _ (s : Shape) (rs : List ℤ) (a : Accepted s rs) where
   contents-pass =
       all-from (contentAt (coefficientsOf s rs)) (length (coefficientsOf s rs))
       (λ p h.
-      ap inLimit (coefficients-at s rs p (omega (arith, coefficients-length s (range .top) rs)))
-      ∙ table-in-limit (neighbour (s .axes) (s .level)) allAxes (s .axes) (valueAt rs) (range .high) rate-small (suc p))
+      ap inLimit (coefficient-at s rs p (omega (arith, coefficients-length s (range .top) rs)))
+      ∙ table-in-limit (neighbour (s .axes) (s .level)) everyAxis (s .axes) (valueAt rs) (range .high) rate-small (suc p))
+
+  -- The coefficients can be adopted.
+  pub adopted-coefficients : adopt s (coefficientsOf s rs) ≡ Done (adopted s)
+  adopted-coefficients =
+      adopt-done s (coefficientsOf s rs)
+      (table-passes s (coefficientsOf s rs) (record { range = range; long = coefficients-length s (range .top) rs }))
+      contents-pass
 
   -- The estimate at a point is the rate there times 2^d.
   pub estimate-is-rate : (q : ℕ) → q < points (s .axes) (s .level) →
-      estimate (record { shape = s; forward = 2 ^ (s .axes) - 1 }) (coefficientsOf s rs) (coordinateList s q)
-      ≡ Value (times (s .axes) (getD rs q (pos 0)))
+      estimate (adopted s) (coefficientsOf s rs) (coordinateList s q) ≡ Value (times (s .axes) (getD rs q (pos 0)))
   unfolding times
   estimate-is-rate q h =
-      estimated adopted (coefficientsOf s rs) (coordinateList s q) state-passes forward-passes (coordinates-pass s q h) contents-pass
+      estimated (adopted s) (coefficientsOf s rs) (coordinateList s q) state-passes forward-passes (coordinates-pass s q h) contents-pass
       ∙ ap Value
       (ap (estimateAt (s .axes) (s .level) (valueAt (coefficientsOf s rs))) (list-holds s q)
       ∙ estimate-through (s .axes) (s .level) (range .low) (range .top) (valueAt (coefficientsOf s rs)) (valueAt rs) (value-zero rs)
-      (coefficients-at s rs) q h
+      (coefficient-at s rs) q h
       ∙ ap (times (s .axes)) (value-suc rs q))

@@ -1,2 +1,3 @@
 pub mod ThroughRates
 pub mod EstimateIsRate
+pub mod OneLine

@@ -14,11 +14,10 @@ use Rattle.integers.specs.Half.{isEven, inLimit}
 use Rattle.numbering.specs.Count.{points}
 use Rattle.hierarchy.specs.Grid.{Neighbours}
 use Rattle.hierarchy.specs.Turns.{valueAt, sumOn, forward, acceptedAt, accepted}
-use Rattle.hierarchy.specs.Sets.{tableOf}
-use Rattle.hierarchy.proofs.Values.{value-zero, value-suc, values-at}
+use Rattle.hierarchy.proofs.Values.{value-zero, value-suc}
 use Rattle.zero_border.specs.ZeroBorder.{neighbour}
 use Rattle.surfaces.specs.Weights.{unit}
-use Rattle.surfaces.specs.Surface.{coordinatesOf, surface, exactValue}
+use Rattle.surfaces.specs.Surface.{coordinatesOf, exactValue, Exactly}
 use Rattle.surfaces.specs.Lines.{lineSum}
 use Rattle.surfaces.proofs.Interpolates.{surface-through, only-surface, line-through}
 use Rattle.shapes.specs.declared.Shape.{Shape}
@@ -26,21 +25,15 @@ use Rattle.shapes.proofs.Checked.{InRange, passed-in-range}
 use Rattle.states.specs.declared.State.{State}
 use Rattle.states.specs.declared.Answer.the-variants.{Done}
 use Rattle.states.specs.After.{after}
+use Rattle.tables.specs.Tables.{times}
 use Rattle.turns.specs.Turns.{isAccepted, forwardTurn}
 use Rattle.turns.proofs.Checking.{place-of}
 use Rattle.turns.proofs.Undoing.{turned-holds}
 use Rattle.turns.proofs.BothWays.{went-forward}
 use Rattle.whole.specs.Accepted.{Accepted}
-use Rattle.whole.specs.Whole.{allAxes, coefficientsOf}
+use Rattle.whole.specs.Whole.{coefficientsOf}
 use Rattle.whole.proofs.Inverse.{coefficients-length}
-
--- What the list of coefficients holds at a point.
-pub coefficients-at : (s : Shape) (rs : List ℤ) (q : ℕ) → q < points (s .axes) (s .level) →
-    valueAt (coefficientsOf s rs) (suc q) ≡ tableOf (neighbour (s .axes) (s .level)) (s .axes) allAxes (valueAt rs) (suc q)
-unfolding coefficientsOf
-coefficients-at s rs q h =
-    value-suc (coefficientsOf s rs) q
-    ∙ values-at (points (s .axes) (s .level)) (tableOf (neighbour (s .axes) (s .level)) (s .axes) allAxes (valueAt rs)) q h
+use Rattle.whole.proofs.AnswersDown.{coefficient-at}
 
 module _ (s : Shape) (rs : List ℤ) (a : Accepted s rs) where
   range : InRange s
@@ -48,20 +41,21 @@ module _ (s : Shape) (rs : List ℤ) (a : Accepted s rs) where
 
   -- The surface passes through every rate, times 2^d.
   pub surface-of-coefficients : (q : ℕ) → q < points (s .axes) (s .level) →
-      exactValue (s .axes) (s .level) (valueAt (coefficientsOf s rs)) (coordinatesOf (s .axes) (s .level) q)
-      ≡ record { numerator = getD rs q (pos 0) *ℤ pos (2 ^ (s .axes)) *ℤ pos (unit ^ (s .axes)); denominator = unit ^ (s .axes) }
+      Exactly (exactValue (s .axes) (s .level) (valueAt (coefficientsOf s rs)) (coordinatesOf (s .axes) (s .level) q))
+      (times (s .axes) (getD rs q (pos 0)))
+  unfolding times
   surface-of-coefficients q h =
-      ap (λ (z : ℤ). record { numerator = z; denominator = unit ^ (s .axes) })
-      (surface-through (s .axes) (s .level) (range .low) (range .top) (valueAt (coefficientsOf s rs)) (valueAt rs) (value-zero rs)
-      (coefficients-at s rs) q h
-      ∙ ap (λ (z : ℤ). z *ℤ pos (2 ^ (s .axes)) *ℤ pos (unit ^ (s .axes))) (value-suc rs q))
+      surface-through (s .axes) (s .level) (range .low) (range .top) (valueAt (coefficientsOf s rs)) (valueAt rs) (value-zero rs)
+      (coefficient-at s rs) q h
+      ∙ ap (λ (z : ℤ). z *ℤ pos (2 ^ (s .axes)) *ℤ pos (unit ^ (s .axes))) (value-suc rs q)
 
   -- No other coefficients have such a surface.
   pub only-coefficients-through : (xs : List ℤ) → length xs ≡ points (s .axes) (s .level) →
       ((q : ℕ) → q < points (s .axes) (s .level) →
-      surface (s .axes) (s .level) (valueAt xs) (coordinatesOf (s .axes) (s .level) q)
-      ≡ getD rs q (pos 0) *ℤ pos (2 ^ (s .axes)) *ℤ pos (unit ^ (s .axes))) →
+      Exactly (exactValue (s .axes) (s .level) (valueAt xs) (coordinatesOf (s .axes) (s .level) q))
+      (times (s .axes) (getD rs q (pos 0)))) →
       xs ≡ coefficientsOf s rs
+  unfolding times
   only-coefficients-through xs long through =
       ext-getD (pos 0) xs (coefficientsOf s rs) (long ∙ sym (coefficients-length s (range .top) rs))
       (λ i h. at-place i (omega arith))
@@ -73,7 +67,7 @@ module _ (s : Shape) (rs : List ℤ) (a : Accepted s rs) where
           (λ q lt.
           through q lt ∙ ap (λ (z : ℤ). z *ℤ pos (2 ^ (s .axes)) *ℤ pos (unit ^ (s .axes))) (sym (value-suc rs q)))
           i h
-          ∙ sym (coefficients-at s rs i h)
+          ∙ sym (coefficient-at s rs i h)
           ∙ value-suc (coefficientsOf s rs) i
 
 -- An accepted turn has an even sum at each point.

@@ -9,14 +9,14 @@ use lib.IntN.{ℤ}
 use lib.ListN.{length}
 use Rattle.numbering.specs.Count.{points}
 use Rattle.hierarchy.specs.Turns.{valueAt, valuesOf}
-use Rattle.hierarchy.specs.Sets.{tableOf}
+use Rattle.hierarchy.specs.Sets.{tableOf, everyAxis}
 use Rattle.zero_border.specs.ZeroBorder.{neighbour}
 use Rattle.shapes.specs.declared.Shape.{Shape}
 use Rattle.shapes.proofs.Checked.{InRange}
 use Rattle.tables.specs.Tables.{times}
 use Rattle.turns.specs.Turns.{forwardTurn}
 use Rattle.runs.proofs.Calls.{stateOf, Rates, Agrees}
-use Rattle.whole.specs.Whole.{allAxes, coefficientsOf}
+use Rattle.whole.specs.Whole.{coefficientsOf}
 use Rattle.whole.specs.Steps.{ascent}
 use Rattle.whole.proofs.Folding.{ascent-none, ascent-done}
 use Rattle.whole.proofs.Inverse.{AreRates}
@@ -27,7 +27,7 @@ use Rattle.whole.proofs.Descending.{Undo, top, up}
 module _ (s : Shape) (range : InRange s) where
   module _ (r : ℕ → ℤ) (rates : Rates (points (s .axes) (s .level)) r) where
     climbs : (m k byte : ℕ) (xs : List ℤ) → k + m ≡ s .axes → Agrees s range r rates (upTo k) byte xs →
-        ascent m k (stateOf s byte) xs ≡ valuesOf (points (s .axes) (s .level)) (tableOf (neighbour (s .axes) (s .level)) (s .axes) allAxes r)
+        ascent m k (stateOf s byte) xs ≡ valuesOf (points (s .axes) (s .level)) (tableOf (neighbour (s .axes) (s .level)) (s .axes) everyAxis r)
     climbs zero k byte xs e a =
         let all : k ≡ s .axes = omega arith in
         ascent-none k (stateOf s byte) xs ∙ climb-ends s range r rates byte xs (rw all at a)

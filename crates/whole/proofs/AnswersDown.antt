@@ -20,7 +20,7 @@ use Rattle.refusals.specs.Checks.{unless}
 use Rattle.integers.specs.Half.{inLimit}
 use Rattle.numbering.specs.Count.{points}
 use Rattle.hierarchy.specs.Turns.{valueAt}
-use Rattle.hierarchy.specs.Sets.{tableOf}
+use Rattle.hierarchy.specs.Sets.{tableOf, everyAxis}
 use Rattle.hierarchy.proofs.Bounds.{in-limit}
 use Rattle.hierarchy.proofs.Closed.{table-closed}
 use Rattle.hierarchy.proofs.Values.{value-suc, values-at}
@@ -34,7 +34,7 @@ use Rattle.tables.proofs.Answering.{adopt-unchecked, adopt-refused, adopt-done}
 use Rattle.tables.proofs.Checking.{Opens, table-passed}
 use Rattle.runs.proofs.Calls.{stateOf}
 use Rattle.whole.specs.declared.Descent.{Descent}
-use Rattle.whole.specs.Whole.{allAxes, coefficientsOf, ratesOf, hasRates, coefficientsToRates}
+use Rattle.whole.specs.Whole.{coefficientsOf, ratesOf, hasRates, coefficientsToRates}
 use Rattle.whole.specs.Steps.{ascent, gone, descent}
 use Rattle.whole.proofs.Inverse.{AreRates, has-rates}
 use Rattle.whole.proofs.Loading.{rates-of-list}
@@ -57,6 +57,13 @@ left-refused ys zs qs true r e =
     let z : _≡_ {A = ℕ} 0 1 = cc in absurd (omega arith)
 left-refused ys zs qs false r e = (refl, ap (λ (l : Left). l .table) e)
 
+-- What the list of coefficients holds at a point.
+pub coefficient-at : (s : Shape) (rs : List ℤ) (p : ℕ) → p < points (s .axes) (s .level) →
+    valueAt (coefficientsOf s rs) (suc p) ≡ tableOf (neighbour (s .axes) (s .level)) (s .axes) everyAxis (valueAt rs) (suc p)
+unfolding coefficientsOf
+coefficient-at s rs p h =
+    value-suc (coefficientsOf s rs) p ∙ values-at (points (s .axes) (s .level)) (tableOf (neighbour (s .axes) (s .level)) (s .axes) everyAxis (valueAt rs)) p h
+
 module _ (s : Shape) (xs : List ℤ) where
   pub refused-rates : checkTable s xs ≡ Passed → hasRates s xs ≡ false → coefficientsToRates s xs ≡ left (verdict.Refused Contents) xs
   unfolding coefficientsToRates
@@ -71,12 +78,6 @@ module _ (s : Shape) (xs : List ℤ) where
   unfolding contentAt
   content-means ys p = refl
 
-  coefficient-at : (rs : List ℤ) (p : ℕ) → p < points (s .axes) (s .level) →
-      valueAt (coefficientsOf s rs) (suc p) ≡ tableOf (neighbour (s .axes) (s .level)) (s .axes) allAxes (valueAt rs) (suc p)
-  unfolding coefficientsOf
-  coefficient-at rs p h =
-      value-suc (coefficientsOf s rs) p ∙ values-at (points (s .axes) (s .level)) (tableOf (neighbour (s .axes) (s .level)) (s .axes) allAxes (valueAt rs)) p h
-
   limited : Opens s xs → hasRates s xs ≡ true → all (contentAt xs) (length xs) ≡ true
   limited o e = all-from (contentAt xs) (length xs) (λ p h. at-place p (omega (arith, o .long)))
     where
@@ -90,8 +91,8 @@ module _ (s : Shape) (xs : List ℤ) where
       at-place p h =
           content-means xs p
           ∙ ap (λ (l : List ℤ). inLimit (valueAt l (suc p))) (sym (there .1))
-          ∙ ap inLimit (coefficient-at rs p h ∙ ap (λ (f : ℕ → ℤ). f (suc p)) (table-closed (neighbour (s .axes) (s .level)) (s .axes) allAxes (valueAt rs)))
-          ∙ in-limit (neighbour (s .axes) (s .level)) allAxes (s .axes) (valueAt rs) (o .range .high) (rates-of-list s rs (there .0) .small) (suc p)
+          ∙ ap inLimit (coefficient-at s rs p h ∙ ap (λ (f : ℕ → ℤ). f (suc p)) (table-closed (neighbour (s .axes) (s .level)) (s .axes) everyAxis (valueAt rs)))
+          ∙ in-limit (neighbour (s .axes) (s .level)) everyAxis (s .axes) (valueAt rs) (o .range .high) (rates-of-list s rs (there .0) .small) (suc p)
 
   not-limited : Opens s xs → all (contentAt xs) (length xs) ≡ false → hasRates s xs ≡ false
   not-limited o e = true-or-false (hasRates s xs) (λ yes. absurd (true≢false (sym (limited o yes) ∙ e))) (λ no-rates. no-rates)

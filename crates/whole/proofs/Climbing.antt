@@ -15,7 +15,7 @@ use Rattle.refusals.specs.declared.Verdict.the-variants as verdict
 use Rattle.numbering.specs.Count.{points}
 use Rattle.hierarchy.specs.declared.Turn.the-variants.{Forward, Back}
 use Rattle.hierarchy.specs.Turns.{valuesOf}
-use Rattle.hierarchy.specs.Sets.{tableOf}
+use Rattle.hierarchy.specs.Sets.{tableOf, noAxis, everyAxis}
 use Rattle.hierarchy.specs.Work.{put}
 use Rattle.hierarchy.proofs.Closed.{table-cong}
 use Rattle.hierarchy.proofs.Work.{put-same, put-other}
@@ -27,10 +27,9 @@ use Rattle.states.specs.declared.Answer.{Answer}
 use Rattle.states.specs.declared.Answer.the-variants.{Done, Refused}
 use Rattle.states.specs.After.{After, after}
 use Rattle.turns.specs.Turns.{forwardTurn, backTurn}
-use Rattle.runs.specs.Model.{Axes, noAxis, modelAnswer, modelSet}
+use Rattle.runs.specs.Model.{Axes, modelAnswer, modelSet}
 use Rattle.runs.specs.Runs.{verdictOf, handedOn}
 use Rattle.runs.proofs.Calls.{stateOf, Rates, Agrees, one-call}
-use Rattle.whole.specs.Whole.{allAxes}
 
 -- The first k axes.
 unfoldable pub upTo : ℕ → Axes
@@ -120,11 +119,11 @@ module _ (s : Shape) (range : InRange s) (r : ℕ → ℤ) (rates : Rates (point
   climb-starts byte xs a = agrees-as noAxis (upTo 0) byte xs (λ t. sym (up-out 0 t (omega arith))) a
 
   pub climb-ends : (byte : ℕ) (xs : List ℤ) → Agrees s range r rates (upTo (s .axes)) byte xs →
-      xs ≡ valuesOf (points (s .axes) (s .level)) (tableOf (neighbour (s .axes) (s .level)) (s .axes) allAxes r)
+      xs ≡ valuesOf (points (s .axes) (s .level)) (tableOf (neighbour (s .axes) (s .level)) (s .axes) everyAxis r)
   climb-ends byte xs a =
       a .table
       ∙ ap (valuesOf (points (s .axes) (s .level)))
-      (table-cong (neighbour (s .axes) (s .level)) (s .axes) (upTo (s .axes)) allAxes r (λ t h. up-in (s .axes) t h))
+      (table-cong (neighbour (s .axes) (s .level)) (s .axes) (upTo (s .axes)) everyAxis r (λ t h. up-in (s .axes) t h))
 
   -- One turn down, of a table that agrees: it is not refused.
   down-passes : (k : ℕ) → k < s .axes → modelAnswer (s .axes) (upTo (suc k)) (Back (suc k)) ≡ verdict.Passed

@@ -19,7 +19,7 @@ use Rattle.refusals.specs.Checks.{unless}
 use Rattle.integers.specs.Half.{isRate}
 use Rattle.numbering.specs.Count.{points}
 use Rattle.hierarchy.specs.Turns.{valueAt, valuesOf}
-use Rattle.hierarchy.specs.Sets.{scaled, swept, tableOf}
+use Rattle.hierarchy.specs.Sets.{scaled, swept, tableOf, noAxis, everyAxis}
 use Rattle.hierarchy.proofs.Closed.{table-cong}
 use Rattle.hierarchy.proofs.Values.{value-zero, value-suc, value-past, values-at, values-of-value}
 use Rattle.zero_border.specs.ZeroBorder.{neighbour}
@@ -31,9 +31,8 @@ use Rattle.states.proofs.Bits.{all-bits-in, all-bits-out}
 use Rattle.tables.specs.Tables.{rateAt, times, quotient, isScaled, scaledAt, notForward, firstForward, unload}
 use Rattle.tables.proofs.FirstFailing.{first-none}
 use Rattle.tables.proofs.Quotients.{quotient-times, times-quotient, times-divisible}
-use Rattle.runs.specs.Model.{noAxis}
 use Rattle.runs.proofs.Calls.{stateOf, Agrees}
-use Rattle.whole.specs.Whole.{allAxes, coefficientsOf, backAll, ratesOf, hasRates}
+use Rattle.whole.specs.Whole.{coefficientsOf, backAll, ratesOf, hasRates}
 use Rattle.whole.proofs.AllAxes.{back-zero, back-past, swept-of-back}
 use Rattle.whole.proofs.Inverse.{AreRates, has-rates, coefficients-have-rates, rates-length, rates-at}
 use Rattle.whole.proofs.Loading.{rates-of-list, table-of-none, times-zero, rate-at}
@@ -64,13 +63,13 @@ module _ (s : Shape) (range : InRange s) (xs₀ : List ℤ) (len : length xs₀ 
       (λ past. all-bits-out (s .axes) t past ∙ sym (up-out (s .axes) t past))
       (λ h. all-bits-in (s .axes) t h ∙ sym (up-in (s .axes) t h))
 
-  coefficients-are : (rs : List ℤ) → coefficientsOf s rs ≡ valuesOf (points (s .axes) (s .level)) (tableOf (neighbour (s .axes) (s .level)) (s .axes) allAxes (valueAt rs))
+  coefficients-are : (rs : List ℤ) → coefficientsOf s rs ≡ valuesOf (points (s .axes) (s .level)) (tableOf (neighbour (s .axes) (s .level)) (s .axes) everyAxis (valueAt rs))
   unfolding coefficientsOf
   coefficients-are rs = refl
 
   table-swept : (rs : List ℤ) →
-      tableOf (neighbour (s .axes) (s .level)) (s .axes) allAxes (valueAt rs)
-      ≡ swept (neighbour (s .axes) (s .level)) allAxes (s .axes) (scaled (s .axes) (valueAt rs))
+      tableOf (neighbour (s .axes) (s .level)) (s .axes) everyAxis (valueAt rs)
+      ≡ swept (neighbour (s .axes) (s .level)) everyAxis (s .axes) (scaled (s .axes) (valueAt rs))
   unfolding tableOf
   table-swept rs = refl
 
@@ -92,7 +91,7 @@ module _ (s : Shape) (range : InRange s) (xs₀ : List ℤ) (len : length xs₀ 
                   sym (has-rates s (range .top) xs₀ len e .1)
                   ∙ coefficients-are (ratesOf s xs₀)
                   ∙ ap (valuesOf (points (s .axes) (s .level)))
-                  (table-cong (neighbour (s .axes) (s .level)) (s .axes) allAxes (upTo (s .axes)) (valueAt (ratesOf s xs₀)) (λ t h. sym (up-in (s .axes) t h)));
+                  (table-cong (neighbour (s .axes) (s .level)) (s .axes) everyAxis (upTo (s .axes)) (valueAt (ratesOf s xs₀)) (λ t h. sym (up-in (s .axes) t h)));
             };
       }
 
@@ -184,7 +183,7 @@ module _ (s : Shape) (range : InRange s) (xs₀ : List ℤ) (len : length xs₀ 
           (coefficients-are (ratesOf s xs₀)
           ∙ ap (valuesOf (points (s .axes) (s .level)))
           (table-swept (ratesOf s xs₀)
-          ∙ ap (swept (neighbour (s .axes) (s .level)) allAxes (s .axes)) (fun-ext scaled-back)
+          ∙ ap (swept (neighbour (s .axes) (s .level)) everyAxis (s .axes)) (fun-ext scaled-back)
           ∙ swept-of-back s (range .top) (s .axes) (valueAt xs₀) (value-zero xs₀))
           ∙ values-of-value (points (s .axes) (s .level)) xs₀ len)
 

@@ -5,7 +5,6 @@ use mathlib.Core.Path.{_≡_, ap, sym, _∙_}
 use mathlib.Core.Bool.{true}
 use mathlib.Core.List.{List, map}
 use Prim.Native.Nat.{ℕ, suc, _^_, _≤_, _<_}
-use native.Mathlib.Nat.{zero-div}
 use native.Mathlib.Omega.{arith}
 use lib.IntN.{ℤ, pos, natAbs, _*ℤ_, _-ℤ_, zero-*ℤ, +ℤ-invr}
 use lib.ListN.{length, getD, length-map, List·getD-map}
@@ -16,20 +15,16 @@ use Rattle.naturals.proofs.Tests.{and-left, and-right, all-at, all-from}
 use Rattle.integers.proofs.Linear.{leaf, _⊕_, ⊖_, parts, equal, size}
 use Rattle.numbering.specs.Count.{points}
 use Rattle.hierarchy.specs.Turns.{valueAt, valuesOf}
-use Rattle.hierarchy.specs.Sets.{scaled, tableOf}
+use Rattle.hierarchy.specs.Sets.{scaled, tableOf, everyAxis}
 use Rattle.hierarchy.proofs.Values.{value-zero, value-suc, value-past, values-length, values-at, value-of-values}
 use Rattle.hierarchy.proofs.Steps.{table-past}
 use Rattle.zero_border.specs.ZeroBorder.{neighbour, depth}
 use Rattle.zero_border.proofs.Instance.{zero-border}
 use Rattle.shapes.specs.declared.Shape.{Shape}
 use Rattle.tables.specs.Tables.{rateAt, times, quotient}
-use Rattle.tables.proofs.Quotients.{quotient-times}
-use Rattle.whole.specs.Whole.{allAxes, coefficientsOf, backAll, ratesOf, sameAt, hasRates}
+use Rattle.tables.proofs.Quotients.{quotient-times, quotient-zero}
+use Rattle.whole.specs.Whole.{coefficientsOf, backAll, ratesOf, sameAt, hasRates}
 use Rattle.whole.proofs.AllAxes.{swept-zero, back-of-swept}
-
-quotient-zero : (d : ℕ) → quotient d (pos 0) ≡ pos 0
-unfolding quotient
-quotient-zero d = ap pos (zero-div (2 ^ d))
 
 quotient-of-scaled : (d : ℕ) (r : ℕ → ℤ) (p : ℕ) → quotient d (scaled d r p) ≡ r p
 unfolding scaled times
@@ -66,26 +61,26 @@ module _ (s : Shape) (low : s .level ≤ 8) where
   unfolding scaled
   scaled-zero r z = ap (λ (v : ℤ). v *ℤ pos (2 ^ (s .axes))) z ∙ zero-*ℤ (pos (2 ^ (s .axes)))
 
-  coefficients-zero : (rs : List ℤ) → tableOf (neighbour (s .axes) (s .level)) (s .axes) allAxes (valueAt rs) 0 ≡ pos 0
+  coefficients-zero : (rs : List ℤ) → tableOf (neighbour (s .axes) (s .level)) (s .axes) everyAxis (valueAt rs) 0 ≡ pos 0
   unfolding tableOf
   coefficients-zero rs =
       swept-zero s low (s .axes) (scaled (s .axes) (valueAt rs)) (scaled-zero (valueAt rs) (value-zero rs))
 
   -- All axes of the coefficients turned back are the rates times 2^d.
   pub back-of-coefficients : (rs : List ℤ) →
-      backAll s (s .axes) (tableOf (neighbour (s .axes) (s .level)) (s .axes) allAxes (valueAt rs)) ≡ scaled (s .axes) (valueAt rs)
+      backAll s (s .axes) (tableOf (neighbour (s .axes) (s .level)) (s .axes) everyAxis (valueAt rs)) ≡ scaled (s .axes) (valueAt rs)
   unfolding tableOf
   back-of-coefficients rs = back-of-swept s low (s .axes) (scaled (s .axes) (valueAt rs)) (scaled-zero (valueAt rs) (value-zero rs))
 
   coefficients-hold : (rs : List ℤ) → length rs ≡ points (s .axes) (s .level) →
-      valueAt (coefficientsOf s rs) ≡ tableOf (neighbour (s .axes) (s .level)) (s .axes) allAxes (valueAt rs)
+      valueAt (coefficientsOf s rs) ≡ tableOf (neighbour (s .axes) (s .level)) (s .axes) everyAxis (valueAt rs)
   unfolding coefficientsOf
   coefficients-hold rs len =
-      value-of-values (points (s .axes) (s .level)) (tableOf (neighbour (s .axes) (s .level)) (s .axes) allAxes (valueAt rs))
+      value-of-values (points (s .axes) (s .level)) (tableOf (neighbour (s .axes) (s .level)) (s .axes) everyAxis (valueAt rs))
       (coefficients-zero rs)
       (λ p h.
       table-past (points (s .axes) (s .level)) (neighbour (s .axes) (s .level)) (depth (s .axes) (s .level)) (zero-border (s .axes) (s .level) low) (s .axes)
-      allAxes (valueAt rs) (value-zero rs) p h (value-past rs p (omega arith)))
+      everyAxis (valueAt rs) (value-zero rs) p h (value-past rs p (omega arith)))
 
   quotients-at : (f : ℕ → ℤ) (i : ℕ) → i < points (s .axes) (s .level) →
       getD (map (quotient (s .axes)) (valuesOf (points (s .axes) (s .level)) f)) i (pos 0) ≡ quotient (s .axes) (f (suc i))
@@ -101,7 +96,7 @@ module _ (s : Shape) (low : s .level ≤ 8) where
 
   pub coefficients-length : (rs : List ℤ) → length (coefficientsOf s rs) ≡ points (s .axes) (s .level)
   unfolding coefficientsOf
-  coefficients-length rs = values-length (points (s .axes) (s .level)) (tableOf (neighbour (s .axes) (s .level)) (s .axes) allAxes (valueAt rs))
+  coefficients-length rs = values-length (points (s .axes) (s .level)) (tableOf (neighbour (s .axes) (s .level)) (s .axes) everyAxis (valueAt rs))
 
   pub rates-length : (xs : List ℤ) → length (ratesOf s xs) ≡ points (s .axes) (s .level)
   unfolding ratesOf

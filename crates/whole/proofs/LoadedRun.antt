@@ -14,6 +14,7 @@ use Rattle.refusals.proofs.Passing.{first-passed, next-passed}
 use Rattle.numbering.specs.Count.{points}
 use Rattle.hierarchy.specs.declared.Turn.{Turn}
 use Rattle.hierarchy.specs.Turns.{valueAt}
+use Rattle.hierarchy.specs.Sets.{noAxis}
 use Rattle.shapes.specs.declared.Shape.{Shape}
 use Rattle.shapes.proofs.Checked.{InRange}
 use Rattle.states.specs.declared.State.{State}
@@ -21,7 +22,7 @@ use Rattle.states.specs.declared.Answer.the-variants.{Done, Refused}
 use Rattle.states.specs.After.{After, after, kept}
 use Rattle.tables.specs.Tables.{checkTable, rateAt, checkRates, times, load}
 use Rattle.tables.proofs.Checking.{table-passed, rates-passed}
-use Rattle.runs.specs.Model.{noAxis, modelAnswers}
+use Rattle.runs.specs.Model.{modelAnswers}
 use Rattle.runs.specs.Runs.{Ran, run}
 use Rattle.runs.specs.Calls.{callsOf, numberIn, placeIn, Report, runCalls}
 use Rattle.runs.proofs.Calls.{stateOf}

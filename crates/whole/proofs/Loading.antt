@@ -16,14 +16,13 @@ use Rattle.integers.specs.Half.{isRate}
 use Rattle.integers.proofs.Sizes.{rate-size}
 use Rattle.numbering.specs.Count.{points}
 use Rattle.hierarchy.specs.Turns.{valueAt, valuesOf}
-use Rattle.hierarchy.specs.Sets.{scaled, swept, tableOf}
+use Rattle.hierarchy.specs.Sets.{scaled, swept, tableOf, noAxis}
 use Rattle.hierarchy.proofs.Values.{value-zero, value-suc, value-past, values-length, values-at}
 use Rattle.zero_border.specs.ZeroBorder.{neighbour}
 use Rattle.shapes.specs.declared.Shape.{Shape}
 use Rattle.shapes.proofs.Checked.{InRange}
 use Rattle.states.proofs.Bits.{no-bits}
 use Rattle.tables.specs.Tables.{rateAt, times}
-use Rattle.runs.specs.Model.{noAxis}
 use Rattle.runs.proofs.Calls.{Rates, Agrees}
 use Rattle.whole.proofs.Inverse.{AreRates}
 

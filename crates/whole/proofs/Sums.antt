@@ -9,14 +9,14 @@ use lib.ListN.{length, getD}
 use lib.Seq.{ext-getD}
 use Rattle.numbering.specs.Count.{points}
 use Rattle.hierarchy.specs.Turns.{valueAt, valuesOf}
-use Rattle.hierarchy.specs.Sets.{tableOf}
+use Rattle.hierarchy.specs.Sets.{tableOf, everyAxis}
 use Rattle.hierarchy.proofs.Turned.{plus}
 use Rattle.hierarchy.proofs.Sums.{table-plus}
 use Rattle.hierarchy.proofs.Values.{values-length, values-at}
 use Rattle.zero_border.specs.ZeroBorder.{neighbour}
 use Rattle.shapes.specs.declared.Shape.{Shape}
 use Rattle.whole.specs.Accepted.{sums}
-use Rattle.whole.specs.Whole.{allAxes, coefficientsOf}
+use Rattle.whole.specs.Whole.{coefficientsOf}
 
 sums-length : (xs ys : List ℤ) → length xs ≡ length ys → length (sums xs ys) ≡ length xs
 unfolding sums
@@ -56,6 +56,6 @@ unfolding coefficientsOf
 coefficients-sum s xs ys e =
     let m = points (s .axes) (s .level) in
     let nb = neighbour (s .axes) (s .level) in
-    ap (λ (f : ℕ → ℤ). valuesOf m (tableOf nb (s .axes) allAxes f)) (fun-ext (sums-held-at xs ys e))
-    ∙ ap (valuesOf m) (table-plus nb (s .axes) allAxes (valueAt xs) (valueAt ys))
-    ∙ values-plus m (tableOf nb (s .axes) allAxes (valueAt xs)) (tableOf nb (s .axes) allAxes (valueAt ys))
+    ap (λ (f : ℕ → ℤ). valuesOf m (tableOf nb (s .axes) everyAxis f)) (fun-ext (sums-held-at xs ys e))
+    ∙ ap (valuesOf m) (table-plus nb (s .axes) everyAxis (valueAt xs) (valueAt ys))
+    ∙ values-plus m (tableOf nb (s .axes) everyAxis (valueAt xs)) (tableOf nb (s .axes) everyAxis (valueAt ys))

@@ -1,6 +1,6 @@
 -- Rates to coefficients whole, and coefficients to rates whole (document 01, "Parents and turns").
 -- Assumes nothing.
-use mathlib.Core.Bool.{Bool, true, _&&_}
+use mathlib.Core.Bool.{Bool, _&&_}
 use mathlib.Core.List.{List, map}
 use Prim.Native.Nat.{ℕ, zero, suc}
 use lib.Dec.{eqb}
@@ -10,19 +10,15 @@ use Rattle.refusals.specs.declared.Refusal.the-variants.{Contents}
 use Rattle.refusals.specs.Checks.{unless, _andThen_}
 use Rattle.numbering.specs.Count.{points}
 use Rattle.hierarchy.specs.Turns.{valueAt, valuesOf, backward}
-use Rattle.hierarchy.specs.Sets.{tableOf}
+use Rattle.hierarchy.specs.Sets.{tableOf, everyAxis}
 use Rattle.zero_border.specs.ZeroBorder.{neighbour}
 use Rattle.shapes.specs.declared.Shape.{Shape}
 use Rattle.states.specs.After.{Left, leftBy}
 use Rattle.tables.specs.Tables.{checkTable, checkRates, rateAt, quotient}
 
--- The set of all axes.
-abbrev pub allAxes : ℕ → Bool
-allAxes t = true
-
 -- The coefficients of rates: the table of the set of all axes.
 unfoldable pub coefficientsOf : Shape → List ℤ → List ℤ
-coefficientsOf s xs = valuesOf (points (s .axes) (s .level)) (tableOf (neighbour (s .axes) (s .level)) (s .axes) allAxes (valueAt xs))
+coefficientsOf s xs = valuesOf (points (s .axes) (s .level)) (tableOf (neighbour (s .axes) (s .level)) (s .axes) everyAxis (valueAt xs))
 
 -- Rates to coefficients: refused with 1, 2, 3 or 4.
 unfoldable pub ratesToCoefficients : Shape → List ℤ → Left

@@ -25,11 +25,11 @@ use Rattle.surfaces.specs.Surface.{jointAt, rounded, estimateAt}
 use Rattle.states.specs.States.{has, checkContents, checkState}
 use Rattle.tables.specs.Tables.{firstFailing, checkTable, rateAt, checkRates, contentAt, adopt}
 use Rattle.whole.specs.Whole.{coefficientsOf, ratesToCoefficients}
-use Rattle.estimates.specs.Estimates.{firstSampled, checkForward, coordinateAt, firstOutside, checkCoordinates, estimate}
+use Rattle.estimates.specs.Estimates.{firstSampled, checkForward, insideAt, firstOutside, checkCoordinates, estimate}
 use Rattle.worked_values.specs.Worked.{AllHold, examples}
 
 pub worked-values : AllHold examples
-unfolding sumTo all choose vectors shell start points isIndex indexed isPoint ending rank digit position number checkShape counted checkLists checkPoint numberOfPoint half isRate block lastLevel levelOf sumAt within levelAt indexOf indexAt isBorder twos parentLevel parentIndex update parent trailingZeros valueAt valuesOf sumOn forward scaled swept tableOf codeOf neighbour firstFailing checkTable rateAt checkRates coefficientsOf ratesToCoefficients total floor inLimit weighted weightedSum unit isCoordinate distance weight weightOn joint jointAt rounded estimateAt has checkContents checkState contentAt adopt firstSampled checkForward coordinateAt firstOutside checkCoordinates estimate
+unfolding sumTo all choose vectors shell start points isIndex indexed isPoint ending rank digit position number checkShape counted checkLists checkPoint numberOfPoint half isRate block lastLevel levelOf sumAt within levelAt indexOf indexAt isBorder twos parentLevel parentIndex update parent trailingZeros valueAt valuesOf sumOn forward scaled swept tableOf codeOf neighbour firstFailing checkTable rateAt checkRates coefficientsOf ratesToCoefficients total floor inLimit weighted weightedSum unit isCoordinate distance weight weightOn joint jointAt rounded estimateAt has checkContents checkState contentAt adopt firstSampled checkForward insideAt firstOutside checkCoordinates estimate
 worked-values = (
   refl,
   (refl, (refl, (refl, (refl, (refl, (refl, (refl, ((refl, refl), ((refl, refl), ((refl, refl), ((refl, refl), ((refl, refl), tt)))))))))))),

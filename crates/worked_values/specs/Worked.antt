@@ -2,7 +2,7 @@
 -- Assumes nothing.
 use mathlib.Core.Path.{_≡_}
 use mathlib.Core.List.{List, [], _∷_, map}
-use Prim.Native.Nat.{ℕ, _-_, _^_}
+use Prim.Native.Nat.{ℕ}
 use lib.IntN.{ℤ, pos, negsuc}
 use lib.ListN.{replicate}
 use Rattle.refusals.specs.declared.Verdict.the-variants.{Passed}
@@ -11,10 +11,9 @@ use Rattle.shapes.specs.declared.Counted.the-variants.{Points}
 use Rattle.shapes.specs.Shapes.{counted}
 use Rattle.numbers.specs.declared.Numbered.the-variants.{At}
 use Rattle.numbers.specs.Numbers.{numberOfPoint}
-use Rattle.states.specs.declared.State.{State}
 use Rattle.states.specs.declared.Answer.the-variants.{Done}
 use Rattle.states.specs.After.{left}
-use Rattle.tables.specs.Tables.{adopt}
+use Rattle.tables.specs.Tables.{adopted, adopt}
 use Rattle.whole.specs.Whole.{ratesToCoefficients}
 use Rattle.estimates.specs.declared.Estimated.the-variants.{Value}
 use Rattle.estimates.specs.Estimates.{estimate as estimateOf}
@@ -28,10 +27,6 @@ pub data Example : Type 0 where
   coefficients : Shape → List ℤ → List ℤ → Example
   -- coefficients of a shape, adopted, have this estimate at these coordinates
   estimate : Shape → List ℤ → List ℕ → ℤ → Example
-
--- The state of an adopted table: all axes forward.
-abbrev pub adopted : Shape → State
-adopted s = record { shape = s; forward = 2 ^ (s .axes) - 1 }
 
 -- What an example says: the call's definition gives the value.
 abbrev pub Holds : Example → Type 0

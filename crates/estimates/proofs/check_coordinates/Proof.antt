@@ -12,12 +12,12 @@ use borrow.Author.Tests.{eq-eqb, ne-eqb, le-leb, lt-leb, not-true, not-false}
 use Rattle.tables.specs.Tables.{firstFailing}
 use Rattle.tables.specs.Steps.{Passes}
 use Rattle.tables.proofs.FirstFailing.{first-none, first-at}
-use Rattle.estimates.specs.Estimates.{coordinateAt, firstOutside, checkCoordinates}
+use Rattle.estimates.specs.Estimates.{insideAt, firstOutside, checkCoordinates}
 use Rattle.estimates.proofs.check_coordinates.Statement.{statement}
 use Rattle.estimates.proofs.check_coordinates.Tie as tie
 
 abbrev Inv-loop : tie.InvT-loop
-Inv-loop axes coordinates t₀ t = (t ≤ axes) × Passes (coordinateAt coordinates) t
+Inv-loop axes coordinates t₀ t = (t ≤ axes) × Passes (insideAt coordinates) t
 
 abbrev μ-loop : tie.MeasureT-loop
 μ-loop axes coordinates t₀ t = axes - t
@@ -43,8 +43,8 @@ is-coordinate-requires c κs = search needs
 
 -- the test's answer
 tested : (c : tie.After-is-coordinate Inv-loop μ-loop) →
-    coordinateAt (c .before .before .before .before .before .before .args .coordinates .now) (c .before .before .before .loop .t) ≡ c .is-coordinate .result
-unfolding coordinateAt
+    insideAt (c .before .before .before .before .before .before .args .coordinates .now) (c .before .before .before .loop .t) ≡ c .is-coordinate .result
+unfolding insideAt
 tested c = sym (c .is-coordinate .ensures)
 
 add-t15 : tie.Need-add-t15 Inv-loop μ-loop
@@ -55,8 +55,8 @@ unfolding checkCoordinates firstOutside
 returns-2 c =
     let loop = c .before .before .before .before .loop in
     let a = c .before .before .before .before .before .before .before .args in
-    let first : firstFailing (coordinateAt (a .coordinates .now)) (a .axes) ≡ loop .t =
-    first-at (coordinateAt (a .coordinates .now)) (a .axes) (loop .t) (loop .inv .1) (tested (c .before) ∙ not-true _ (c .if2 .taken)) (omega arith) in
+    let first : firstFailing (insideAt (a .coordinates .now)) (a .axes) ≡ loop .t =
+    first-at (insideAt (a .coordinates .now)) (a .axes) (loop .t) (loop .inv .1) (tested (c .before) ∙ not-true _ (c .if2 .taken)) (omega arith) in
     rw (
       eq-eqb (length (a .coordinates .now)) (a .axes) (c .before .before .before .before .before .if1 .left),
       first,
@@ -82,7 +82,7 @@ returns-3 c =
     let a = c .before .before .before .before .args in
     rw (
       eq-eqb (length (a .coordinates .now)) (a .axes) (c .before .before .if1 .left),
-      first-none (coordinateAt (a .coordinates .now)) (a .axes) (λ k h. c .before .loop .inv .1 k (omega arith)),
+      first-none (insideAt (a .coordinates .now)) (a .axes) (λ k h. c .before .loop .inv .1 k (omega arith)),
       le-leb (a .axes) (a .axes) (omega arith),
     )
 

@@ -1,6 +1,6 @@
 -- `estimates::check_forward` meets its contract. The loop's invariant: the axes passed are forward. The measure is what is left of the axes.
 -- Assumes nothing.
-use mathlib.Core.Path.{_≡_, ap, sym, _∙_}
+use mathlib.Core.Path.{_≡_, sym, _∙_}
 use Prim.Native.Nat.{_≤_, _-_}
 use native.Mathlib.Numerals.{add-one}
 use native.Mathlib.Omega.{arith}

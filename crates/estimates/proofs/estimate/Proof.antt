@@ -1,7 +1,6 @@
 -- `estimates::estimate` meets its contract: the checks that refuse answer in their order, and where all pass the sum is the estimate.
 -- Assumes nothing.
 use mathlib.Core.Path.{_≡_, ap, sym, _∙_}
-use native.Mathlib.Omega.{arith}
 use lib.ListN.{length}
 use mir.Syntax.{w64}
 use mir.ValLaws.{toZ-ofZ}

@@ -1,6 +1,5 @@
 -- `evaluation::add_high` meets its contract: product and sum fit 64 bits, and the shift is the division rounded down.
 -- Assumes nothing.
-use mathlib.Core.Path.{sym}
 use native.Mathlib.Omega.{arith}
 use lib.IntN.{pos, _+ℤ_, _*ℤ_}
 use mir.Syntax.{w64}
@@ -8,7 +7,7 @@ use mir.ValLaws.{toZ-ofZ}
 use borrow.Author.Needs.{needs}
 use Rattle.integers.specs.Floor.{floor}
 use Rattle.surfaces.specs.Weights.{unit}
-use Rattle.evaluation.proofs.Weighing.{unit-is}
+use Rattle.surfaces.proofs.Unit.{unit-is}
 use Rattle.evaluation.proofs.Parts.{high-product, high-product-fits, high-sum-fits}
 use Rattle.evaluation.proofs.add_high.Statement.{statement}
 use Rattle.evaluation.proofs.add_high.Tie as tie

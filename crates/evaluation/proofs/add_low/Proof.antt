@@ -4,7 +4,7 @@ use native.Mathlib.Omega.{arith}
 use borrow.Author.Needs.{needs}
 use Rattle.integers.proofs.Floors.{remainder-lt}
 use Rattle.surfaces.specs.Weights.{unit}
-use Rattle.evaluation.proofs.Weighing.{unit-is}
+use Rattle.surfaces.proofs.Unit.{unit-is}
 use Rattle.evaluation.proofs.Parts.{low-value, low-size}
 use Rattle.evaluation.proofs.add_low.Statement.{statement}
 use Rattle.evaluation.proofs.add_low.Tie as tie

@@ -1,12 +1,10 @@
-use mathlib.Core.Path.{_≡_, refl, sym, subst, ap, _∙_}
-use Prim.Native.Nat.{ℕ, zero, suc, _+_, _-_, _*_, _/_, _%_, _^_, _≤_, _<_}
+-- `evaluation::distance` meets its contract: of the two differences one is 0, and the code returns the other.
+-- Assumes nothing.
 use native.Mathlib.Omega.{arith}
 use borrow.Author.Needs.{needs}
 use Rattle.surfaces.specs.Weights.{distance}
 use Rattle.evaluation.proofs.distance.Statement.{statement}
 use Rattle.evaluation.proofs.distance.Tie as tie
-use Rattle.evaluation.proofs.distance.Reads as reads
-use Rattle.evaluation.proofs.distance.Lts as lts
 
 sub-result : tie.Need-sub-result
 sub-result c = search needs

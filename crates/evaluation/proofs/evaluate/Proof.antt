@@ -1,8 +1,8 @@
 -- `evaluation::evaluate` meets its contract. The loop's invariant is `Walked`, and the measure is what is left of the table.
 -- Assumes nothing.
-use mathlib.Core.Path.{_≡_, refl, sym, subst, ap, _∙_}
+use mathlib.Core.Path.{_≡_, refl, ap, _∙_}
 use mathlib.Core.List.{[], _∷_}
-use Prim.Native.Nat.{ℕ, zero, suc, _+_, _-_, _*_, _/_, _%_, _^_, _≤_, _<_}
+use Prim.Native.Nat.{ℕ, _+_, _-_, _*_}
 use native.Mathlib.Omega.{arith}
 use lib.IntN.{ℤ, pos, _+ℤ_, _*ℤ_}
 use lib.ListN.{length, getD, replicate, getD-replicate, List·getD-eq-default}
@@ -10,7 +10,6 @@ use lib.Pow.{pow-pos}
 use mir.Syntax.{w64}
 use mir.Val.{toZ}
 use mir.ValLaws.{toZ-ofZ}
-use borrow.Author.Needs.{needs}
 use Rattle.naturals.proofs.Cases.{le-or-lt}
 use Rattle.integers.specs.Floor.{floor, remainder}
 use Rattle.integers.specs.Half.{inLimit}
@@ -24,11 +23,11 @@ use Rattle.evaluation.proofs.evaluate.Statement.{statement}
 use Rattle.evaluation.proofs.evaluate.Tie as tie
 
 abbrev Inv-loop : tie.InvT-loop
-Inv-loop axes level table coordinates count weights places high₀ low₀ first₀ sum₀ levels₀ high low first sum levels =
+Inv-loop axes level table coordinates count weights cells high₀ low₀ first₀ sum₀ levels₀ high low first sum levels =
     Walked axes level table (at coordinates) (toZ w64 high) low first sum levels
 
 abbrev μ-loop : tie.MeasureT-loop
-μ-loop axes level table coordinates count weights places high₀ low₀ first₀ sum₀ levels₀ high low first sum levels =
+μ-loop axes level table coordinates count weights cells high₀ low₀ first₀ sum₀ levels₀ high low first sum levels =
     length table - first
 
 tabulated-requires : tie.Need-tabulated-requires Inv-loop μ-loop
@@ -60,7 +59,7 @@ asked c = c .before .before .before .before .before .before .before .before .bef
 
 tables : (c : tie.After-taken Inv-loop μ-loop) →
     let t = c .before .before .before .before .before .before .before in
-    Tabulated (at (t .before .before .args .coordinates .now)) (9 * t .before .before .args .axes) (t .tabulated .result .weights) (t .tabulated .result .places)
+    Tabulated (at (t .before .before .args .coordinates .now)) (9 * t .before .before .args .axes) (t .tabulated .result .weights) (t .tabulated .result .cells)
 tables c = c .before .before .before .before .before .before .before .tabulated .ensures
 
 add-c : tie.Need-add-c Inv-loop μ-loop

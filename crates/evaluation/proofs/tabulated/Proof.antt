@@ -6,17 +6,17 @@ use lib.Pow.{pow-mono}
 use borrow.Author.Needs.{needs}
 use Rattle.numbering.specs.Point.{at}
 use Rattle.surfaces.specs.Weights.{unit}
-use Rattle.evaluation.specs.Steps.{indexOfPlace}
+use Rattle.evaluation.specs.Steps.{indexOfCell}
 use Rattle.evaluation.proofs.Weighing.{index-below}
 use Rattle.evaluation.proofs.Tabulating.{Tabulating, tabulating-starts, entry-lt, next-level, next-axis, tabulating-ends}
 use Rattle.evaluation.proofs.tabulated.Statement.{statement}
 use Rattle.evaluation.proofs.tabulated.Tie as tie
 
 abbrev Inv-loop : tie.InvT-loop
-Inv-loop axes coordinates weights₀ places₀ k₀ t₀ level₀ weights places k t level = Tabulating (at coordinates) axes weights places k t level
+Inv-loop axes coordinates weights₀ cells₀ k₀ t₀ level₀ weights cells k t level = Tabulating (at coordinates) axes weights cells k t level
 
 abbrev μ-loop : tie.MeasureT-loop
-μ-loop axes coordinates weights₀ places₀ k₀ t₀ level₀ weights places k t level = 9 * axes - k
+μ-loop axes coordinates weights₀ cells₀ k₀ t₀ level₀ weights cells k t level = 9 * axes - k
 
 loop-holds : tie.Need-loop-holds Inv-loop μ-loop
 loop-holds c = tabulating-starts _ _
@@ -37,26 +37,26 @@ shared-slice-read-x c = search needs
 cast-x : tie.Need-cast-x Inv-loop μ-loop
 cast-x c = omega (arith, c .shared-slice-known2 .given (c .before .before .loop .t))
 
-place-requires : tie.Need-place-requires Inv-loop μ-loop
-place-requires c κs = (here (c .before), omega arith)
+cell-requires : tie.Need-cell-requires Inv-loop μ-loop
+cell-requires c κs = (here (c .before), omega arith)
 
-mul-places : tie.Need-mul-places Inv-loop μ-loop
-mul-places c = omega (arith, inside (c .before .before))
+mul-cells : tie.Need-mul-cells Inv-loop μ-loop
+mul-cells c = omega (arith, inside (c .before .before))
 
-array-write-places : tie.Need-array-write-places Inv-loop μ-loop
-array-write-places c = omega (arith, inside (c .before .before))
+array-write-cells : tie.Need-array-write-cells Inv-loop μ-loop
+array-write-cells c = omega (arith, inside (c .before .before))
 
 -- the index is one of its level
-index : (c : tie.After-place Inv-loop μ-loop) → indexOfPlace (c .place .result) < 2 ^ suc (c .before .before .before .loop .level)
+index : (c : tie.After-cell Inv-loop μ-loop) → indexOfCell (c .cell .result) < 2 ^ suc (c .before .before .before .loop .level)
 index c =
     let looped = c .before .before .before in
     omega (
       arith,
-      c .place .ensures,
+      c .cell .ensures,
       index-below (at (looped .before .before .args .coordinates .now) (looped .loop .t)) (looped .loop .level),
     )
 
-small : (c : tie.After-place Inv-loop μ-loop) → indexOfPlace (c .place .result) < 512
+small : (c : tie.After-cell Inv-loop μ-loop) → indexOfCell (c .cell .result) < 512
 small c = omega (arith, index c, pow-mono {i = suc (c .before .before .before .loop .level)} {j = 9} (omega arith))
 
 mul-weight : tie.Need-mul-weight Inv-loop μ-loop
@@ -90,7 +90,7 @@ loop-again : tie.Need-loop-again Inv-loop μ-loop
 loop-again c =
     let looped = c .before .before .before .before .before in
     next-axis (looped .before .before .pre .few) (looped .loop .inv) (c .before .before .before .before .loop-test .taken)
-    _ _ (c .before .before .place .ensures) (c .before .weight .ensures) (c .if1 .taken)
+    _ _ (c .before .before .cell .ensures) (c .before .weight .ensures) (c .if1 .taken)
 
 loop-less-2 : tie.Need-loop-less-2 Inv-loop μ-loop
 loop-less-2 c = search needs
@@ -99,7 +99,7 @@ loop-again-2 : tie.Need-loop-again-2 Inv-loop μ-loop
 loop-again-2 c =
     let looped = c .before .before .before .before .before in
     next-level (looped .before .before .pre .few) (looped .loop .inv) (c .before .before .before .before .loop-test .taken)
-    _ _ (c .before .before .place .ensures) (c .before .weight .ensures) (omega (arith, c .if1 .left))
+    _ _ (c .before .before .cell .ensures) (c .before .weight .ensures) (omega (arith, c .if1 .left))
 
 returns : tie.Need-returns Inv-loop μ-loop
 returns c = tabulating-ends (c .before .loop .inv) (c .loop-test .left)
@@ -114,9 +114,9 @@ tabulated-spec =
     mul-x
     shared-slice-read-x
     cast-x
-    place-requires
-    mul-places
-    array-write-places
+    cell-requires
+    mul-cells
+    array-write-cells
     mul-weight
     add-weight
     weight-requires

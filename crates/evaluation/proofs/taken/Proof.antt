@@ -9,10 +9,10 @@ use Rattle.evaluation.proofs.taken.Statement.{statement}
 use Rattle.evaluation.proofs.taken.Tie as tie
 
 abbrev Inv-loop : tie.InvT-loop
-Inv-loop axes weights places levels position₀ joint₀ sum₀ t₀ position joint sum t = Taken weights places (at levels) axes t position joint sum
+Inv-loop axes weights cells levels position₀ joint₀ sum₀ t₀ position joint sum t = Taken weights cells (at levels) axes t position joint sum
 
 abbrev μ-loop : tie.MeasureT-loop
-μ-loop axes weights places levels position₀ joint₀ sum₀ t₀ position joint sum t = axes - t
+μ-loop axes weights cells levels position₀ joint₀ sum₀ t₀ position joint sum t = axes - t
 
 cast-joint : tie.Need-cast-joint Inv-loop μ-loop
 cast-joint c = search needs

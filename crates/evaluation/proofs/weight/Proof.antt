@@ -1,11 +1,13 @@
 -- `evaluation::weight` meets its contract: the shifts lose nothing, and where the distance is larger than the unit nothing is left.
 -- Assumes nothing.
-use mathlib.Core.Path.{_≡_, ap, ap₂, sym, _∙_}
-use Prim.Native.Nat.{ℕ, suc, _*_, _^_}
+use mathlib.Core.Path.{_≡_, ap₂, _∙_}
+use Prim.Native.Nat.{suc, _*_, _^_}
 use native.Mathlib.Omega.{arith}
 use borrow.Author.Needs.{needs}
 use Rattle.surfaces.specs.Weights.{unit, distance}
-use Rattle.evaluation.proofs.Weighing.{unit-is, here-shifted, centre-shifted, weight-is}
+use Rattle.surfaces.proofs.Cells.{weight-is}
+use Rattle.surfaces.proofs.Unit.{unit-is}
+use Rattle.evaluation.proofs.Weighing.{here-shifted, centre-shifted}
 use Rattle.evaluation.proofs.weight.Statement.{statement}
 use Rattle.evaluation.proofs.weight.Tie as tie
 

@@ -1,12 +1,13 @@
--- `evaluation::place` meets its contract: the shifts are the product and the division of the definition.
+-- `evaluation::cell` meets its contract: the shifts are the product and the division of the definition.
 -- Assumes nothing.
 use mathlib.Core.Path.{ap₂, sym, _∙_}
 use Prim.Native.Nat.{ℕ, _/_}
 use native.Mathlib.Omega.{arith}
 use borrow.Author.Needs.{needs}
-use Rattle.evaluation.proofs.Weighing.{unit-is, cell-shifted, place-inside, place-border}
-use Rattle.evaluation.proofs.place.Statement.{statement}
-use Rattle.evaluation.proofs.place.Tie as tie
+use Rattle.surfaces.proofs.Unit.{unit-is}
+use Rattle.evaluation.proofs.Weighing.{cell-shifted, cell-inside, cell-border}
+use Rattle.evaluation.proofs.cell.Statement.{statement}
+use Rattle.evaluation.proofs.cell.Tie as tie
 
 cast-if1 : tie.Need-cast-if1
 cast-if1 c = search needs
@@ -27,11 +28,11 @@ returns : tie.Need-returns
 returns c =
     let a = c .before .args in
     ap₂ (λ (y u : ℕ). y / u) (cell-shifted (a .x) (a .level) (c .before .pre .0) (c .before .pre .1)) (sym unit-is)
-    ∙ sym (place-inside (a .x) (a .level) (omega (arith, unit-is)))
+    ∙ sym (cell-inside (a .x) (a .level) (omega (arith, unit-is)))
 
 returns-2 : tie.Need-returns-2
-returns-2 c = sym (place-border (c .before .args .x) (c .before .args .level) (omega (arith, unit-is)))
+returns-2 c = sym (cell-border (c .before .args .x) (c .before .args .level) (omega (arith, unit-is)))
 
-pub place-spec : {M : Type 1} → statement M
-place-spec =
+pub cell-spec : {M : Type 1} → statement M
+cell-spec =
     tie.close (tie.spec cast-if1 shl-if1 shl-result cast-result shr-result returns returns-2)
