@@ -1,1 +1,3 @@
-// The text of a table of coefficients, and the report of a house file on an open file.
+// The report of a house file: the text of its coefficients, or of why it is refused.
+pub mod pieces;
+pub mod lines;
