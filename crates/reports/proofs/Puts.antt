@@ -7,6 +7,7 @@ use native.Mathlib.Numerals.{add-one}
 use native.Mathlib.Omega.{arith}
 use lib.ListN.{length, take, drop, getD, set, length-append, length-take}
 use lib.Seq.{sets, length-sets, sets-eq, take-suc, take-append-seam, length-take-le, take-all}
+use Rattle.io.specs.Counts.{Counts}
 use Rattle.reports.specs.Put.{Put}
 
 sets-append : (a b old : List ℕ) (i : ℕ) → sets old i (a ++ b) ≡ sets (sets old i a) (i + length a) b
@@ -64,3 +65,11 @@ put-front {text} {old} {new} {r} p fits =
     let e : new ≡ text ++ drop (length text) old = p .holds ∙ sets-eq text old 0 (omega arith) ∙ ap (λ (k : ℕ). text ++ drop k old) z in
     let n : r ≡ length text = omega (arith, p .after) in
     rw (e, n) (take-append-seam text (drop (length text) old))
+
+-- All that is promised of a text at the front of a buffer with room for it.
+pub put-whole : {text old new : List ℕ} {r : ℕ} → Put text old 0 new r → length text ≤ length old
+    → Put text old 0 new r × ((take r new ≡ text) × Counts r new)
+put-whole {text} {old} {new} {r} p fits =
+    let front : take r new ≡ text = put-front p fits in
+    let n : r ≡ length text = omega (arith, p .after) in
+    (p, (front, (omega (arith, put-length p), n ∙ sym (ap length front))))

@@ -1,6 +1,13 @@
 use mathlib.Core.Path.{_≡_, refl, sym, subst, ap, _∙_}
 use Prim.Native.Nat.{ℕ, zero, suc, _+_, _-_, _*_, _/_, _%_, _^_, _≤_, _<_}
 use native.Mathlib.Omega.{arith}
+use lib.IntN.{pos}
+use lib.ListN.{length, getD}
+use mir.Syntax.{w64}
+use mir.ValLaws.{toZ-ofZ}
+use Rattle.reports.specs.Text.{pointLine}
+use Rattle.reports.proofs.Puts.{put-length, put-as}
+use Rattle.reports.proofs.Listing.{Listed, listed-starts, listed-room, listed-steps, listed-ends}
 use borrow.Author.Needs.{needs}
 use Rattle.reports.proofs.lines.put_points.Statement.{statement}
 use Rattle.reports.proofs.lines.put_points.Tie as tie
@@ -9,13 +16,13 @@ use Rattle.reports.proofs.lines.put_points.Lts as lts
 use Rattle.reports.proofs.lines.put_point.Reads as put-point-reads
 
 abbrev Inv-loop : tie.InvT-loop
-Inv-loop table out₀ place next₀ p₀ out next p = ?
+Inv-loop table out₀ place next₀ p₀ out next p = Listed table out₀ place out next p
 
 abbrev μ-loop : tie.MeasureT-loop
-μ-loop table out₀ place next₀ p₀ out next p = ?
+μ-loop table out₀ place next₀ p₀ out next p = length table - p
 
 loop-holds : tie.Need-loop-holds Inv-loop μ-loop
-loop-holds c = search needs
+loop-holds c = listed-starts
 
 mul-put-point : tie.Need-mul-put-point Inv-loop μ-loop
 mul-put-point c = search needs
@@ -24,7 +31,7 @@ shared-slice-copy-out-put-point : tie.Need-shared-slice-copy-out-put-point Inv-l
 shared-slice-copy-out-put-point c = search needs
 
 put-point-requires : tie.Need-put-point-requires Inv-loop μ-loop
-put-point-requires c κs = search needs
+put-point-requires c κs = listed-room (c .before .before .before .loop .inv) (omega arith) (c .before .before .before .before .before .pre)
 
 add-p : tie.Need-add-p Inv-loop μ-loop
 add-p c = search needs
@@ -33,13 +40,20 @@ loop-less : tie.Need-loop-less Inv-loop μ-loop
 loop-less c = search needs
 
 loop-again : tie.Need-loop-again Inv-loop μ-loop
-loop-again c = search needs
+loop-again c =
+    let at = c .before .before .before .before in
+    let table = at .before .before .before .before .args .table .now in
+    let p = at .before .before .loop .p in
+    listed-steps
+    (at .before .before .loop .inv)
+    (omega arith)
+    (put-as (ap (pointLine p) (toZ-ofZ w64 (getD table p (pos 0)) (record { sfits = at .put-point-arg .given }))) (c .before .before .put-point .ensures))
 
 same-length : tie.Need-same-length Inv-loop μ-loop
-same-length c = search needs
+same-length c = put-length (c .before .loop .inv .listed)
 
 returns : tie.Need-returns Inv-loop μ-loop
-returns c = search needs
+returns c = listed-ends (c .before .loop .inv) (omega arith)
 
 pub put-points-spec : {M : Type 1} → statement M
 put-points-spec =
