@@ -1,14 +1,14 @@
 -- What a file that is read tells: a shape that passes, no more points than places, and as many rates, each of them one. So rates to coefficients
 -- does not refuse them, and the report is that of the coefficients.
 -- Assumes nothing.
-use mathlib.Core.Path.{_≡_, refl, sym, ap, _∙_}
+use mathlib.Core.Path.{_≡_, refl, sym, ap}
 use mathlib.Core.Bool.{Bool, true, false}
 use mathlib.Core.List.{List, [], _∷_, _++_}
-use Prim.Native.Nat.{ℕ, zero, suc, _+_, _/_, _%_, _≤_, _<_}
+use Prim.Native.Nat.{ℕ, zero, suc, _/_, _%_, _≤_, _<_}
 use native.Mathlib.Omega.{arith}
 use borrow.Author.Tests.{leb-true, le-leb, eq-eqb}
 use lib.Dec.{leb, eqb}
-use lib.IntN.{ℤ, pos, negsuc}
+use lib.IntN.{ℤ, pos}
 use lib.ListN.{length, take, drop, getD, length-append}
 use lib.Seq.{take-append-seam}
 use Rattle.refusals.specs.declared.Refusal.{Refusal}
@@ -100,8 +100,8 @@ rates-read zero bytes = no-rates
 rates-read (suc m) bytes =
     next-got Small (Rates (suc m)) (readNumber bytes) (λ u rest. readRates m rest next prepended (rateOf u)) (number-small bytes)
     (λ u rest small.
-      next-got (Rates m) (Rates (suc m)) (readRates m rest) (prepended (rateOf u)) (rates-read m rest)
-      (λ rates more h. one-more m (rateOf u) rates (rate-is u small) h))
+    next-got (Rates m) (Rates (suc m)) (readRates m rest) (prepended (rateOf u)) (rates-read m rest)
+    (λ rates more h. one-more m (rateOf u) rates (rate-is u small) h))
 
 -- ---- files
 
@@ -118,16 +118,16 @@ table-read places s rest =
     let rates = readRates n rest next ended s in
     then-got (Accepted places) (checkShape s) (fit thenRead rates)
     (λ passed. then-got (Accepted places) fit rates
-      (λ fits. next-got (Rates n) (Accepted places) (readRates n rest) (ended s) (rates-read n rest)
-        (λ found left h. then-got (Accepted places) (unless (eqb (length left) 0) BytesLeft) (got (record { shape = s; rates = found }) left)
-          (λ e. record { passed = passed; fits = leb-true n places (test-passed (leb n places) TableLength fits); rates = h }))))
+    (λ fits. next-got (Rates n) (Accepted places) (readRates n rest) (ended s) (rates-read n rest)
+    (λ found left h. then-got (Accepted places) (unless (eqb (length left) 0) BytesLeft) (got (record { shape = s; rates = found }) left)
+    (λ e. record { passed = passed; fits = leb-true n places (test-passed (leb n places) TableLength fits); rates = h }))))
 
 contents-read : (places : ℕ) (bytes : List ℕ) → Got (Accepted places) (readContents places bytes)
 unfolding readContents
 contents-read places bytes =
     next-got Small (Accepted places) (readNumber bytes) (λ d more. readNumber more next (λ n rest. readTable places (record { axes = d; level = n }) rest)) (number-small bytes)
     (λ d more h. next-got Small (Accepted places) (readNumber more) (λ n rest. readTable places (record { axes = d; level = n }) rest) (number-small more)
-      (λ n rest k. table-read places (record { axes = d; level = n }) rest))
+    (λ n rest k. table-read places (record { axes = d; level = n }) rest))
 
 -- Rates are refused nothing.
 rates-checked : (m : ℕ) (xs : List ℤ) → Rates m xs → checkRates xs ≡ verdict.Passed

@@ -1,8 +1,8 @@
 -- The lines of the points put one after the other: what the loop of `put_points` keeps, and the room that it needs.
 -- Assumes nothing.
-use mathlib.Core.Path.{_≡_, refl, sym, ap, _∙_}
+use mathlib.Core.Path.{_≡_, sym, ap, _∙_}
 use mathlib.Core.List.{List, [], _∷_, _++_, append-assoc, append-nil}
-use Prim.Native.Nat.{ℕ, zero, suc, _+_, _-_, _*_, _≤_, _<_}
+use Prim.Native.Nat.{ℕ, suc, _+_, _*_, _≤_, _<_}
 use native.Mathlib.Numerals.{add-one}
 use native.Mathlib.Omega.{arith}
 use lib.IntN.{ℤ, pos}
@@ -10,7 +10,7 @@ use lib.ListN.{length, take, getD, length-append}
 use lib.Seq.{take-suc, take-all, length-take-le}
 use Rattle.refusals.specs.declared.Refusal.{Refusal}
 use Rattle.refusals.specs.Refusals.{numberOf}
-use Rattle.reports.specs.Text.{decimal, space, signed, lineFeed, headingOf, pointLine, pointLines, refusedLine}
+use Rattle.reports.specs.Text.{headingOf, pointLine, pointLines, refusedLine}
 use Rattle.reports.specs.Put.{Put}
 use Rattle.reports.proofs.Decimals.{decimal-length, signed-length}
 use Rattle.reports.proofs.Puts.{put-then, put-as, put-nothing, put-length}
@@ -55,7 +55,7 @@ module _ {table : List ℤ} {old : List ℕ} {place : ℕ} where
   listed-steps {mid} {new} {m} {next} {p} h lt put =
       let z : 0 + length (take p table) ≡ p = omega (arith, length-take-le p table (h .within)) in
       let e : pointLines 0 (take p table) ++ pointLine p (getD table p (pos 0)) ≡ pointLines 0 (take (p + 1) table) =
-          sym (rw (add-one, take-suc table p (pos 0) lt) (lines-snoc (take p table) (getD table p (pos 0)) 0 ∙ ap (λ (k : ℕ). pointLines 0 (take p table) ++ pointLine k (getD table p (pos 0))) z)) in
+      sym (rw (add-one, take-suc table p (pos 0) lt) (lines-snoc (take p table) (getD table p (pos 0)) 0 ∙ ap (λ (k : ℕ). pointLines 0 (take p table) ++ pointLine k (getD table p (pos 0))) z)) in
       record { within = omega arith; listed = put-as e (put-then (h .listed) put) }
 
   pub listed-ends : {new : List ℕ} {next p : ℕ} → Listed table old place new next p → length table ≤ p → Put (pointLines 0 table) old place new next

@@ -2,11 +2,11 @@
 -- Assumes nothing.
 use mathlib.Core.Path.{_≡_, refl, sym, ap, _∙_}
 use mathlib.Core.List.{List, [], _∷_, _++_}
-use Prim.Native.Nat.{ℕ, zero, suc, _+_, _≤_, _<_}
+use Prim.Native.Nat.{ℕ, suc, _+_, _≤_, _<_}
 use native.Mathlib.Numerals.{add-one}
 use native.Mathlib.Omega.{arith}
-use lib.ListN.{length, take, drop, getD, set, length-append, length-take}
-use lib.Seq.{sets, length-sets, sets-eq, take-suc, take-append-seam, length-take-le, take-all}
+use lib.ListN.{length, take, drop, getD, set, length-append}
+use lib.Seq.{sets, length-sets, sets-eq, take-suc, take-append-seam, take-all}
 use Rattle.io.specs.Counts.{Counts}
 use Rattle.reports.specs.Put.{Put}
 

@@ -3,13 +3,8 @@
 use mathlib.Core.List.{List, _++_}
 use Prim.Native.Nat.{ℕ}
 use lib.IntN.{ℤ}
-use lib.ListN.{take}
-use Rattle.refusals.specs.declared.Verdict.{Verdict}
-use Rattle.refusals.specs.declared.Verdict.the-variants as verdict
-use Rattle.numbering.specs.Count.{points}
 use Rattle.shapes.specs.declared.Shape.{Shape}
-use Rattle.states.specs.After.{Left}
-use Rattle.whole.specs.Whole.{coefficientsOf, ratesToCoefficients}
+use Rattle.whole.specs.Whole.{coefficientsOf}
 use Rattle.house_file.specs.Reading.{Read, got, refused}
 use Rattle.house_file.specs.Files.{Contents, readContents}
 use Rattle.reports.specs.Text.{heading, pointLines, refusedLine}

@@ -28,8 +28,8 @@ pub fn put_point(point: u64, value: i64, out: &mut [u8], place: usize) -> usize
 {
     let space = put_decimal(point, out, place);
     let coefficient = put(b" ", out, space);
-    let end = put_signed(value, out, coefficient);
-    put(b"\n", out, end)
+    let line_end = put_signed(value, out, coefficient);
+    put(b"\n", out, line_end)
 }
 
 // A line for each point.
@@ -51,6 +51,6 @@ pub fn put_refused(why: Refusal, out: &mut [u8]) -> usize
     requires { ⌜ 81 ≤ length (now out) ⌝ }
     ensures { λ r. ⌜ Put (refusedLine why) (now (out .entry)) 0 (now (out .exit)) r ⌝ }
 {
-    let end = put_named(b"refused ", refusals::refusal_number(why) as u64, out, 0);
-    put(b"\n", out, end)
+    let number_end = put_named(b"refused ", refusals::refusal_number(why) as u64, out, 0);
+    put(b"\n", out, number_end)
 }

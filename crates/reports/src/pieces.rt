@@ -50,13 +50,13 @@ fn magnitude(v: i64) -> u64
 }
 
 // A whole number, with a minus sign before its digits where it is below zero.
-pub fn put_signed(v: i64, out: &mut [u8], place: usize) -> usize
+pub fn put_signed(value: i64, out: &mut [u8], place: usize) -> usize
     requires { ⌜ place + 21 ≤ length (now out) ⌝ }
-    ensures { λ r. ⌜ Put (signed v) (now (out .entry)) place (now (out .exit)) r ⌝ }
+    ensures { λ r. ⌜ Put (signed value) (now (out .entry)) place (now (out .exit)) r ⌝ }
 {
-    if v < 0 {
+    if value < 0 {
         let next = put(b"-", out, place);
-        return put_decimal(magnitude(v), out, next);
+        return put_decimal(magnitude(value), out, next);
     }
-    put_decimal(magnitude(v), out, place)
+    put_decimal(magnitude(value), out, place)
 }

@@ -1,5 +1,6 @@
-use mathlib.Core.Path.{_≡_, refl, sym, subst, ap, _∙_}
-use Prim.Native.Nat.{ℕ, zero, suc, _+_, _-_, _*_, _/_, _%_, _^_, _≤_, _<_}
+-- `reports::text` meets its contract: what the reader leaves leads to the report of the file's bytes, and there is room for it.
+-- Assumes nothing.
+use mathlib.Core.Path.{sym, ap, _∙_}
 use native.Mathlib.Omega.{arith}
 use Rattle.house_file.specs.declared.Opened.{Opened}
 use Rattle.house_file.specs.Files.{afterReading}
@@ -8,11 +9,6 @@ use Rattle.reports.proofs.Accepted.{held-report, refused-report, report
 use borrow.Author.Needs.{needs}
 use Rattle.reports.proofs.text.Statement.{statement}
 use Rattle.reports.proofs.text.Tie as tie
-use Rattle.reports.proofs.text.Reads as reads
-use Rattle.reports.proofs.text.Lts as lts
-use Rattle.house_file.proofs.read.Reads as read-reads
-use Rattle.reports.proofs.contents.put_table.Reads as put-table-reads
-use Rattle.reports.proofs.lines.put_refused.Reads as put-refused-reads
 
 slice-aggregate-read : tie.Need-slice-aggregate-read
 slice-aggregate-read c = search needs
@@ -42,8 +38,8 @@ returns c =
     let why = c .before .before .before .why .given in
     put-whole
     (put-as
-      (refused-report (a .bytes .now) _ (omega arith) (why .0 .0) (read .last .1 .0) (ap (λ (o : Opened). afterReading o (read .last .1 .0)) (sym (why .1)) ∙ read .ensures))
-      (c .put-refused .ensures))
+    (refused-report (a .bytes .now) _ (omega arith) (why .0 .0) (read .last .1 .0) (ap (λ (o : Opened). afterReading o (read .last .1 .0)) (sym (why .1)) ∙ read .ensures))
+    (c .put-refused .ensures))
     (omega (arith, report-length (a .bytes .now)))
 
 returns-2 : tie.Need-returns-2
@@ -53,8 +49,8 @@ returns-2 c =
     let shape = c .before .before .before .before .before .shape .given in
     put-whole
     (put-as
-      (held-report (a .bytes .now) _ (omega arith) (shape .0 .0) (read .last .1 .0) (ap (λ (o : Opened). afterReading o (read .last .1 .0)) (sym (shape .1)) ∙ read .ensures))
-      (c .before .put-table .ensures))
+    (held-report (a .bytes .now) _ (omega arith) (shape .0 .0) (read .last .1 .0) (ap (λ (o : Opened). afterReading o (read .last .1 .0)) (sym (shape .1)) ∙ read .ensures))
+    (c .before .put-table .ensures))
     (omega (arith, report-length (a .bytes .now)))
 
 pub text-spec : {M : Type 1} → statement M

@@ -1,6 +1,5 @@
 -- `reports::contents::put_counted` meets its contract: too few places are refused, and else as many are lent as there are points.
 -- Assumes nothing.
-use mathlib.Core.Path.{sym, ap, _∙_}
 use native.Mathlib.Omega.{arith}
 use borrow.Author.Needs.{needs}
 use lib.ListN.{length-take}
@@ -16,7 +15,7 @@ same-length : tie.Need-same-length
 same-length c = search needs
 
 returns : tie.Need-returns
-returns c = 
+returns c =
     let start = c .before .before .before .before .before .before in
     let a = start .args in
     put-as
@@ -30,7 +29,7 @@ slice-aggregate-put-coefficients : tie.Need-slice-aggregate-put-coefficients
 slice-aggregate-put-coefficients c = simp length-take (omega arith)
 
 put-coefficients-requires : tie.Need-put-coefficients-requires
-put-coefficients-requires c κs = (c .before .before .before .before .pre .0 , simp length-take (omega arith))
+put-coefficients-requires c κs = (c .before .before .before .before .pre .0, simp length-take (omega arith))
 
 same-length-2 : tie.Need-same-length-2
 same-length-2 c = search needs
@@ -39,7 +38,7 @@ same-length-3 : tie.Need-same-length-3
 same-length-3 c = search needs
 
 returns-2 : tie.Need-returns-2
-returns-2 c = 
+returns-2 c =
     let start = c .before .before .before .before .before .before .before .before in
     let a = start .args in
     put-as (prefix-text (a .shape) (a .count) (a .table .now) (start .pre .0)) (c .before .before .before .put-coefficients .ensures)

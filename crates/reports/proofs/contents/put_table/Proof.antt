@@ -1,6 +1,6 @@
 -- `reports::contents::put_table` meets its contract: a shape that is refused, or the table of its points.
 -- Assumes nothing.
-use mathlib.Core.Path.{sym, ap, _∙_}
+use mathlib.Core.Path.{sym, _∙_}
 use native.Mathlib.Omega.{arith}
 use borrow.Author.Needs.{needs}
 use Rattle.reports.proofs.Puts.{put-as}
@@ -21,13 +21,13 @@ enum-known-count : tie.Need-enum-known-count
 enum-known-count c = search needs
 
 put-counted-requires : tie.Need-put-counted-requires
-put-counted-requires c κs = (sym (c .before .before .before .before .before .count .ensures) ∙ c .before .before .before .count2 .given .1 , omega arith)
+put-counted-requires c κs = (sym (c .before .before .before .before .before .count .ensures) ∙ c .before .before .before .count2 .given .1, omega arith)
 
 same-length : tie.Need-same-length
 same-length c = search needs
 
 returns : tie.Need-returns
-returns c = 
+returns c =
     let a = c .before .before .before .before .before .before .before .before .before .args in
     let why = c .before .before .before .before .before .why .given in
     put-as (shape-refused (a .shape) (why .0 .0) (a .table .now) (sym (c .before .before .before .before .before .before .before .count .ensures) ∙ why .1)) (c .before .before .put-refused .ensures)

@@ -1,5 +1,7 @@
-use mathlib.Core.Path.{_≡_, refl, sym, subst, ap, _∙_}
-use Prim.Native.Nat.{ℕ, zero, suc, _+_, _-_, _*_, _/_, _%_, _^_, _≤_, _<_}
+-- `reports::lines::put_points` meets its contract. The loop's invariant: the lines of the points passed have been put; the measure is what is left of the table.
+-- Assumes nothing.
+use mathlib.Core.Path.{ap}
+use Prim.Native.Nat.{_-_}
 use native.Mathlib.Omega.{arith}
 use lib.IntN.{pos}
 use lib.ListN.{length, getD}
@@ -11,9 +13,6 @@ use Rattle.reports.proofs.Listing.{Listed, listed-starts, listed-room, 
 use borrow.Author.Needs.{needs}
 use Rattle.reports.proofs.lines.put_points.Statement.{statement}
 use Rattle.reports.proofs.lines.put_points.Tie as tie
-use Rattle.reports.proofs.lines.put_points.Reads as reads
-use Rattle.reports.proofs.lines.put_points.Lts as lts
-use Rattle.reports.proofs.lines.put_point.Reads as put-point-reads
 
 abbrev Inv-loop : tie.InvT-loop
 Inv-loop table out₀ place next₀ p₀ out next p = Listed table out₀ place out next p

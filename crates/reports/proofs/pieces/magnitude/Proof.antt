@@ -1,6 +1,6 @@
 -- `reports::pieces::magnitude` meets its contract: below zero one more is negated, which fits 64 bits, and 1 is added again.
 -- Assumes nothing.
-use mathlib.Core.Path.{_≡_, sym, ap, _∙_}
+use mathlib.Core.Path.{_≡_, ap}
 use mathlib.Core.Bool.{Bool, true, false}
 use Prim.Native.Nat.{_-_}
 use native.Mathlib.Omega.{arith}
@@ -12,8 +12,6 @@ use mir.ValLaws.{toZ-ofZ, fits-le}
 use Rattle.reports.proofs.Distances.{operand, one-more-fits, less-one-fits, distance, distance-fits, not-below}
 use Rattle.reports.proofs.pieces.magnitude.Statement.{statement}
 use Rattle.reports.proofs.pieces.magnitude.Tie as tie
-use Rattle.reports.proofs.pieces.magnitude.Reads as reads
-use Rattle.reports.proofs.pieces.magnitude.Lts as lts
 
 -- the test on the number itself
 test : (v : ℤ) (b : Bool) → SFits w64 v → ltZ (toZ w64 (ofZ w64 v)) (pos 0) ≡ b → ltZ v (pos 0) ≡ b
@@ -35,7 +33,7 @@ sub-result c =
 cast-result : tie.Need-cast-result
 cast-result c =
     rw (cast (c .before .args .v) (c .before .fits .v) (c .if1 .taken))
-    (tt , fits-le (omega arith) (distance-fits (c .before .args .v) (c .before .fits .v)))
+    (tt, fits-le (omega arith) (distance-fits (c .before .args .v) (c .before .fits .v)))
 
 add-result-2 : tie.Need-add-result-2
 add-result-2 c =
@@ -45,7 +43,7 @@ add-result-2 c =
 cast-result-2 : tie.Need-cast-result-2
 cast-result-2 c =
     rw (toZ-ofZ w64 (c .before .args .v) (c .before .fits .v))
-    (not-below (c .before .args .v) (test _ false (c .before .fits .v) (c .if1 .left)) , distance-fits (c .before .args .v) (c .before .fits .v))
+    (not-below (c .before .args .v) (test _ false (c .before .fits .v) (c .if1 .left)), distance-fits (c .before .args .v) (c .before .fits .v))
 
 returns : tie.Need-returns
 returns c =

@@ -1,13 +1,12 @@
-use mathlib.Core.Path.{_≡_, refl, sym, subst, ap, _∙_}
-use Prim.Native.Nat.{ℕ, zero, suc, _+_, _-_, _*_, _/_, _%_, _^_, _≤_, _<_}
+-- `reports::pieces::put` meets its contract. The loop's invariant: the characters passed have been put; the measure is what is left of them.
+-- Assumes nothing.
+use Prim.Native.Nat.{_-_}
 use native.Mathlib.Omega.{arith}
 use lib.ListN.{length}
 use Rattle.reports.proofs.Puts.{Copied, copied-starts, copied-steps, copied-ends, put-length}
 use borrow.Author.Needs.{needs}
 use Rattle.reports.proofs.pieces.put.Statement.{statement}
 use Rattle.reports.proofs.pieces.put.Tie as tie
-use Rattle.reports.proofs.pieces.put.Reads as reads
-use Rattle.reports.proofs.pieces.put.Lts as lts
 
 abbrev Inv-loop : tie.InvT-loop
 Inv-loop text out₀ place k₀ out k = Copied text out₀ place out k

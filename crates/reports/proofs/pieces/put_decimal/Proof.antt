@@ -1,15 +1,12 @@
-use mathlib.Core.Path.{_≡_, refl, sym, subst, ap, _∙_}
-use Prim.Native.Nat.{ℕ, zero, suc, _+_, _-_, _*_, _/_, _%_, _^_, _≤_, _<_}
+-- `reports::pieces::put_decimal` meets its contract: the digits that `io::decimal` writes are those of the report, at most 20, and are put.
+-- Assumes nothing.
+use mathlib.Core.Path.{_∙_}
 use native.Mathlib.Omega.{arith}
 use Rattle.reports.proofs.Decimals.{few-digits, decimal-digits}
 use Rattle.reports.proofs.Puts.{put-as}
 use borrow.Author.Needs.{needs}
 use Rattle.reports.proofs.pieces.put_decimal.Statement.{statement}
 use Rattle.reports.proofs.pieces.put_decimal.Tie as tie
-use Rattle.reports.proofs.pieces.put_decimal.Reads as reads
-use Rattle.reports.proofs.pieces.put_decimal.Lts as lts
-use Rattle.io.proofs.decimal.Reads as decimal-reads
-use Rattle.reports.proofs.pieces.put.Reads as put-reads
 
 decimal-requires : tie.Need-decimal-requires
 decimal-requires c κs = search needs

@@ -1,14 +1,9 @@
-use mathlib.Core.Path.{_≡_, refl, sym, subst, ap, _∙_}
-use Prim.Native.Nat.{ℕ, zero, suc, _+_, _-_, _*_, _/_, _%_, _^_, _≤_, _<_}
-use native.Mathlib.Omega.{arith}
+-- `reports::pieces::put_named` meets its contract: a word is put, and then a number.
+-- Assumes nothing.
 use Rattle.reports.proofs.Puts.{put-then}
 use borrow.Author.Needs.{needs}
 use Rattle.reports.proofs.pieces.put_named.Statement.{statement}
 use Rattle.reports.proofs.pieces.put_named.Tie as tie
-use Rattle.reports.proofs.pieces.put_named.Reads as reads
-use Rattle.reports.proofs.pieces.put_named.Lts as lts
-use Rattle.reports.proofs.pieces.put.Reads as put-reads
-use Rattle.reports.proofs.pieces.put_decimal.Reads as put-decimal-reads
 
 put-requires : tie.Need-put-requires
 put-requires c κs = search needs

@@ -39,9 +39,9 @@ same-length : tie.Need-same-length
 same-length c = search needs
 
 returns : tie.Need-returns
-returns c = 
+returns c =
     put-as
-    (ap (λ (n : ℕ). 45 ∷ decimal n) (c .before .before .before .before .magnitude .ensures) ∙ below _ (c .before .before .before .before .before .before .before .before .before .before .before .before .fits .v) (c .before .before .before .before .before .before .before .before .before .before .if1 .taken))
+    (ap (λ (n : ℕ). 45 ∷ decimal n) (c .before .before .before .before .magnitude .ensures) ∙ below _ (c .before .before .before .before .before .before .before .before .before .before .before .before .fits .value) (c .before .before .before .before .before .before .before .before .before .before .if1 .taken))
     (put-then (c .before .before .before .before .before .before .before .put .ensures) (c .before .before .put-decimal .ensures))
 
 magnitude-requires-2 : tie.Need-magnitude-requires-2
@@ -54,9 +54,9 @@ same-length-2 : tie.Need-same-length-2
 same-length-2 c = search needs
 
 returns-2 : tie.Need-returns-2
-returns-2 c = 
+returns-2 c =
     put-as
-    (ap decimal (c .before .before .before .before .magnitude2 .ensures) ∙ not-below _ (c .before .before .before .before .before .before .before .fits .v) (c .before .before .before .before .before .if1 .left))
+    (ap decimal (c .before .before .before .before .magnitude2 .ensures) ∙ not-below _ (c .before .before .before .before .before .before .before .fits .value) (c .before .before .before .before .before .if1 .left))
     (c .before .before .put-decimal2 .ensures)
 
 pub put-signed-spec : {M : Type 1} → statement M
