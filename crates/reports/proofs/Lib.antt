@@ -1,0 +1,6 @@
+pub mod Puts
+pub mod Decimals
+pub mod Distances
+pub mod Listing
+pub mod Texts
+pub mod Accepted

@@ -50,15 +50,27 @@ pointsWord = 32 ∷ 112 ∷ 111 ∷ 105 ∷ 110 ∷ 116 ∷ 115 ∷ 32 ∷ []
 abbrev pub refusedWord : List ℕ
 refusedWord = 114 ∷ 101 ∷ 102 ∷ 117 ∷ 115 ∷ 101 ∷ 100 ∷ 32 ∷ []
 
--- The first line: d, n and N.
-unfoldable pub heading : Shape → List ℕ
-heading s =
-    axesWord ++ decimal (s .axes) ++ levelWord ++ decimal (s .level) ++ pointsWord ++ decimal (points (s .axes) (s .level)) ++ lineFeed
+-- A word, and a number.
+abbrev pub named : List ℕ → ℕ → List ℕ
+named word n = word ++ decimal n
+
+-- The first line, of d, n and N.
+unfoldable pub headingOf : ℕ → ℕ → ℕ → List ℕ
+headingOf d n count = named axesWord d ++ named levelWord n ++ named pointsWord count ++ lineFeed
+
+-- The first line of a shape.
+abbrev pub heading : Shape → List ℕ
+heading s = headingOf (s .axes) (s .level) (points (s .axes) (s .level))
 
 -- A line for a point: its number and its coefficient.
 unfoldable pub pointLine : ℕ → ℤ → List ℕ
 pointLine p v = decimal p ++ space ++ signed v ++ lineFeed
 
+-- A line for each coefficient, from point p on.
+unfoldable pub pointLines : ℕ → List ℤ → List ℕ
+pointLines p [] = []
+pointLines p (v ∷ vs) = pointLine p v ++ pointLines (suc p) vs
+
 -- The one line of a refused file.
 unfoldable pub refusedLine : Refusal → List ℕ
-refusedLine r = refusedWord ++ decimal (numberOf r) ++ lineFeed
+refusedLine r = named refusedWord (numberOf r) ++ lineFeed

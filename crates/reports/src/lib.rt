@@ -1,1 +1,44 @@
-// The text of a table of coefficients, and the report of a house file on an open file.
+// The report of a house file: the text of its coefficients, or of why it is refused.
+mod contents;
+mod lines;
+mod pieces;
+
+use contents::put_table;
+use house_file::Opened;
+use lines::put_refused;
+ghost use mathlib.Core.Path.{_≡_};
+ghost use lib.ListN.{length, take};
+ghost use Rattle.io.specs.Counts.{Counts};
+ghost use Rattle.reports.specs.Report.{report as Report·report};
+ghost use Rattle.reports.specs.Put.{Put};
+
+// The places of a table that a file is read into.
+const PLACES: usize = 8192;
+
+// The most characters of a report: a first line of 81, and for each place a line of 43.
+const MOST: usize = 352337;
+
+// The most bytes of a file that are read, one more than an accepted file can have: 10 and for each place 5.
+const BYTES: usize = 40971;
+
+// Puts the report of a file of these bytes at the start of `out`, and answers how many characters it has.
+pub fn text(bytes: &[u8], out: &mut [u8; MOST]) -> usize
+    ensures { λ r. ⌜ Put (Report·report (now (bytes .entry))) (now (out .entry)) 0 (now (out .exit)) r ⌝ }
+    ensures { λ r. ⌜ take r (now (out .exit)) ≡ Report·report (now (bytes .entry)) ⌝ }
+    ensures { λ r. ⌜ Counts r (now (out .exit)) ⌝ }
+{
+    let mut table = [0i64; PLACES];
+    match house_file::read(bytes, &mut table) {
+        Opened::Refused(why) => put_refused(why, out),
+        Opened::Holds(shape) => put_table(shape, &mut table, out),
+    }
+}
+
+// Reads a file to its end, or so far that the rest cannot matter, and then writes its report. False where that could not be written.
+pub fn report(input: i32, output: i32) -> bool {
+    let mut bytes = [0u8; BYTES];
+    let mut out = [0u8; MOST];
+    let length = io::read_full(input, &mut bytes);
+    let count = text(&bytes[..length], &mut out);
+    io::write_all(output, &out[..count])
+}

@@ -1,0 +1,63 @@
+-- `reports::lines::put_heading` meets its contract: its pieces are the line, and each has room.
+-- Assumes nothing.
+use native.Mathlib.Omega.{arith}
+use borrow.Author.Needs.{needs}
+use Rattle.reports.specs.Text.{headingOf}
+use Rattle.reports.proofs.Decimals.{decimal-length}
+use Rattle.reports.proofs.Puts.{put-then, put-length}
+use Rattle.reports.proofs.lines.put_heading.Statement.{statement}
+use Rattle.reports.proofs.lines.put_heading.Tie as tie
+
+slice-aggregate-put-named : tie.Need-slice-aggregate-put-named
+slice-aggregate-put-named c = search needs
+
+cast-put-named : tie.Need-cast-put-named
+cast-put-named c = search needs
+
+put-named-requires : tie.Need-put-named-requires
+put-named-requires c κs = search needs
+
+slice-aggregate-put-named-2 : tie.Need-slice-aggregate-put-named-2
+slice-aggregate-put-named-2 c = search needs
+
+cast-put-named-2 : tie.Need-cast-put-named-2
+cast-put-named-2 c = search needs
+
+put-named-requires-2 : tie.Need-put-named-requires-2
+put-named-requires-2 c κs = omega (arith, c .before .before .before .before .before .put-named .ensures .after, put-length (c .before .before .before .before .before .put-named .ensures), decimal-length (c .before .before .before .before .before .before .before .before .before .before .args .shape .axes))
+
+slice-aggregate-put-named-3 : tie.Need-slice-aggregate-put-named-3
+slice-aggregate-put-named-3 c = search needs
+
+put-named-requires-3 : tie.Need-put-named-requires-3
+put-named-requires-3 c κs = omega (arith, c .before .before .before .before .before .before .before .before .before .before .put-named .ensures .after, put-length (c .before .before .before .before .before .before .before .before .before .before .put-named .ensures), c .before .before .before .before .put-named2 .ensures .after, put-length (c .before .before .before .before .put-named2 .ensures), decimal-length (c .before .before .before .before .before .before .before .before .before .before .before .before .before .before .before .args .shape .axes), decimal-length (c .before .before .before .before .before .before .before .before .before .before .before .before .before .before .before .args .shape .level))
+
+slice-aggregate-put : tie.Need-slice-aggregate-put
+slice-aggregate-put c = search needs
+
+put-requires : tie.Need-put-requires
+put-requires c κs = omega (arith, c .before .before .before .before .before .before .before .before .before .before .before .before .before .before .before .put-named .ensures .after, put-length (c .before .before .before .before .before .before .before .before .before .before .before .before .before .before .before .put-named .ensures), c .before .before .before .before .before .before .before .before .before .put-named2 .ensures .after, put-length (c .before .before .before .before .before .before .before .before .before .put-named2 .ensures), c .before .before .before .before .put-named3 .ensures .after, put-length (c .before .before .before .before .put-named3 .ensures), decimal-length (c .before .before .before .before .before .before .before .before .before .before .before .before .before .before .before .before .before .before .before .before .args .shape .axes), decimal-length (c .before .before .before .before .before .before .before .before .before .before .before .before .before .before .before .before .before .before .before .before .args .shape .level), decimal-length (c .before .before .before .before .before .before .before .before .before .before .before .before .before .before .before .before .before .before .before .before .args .count), c .before .before .before .before .before .before .before .before .before .before .before .before .before .before .before .before .before .before .before .before .pre)
+
+same-length : tie.Need-same-length
+same-length c = search needs
+
+returns : tie.Need-returns
+unfolding headingOf
+returns c = put-then (put-then (put-then (c .before .before .before .before .before .before .before .before .before .before .before .before .before .before .before .before .before .before .put-named .ensures) (c .before .before .before .before .before .before .before .before .before .before .before .before .put-named2 .ensures)) (c .before .before .before .before .before .before .before .put-named3 .ensures)) (c .before .before .put .ensures)
+
+pub put-heading-spec : {M : Type 1} → statement M
+put-heading-spec =
+    tie.close
+    (tie.spec
+    slice-aggregate-put-named
+    cast-put-named
+    put-named-requires
+    slice-aggregate-put-named-2
+    cast-put-named-2
+    put-named-requires-2
+    slice-aggregate-put-named-3
+    put-named-requires-3
+    slice-aggregate-put
+    put-requires
+    same-length
+    returns)

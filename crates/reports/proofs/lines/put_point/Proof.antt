@@ -1,0 +1,56 @@
+-- `reports::lines::put_point` meets its contract: its four pieces are the line, and each has room.
+-- Assumes nothing.
+use mathlib.Core.Path.{ap}
+use mathlib.Core.List.{_++_}
+use native.Mathlib.Omega.{arith}
+use lib.IntN.{ℤ}
+use mir.Syntax.{w64}
+use mir.Val.{toZ, ofZ}
+use mir.ValLaws.{toZ-ofZ}
+use borrow.Author.Needs.{needs}
+use Rattle.reports.specs.Text.{decimal, space, signed, lineFeed, pointLine}
+use Rattle.reports.proofs.Decimals.{decimal-length, signed-length}
+use Rattle.reports.proofs.Puts.{put-then, put-as, put-length}
+use Rattle.reports.proofs.lines.put_point.Statement.{statement}
+use Rattle.reports.proofs.lines.put_point.Tie as tie
+
+put-decimal-requires : tie.Need-put-decimal-requires
+put-decimal-requires c κs = search needs
+
+slice-aggregate-put : tie.Need-slice-aggregate-put
+slice-aggregate-put c = search needs
+
+put-requires : tie.Need-put-requires
+put-requires c κs = omega (arith, c .before .before .before .before .put-decimal .ensures .after, put-length (c .before .before .before .before .put-decimal .ensures), decimal-length (c .before .before .before .before .before .before .before .args .point))
+
+put-signed-requires : tie.Need-put-signed-requires
+put-signed-requires c κs = omega (arith, c .before .before .before .before .before .before .before .before .put-decimal .ensures .after, put-length (c .before .before .before .before .before .before .before .before .put-decimal .ensures), c .before .before .before .put .ensures .after, put-length (c .before .before .before .put .ensures), decimal-length (c .before .before .before .before .before .before .before .before .before .before .before .args .point))
+
+slice-aggregate-put-2 : tie.Need-slice-aggregate-put-2
+slice-aggregate-put-2 c = search needs
+
+put-requires-2 : tie.Need-put-requires-2
+put-requires-2 c κs = omega (arith, c .before .before .before .before .before .before .before .before .before .before .before .before .before .put-decimal .ensures .after, put-length (c .before .before .before .before .before .before .before .before .before .before .before .before .before .put-decimal .ensures), c .before .before .before .before .before .before .before .before .put .ensures .after, put-length (c .before .before .before .before .before .before .before .before .put .ensures), c .before .before .before .before .put-signed .ensures .after, put-length (c .before .before .before .before .put-signed .ensures), decimal-length (c .before .before .before .before .before .before .before .before .before .before .before .before .before .before .before .before .args .point), signed-length (toZ w64 (ofZ w64 (c .before .before .before .before .before .before .before .before .before .before .before .before .before .before .before .before .args .value))))
+
+same-length : tie.Need-same-length
+same-length c = search needs
+
+returns : tie.Need-returns
+unfolding pointLine
+returns c =
+    put-as
+    (ap (λ (z : ℤ). decimal (c .before .before .before .before .before .before .before .before .before .before .before .before .before .before .before .before .before .before .before .args .point) ++ space ++ signed z ++ lineFeed) (toZ-ofZ w64 (c .before .before .before .before .before .before .before .before .before .before .before .before .before .before .before .before .before .before .before .args .value) (c .before .before .before .before .before .before .before .before .before .before .before .before .before .before .before .before .before .before .before .fits .value)))
+    (put-then (put-then (put-then (c .before .before .before .before .before .before .before .before .before .before .before .before .before .before .before .before .put-decimal .ensures) (c .before .before .before .before .before .before .before .before .before .before .before .put .ensures)) (c .before .before .before .before .before .before .before .put-signed .ensures)) (c .before .before .put2 .ensures))
+
+pub put-point-spec : {M : Type 1} → statement M
+put-point-spec =
+    tie.close
+    (tie.spec
+    put-decimal-requires
+    slice-aggregate-put
+    put-requires
+    put-signed-requires
+    slice-aggregate-put-2
+    put-requires-2
+    same-length
+    returns)

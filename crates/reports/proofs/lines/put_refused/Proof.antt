@@ -1,0 +1,50 @@
+-- `reports::lines::put_refused` meets its contract: its pieces are the line.
+-- Assumes nothing.
+use mathlib.Core.Path.{ap}
+use mathlib.Core.List.{_++_}
+use Prim.Native.Nat.{ℕ}
+use native.Mathlib.Omega.{arith}
+use borrow.Author.Needs.{needs}
+use Rattle.reports.specs.Text.{named, refusedWord, lineFeed, refusedLine}
+use Rattle.reports.proofs.Decimals.{decimal-length}
+use Rattle.reports.proofs.Puts.{put-then, put-as, put-length}
+use Rattle.reports.proofs.lines.put_refused.Statement.{statement}
+use Rattle.reports.proofs.lines.put_refused.Tie as tie
+
+slice-aggregate-put-named : tie.Need-slice-aggregate-put-named
+slice-aggregate-put-named c = search needs
+
+refusal-number-requires : tie.Need-refusal-number-requires
+refusal-number-requires c κs = search needs
+
+cast-put-named : tie.Need-cast-put-named
+cast-put-named c = search needs
+
+put-named-requires : tie.Need-put-named-requires
+put-named-requires c κs = search needs
+
+slice-aggregate-put : tie.Need-slice-aggregate-put
+slice-aggregate-put c = search needs
+
+put-requires : tie.Need-put-requires
+put-requires c κs = omega (arith, c .before .before .before .before .put-named .ensures .after, put-length (c .before .before .before .before .put-named .ensures), decimal-length (c .before .before .before .before .before .before .refusal-number .result))
+
+same-length : tie.Need-same-length
+same-length c = search needs
+
+returns : tie.Need-returns
+unfolding refusedLine
+returns c = put-as (ap (λ (n : ℕ). named refusedWord n ++ lineFeed) (c .before .before .before .before .before .before .before .before .before .refusal-number .ensures)) (put-then (c .before .before .before .before .before .before .before .put-named .ensures) (c .before .before .put .ensures))
+
+pub put-refused-spec : {M : Type 1} → statement M
+put-refused-spec =
+    tie.close
+    (tie.spec
+    slice-aggregate-put-named
+    refusal-number-requires
+    cast-put-named
+    put-named-requires
+    slice-aggregate-put
+    put-requires
+    same-length
+    returns)

@@ -1,0 +1,46 @@
+-- `reports::pieces::put_decimal` meets its contract: the digits that `io::decimal` writes are those of the report, at most 20, and are put.
+-- Assumes nothing.
+use mathlib.Core.Path.{_∙_}
+use native.Mathlib.Omega.{arith}
+use Rattle.reports.proofs.Decimals.{few-digits, decimal-digits}
+use Rattle.reports.proofs.Puts.{put-as}
+use borrow.Author.Needs.{needs}
+use Rattle.reports.proofs.pieces.put_decimal.Statement.{statement}
+use Rattle.reports.proofs.pieces.put_decimal.Tie as tie
+
+decimal-requires : tie.Need-decimal-requires
+decimal-requires c κs = search needs
+
+array-share-prefix-digits : tie.Need-array-share-prefix-digits
+array-share-prefix-digits c = search needs
+
+slice-aggregate-put : tie.Need-slice-aggregate-put
+slice-aggregate-put c = search needs
+
+put-requires : tie.Need-put-requires
+put-requires c κs =
+    omega (
+      arith,
+      c .before .before .decimal .ensures .0 .1,
+      few-digits (c .before .before .decimal .result) (c .before .before .before .before .before .args .n) (c .before .before .decimal .ensures .1 .0) (c .before .before .before .before .before .fits .n .fits),
+    )
+
+same-length : tie.Need-same-length
+same-length c = search needs
+
+returns : tie.Need-returns
+returns c =
+    put-as
+    (c .before .before .before .before .before .decimal .ensures .1 .1 ∙ decimal-digits _ _ (c .before .before .before .before .before .decimal .ensures .1 .0) (c .before .before .before .before .before .before .before .before .fits .n .fits))
+    (c .before .before .put .ensures)
+
+pub put-decimal-spec : {M : Type 1} → statement M
+put-decimal-spec =
+    tie.close
+    (tie.spec
+    decimal-requires
+    array-share-prefix-digits
+    slice-aggregate-put
+    put-requires
+    same-length
+    returns)
