@@ -22,12 +22,12 @@ use Rattle.numbering.specs.Count.{points}
 use Rattle.shapes.specs.declared.Shape.{Shape}
 use Rattle.shapes.specs.Shapes.{checkShape}
 use Rattle.hierarchy.specs.Turns.{valueAt}
-use Rattle.hierarchy.specs.Sets.{tableOf}
+use Rattle.hierarchy.specs.Sets.{everyAxis, tableOf}
 use Rattle.hierarchy.proofs.Values.{value-suc, values-length}
 use Rattle.zero_border.specs.ZeroBorder.{neighbour}
 use Rattle.tables.specs.Tables.{firstFailing, rateAt, checkTable, checkRates}
 use Rattle.tables.proofs.FirstFailing.{first-none}
-use Rattle.whole.specs.Whole.{allAxes, coefficientsOf, ratesToCoefficients}
+use Rattle.whole.specs.Whole.{coefficientsOf, ratesToCoefficients}
 use Rattle.house_file.specs.declared.Opened.{Opened}
 use Rattle.house_file.specs.declared.Opened.the-variants.{Holds, Refused}
 use Rattle.house_file.specs.Reading.{Read, got, refused, _next_, _thenRead_}
@@ -189,7 +189,7 @@ reported-length (got c rest) h =
       length-append (heading (c .shape)) (pointLines 0 ys),
       heading-length (c .shape .axes) (c .shape .level) n,
       lines-length ys 0,
-      values-length n (tableOf (neighbour (c .shape .axes) (c .shape .level)) (c .shape .axes) allAxes (valueAt (c .rates))),
+      values-length n (tableOf (neighbour (c .shape .axes) (c .shape .level)) (c .shape .axes) everyAxis (valueAt (c .rates))),
       h .fits,
     )
 reported-length (refused r) h = omega (arith, refused-length r)
