@@ -4,3 +4,4 @@ pub mod Distances
 pub mod Listing
 pub mod Texts
 pub mod Accepted
+pub mod FirstBytes
