@@ -5,3 +5,4 @@ pub mod Listing
 pub mod Texts
 pub mod Accepted
 pub mod FirstBytes
+pub mod Worked
