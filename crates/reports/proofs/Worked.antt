@@ -34,5 +34,5 @@ negative-report = refl
 
 -- 09, which ends before n: "refused 11".
 pub cut-report : report (9 ∷ []) ≡ 114 ∷ 101 ∷ 102 ∷ 117 ∷ 115 ∷ 101 ∷ 100 ∷ 32 ∷ 49 ∷ 49 ∷ 10 ∷ []
-unfolding digitsOf decimal refusedLine report readContents readNumber groups limited
+unfolding digitsOf decimal refusedLine report readContents readNumber groups limited largest
 cut-report = refl
