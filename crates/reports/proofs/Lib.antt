@@ -4,3 +4,5 @@ pub mod Distances
 pub mod Listing
 pub mod Texts
 pub mod Accepted
+pub mod FirstBytes
+pub mod Worked

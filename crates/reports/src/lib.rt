@@ -7,7 +7,7 @@ use contents::put_table;
 use house_file::Opened;
 use lines::put_refused;
 ghost use mathlib.Core.Path.{_≡_};
-ghost use lib.ListN.{length, take};
+ghost use lib.ListN.{take};
 ghost use Rattle.io.specs.Counts.{Counts};
 ghost use Rattle.reports.specs.Report.{report as Report·report};
 ghost use Rattle.reports.specs.Put.{Put};
