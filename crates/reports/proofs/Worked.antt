@@ -21,18 +21,17 @@ use Rattle.reports.specs.Text.{digitsOf, decimal, signed, headingOf, poi
 use Rattle.reports.specs.Report.{tableText, report}
 
 -- 01 01 06 0A 0E: "axes 1 level 1 points 3", "0 6", "1 7", "2 11".
-pub example-report :
-    report (1 ∷ 1 ∷ 6 ∷ 10 ∷ 14 ∷ [])
-    ≡ 97 ∷ 120 ∷ 101 ∷ 115 ∷ 32 ∷ 49 ∷ 32 ∷ 108 ∷ 101 ∷ 118 ∷ 101 ∷ 108 ∷ 32 ∷ 49 ∷ 32 ∷ 112 ∷ 111 ∷ 105 ∷ 110 ∷ 116 ∷ 115 ∷ 32 ∷ 51 ∷ 10 ∷ 48 ∷ 32 ∷ 54 ∷ 10 ∷ 49 ∷ 32 ∷ 55 ∷ 10 ∷ 50 ∷ 32 ∷ 49 ∷ 49 ∷ 10 ∷ []
-unfolding digitsOf decimal signed headingOf pointLine pointLines refusedLine tableText report sumTo choose vectors shell start points checkShape block lastLevel levelOf sumAt within levelAt indexOf indexAt ending rank digit position number isBorder twos parentLevel parentIndex update parent trailingZeros half valueAt valuesOf sumOn forward scaled swept tableOf codeOf neighbour coefficientsOf below groups largest limited readNumber rateOf prepended readRates ended readTable readContents
-example-report = refl
+abbrev pub Example : Type 0
+Example = report (1 ∷ 1 ∷ 6 ∷ 10 ∷ 14 ∷ []) ≡ 97 ∷ 120 ∷ 101 ∷ 115 ∷ 32 ∷ 49 ∷ 32 ∷ 108 ∷ 101 ∷ 118 ∷ 101 ∷ 108 ∷ 32 ∷ 49 ∷ 32 ∷ 112 ∷ 111 ∷ 105 ∷ 110 ∷ 116 ∷ 115 ∷ 32 ∷ 51 ∷ 10 ∷ 48 ∷ 32 ∷ 54 ∷ 10 ∷ 49 ∷ 32 ∷ 55 ∷ 10 ∷ 50 ∷ 32 ∷ 49 ∷ 49 ∷ 10 ∷ []
 
 -- 01 00 01, the rate −1: "axes 1 level 0 points 1", "0 -2".
-pub negative-report : report (1 ∷ 0 ∷ 1 ∷ []) ≡ 97 ∷ 120 ∷ 101 ∷ 115 ∷ 32 ∷ 49 ∷ 32 ∷ 108 ∷ 101 ∷ 118 ∷ 101 ∷ 108 ∷ 32 ∷ 48 ∷ 32 ∷ 112 ∷ 111 ∷ 105 ∷ 110 ∷ 116 ∷ 115 ∷ 32 ∷ 49 ∷ 10 ∷ 48 ∷ 32 ∷ 45 ∷ 50 ∷ 10 ∷ []
-unfolding digitsOf decimal signed headingOf pointLine pointLines refusedLine tableText report sumTo choose vectors shell start points checkShape block lastLevel levelOf sumAt within levelAt indexOf indexAt ending rank digit position number isBorder twos parentLevel parentIndex update parent trailingZeros half valueAt valuesOf sumOn forward scaled swept tableOf codeOf neighbour coefficientsOf below groups largest limited readNumber rateOf prepended readRates ended readTable readContents
-negative-report = refl
+abbrev pub Negative : Type 0
+Negative = report (1 ∷ 0 ∷ 1 ∷ []) ≡ 97 ∷ 120 ∷ 101 ∷ 115 ∷ 32 ∷ 49 ∷ 32 ∷ 108 ∷ 101 ∷ 118 ∷ 101 ∷ 108 ∷ 32 ∷ 48 ∷ 32 ∷ 112 ∷ 111 ∷ 105 ∷ 110 ∷ 116 ∷ 115 ∷ 32 ∷ 49 ∷ 10 ∷ 48 ∷ 32 ∷ 45 ∷ 50 ∷ 10 ∷ []
 
 -- 09, which ends before n: "refused 11".
-pub cut-report : report (9 ∷ []) ≡ 114 ∷ 101 ∷ 102 ∷ 117 ∷ 115 ∷ 101 ∷ 100 ∷ 32 ∷ 49 ∷ 49 ∷ 10 ∷ []
-unfolding digitsOf decimal refusedLine report readContents readNumber groups limited largest
-cut-report = refl
+abbrev pub Cut : Type 0
+Cut = report (9 ∷ []) ≡ 114 ∷ 101 ∷ 102 ∷ 117 ∷ 115 ∷ 101 ∷ 100 ∷ 32 ∷ 49 ∷ 49 ∷ 10 ∷ []
+
+pub worked-reports : Example × Negative × Cut
+unfolding digitsOf decimal signed headingOf pointLine pointLines refusedLine tableText report sumTo choose vectors shell start points checkShape block lastLevel levelOf sumAt within levelAt indexOf indexAt ending rank digit position number isBorder twos parentLevel parentIndex update parent trailingZeros half valueAt valuesOf sumOn forward scaled swept tableOf codeOf neighbour coefficientsOf below groups largest limited readNumber rateOf prepended readRates ended readTable readContents
+worked-reports = (refl, refl, refl)

@@ -24,26 +24,44 @@ cast-put-named-2 : tie.Need-cast-put-named-2
 cast-put-named-2 c = search needs
 
 put-named-requires-2 : tie.Need-put-named-requires-2
-put-named-requires-2 c κs = omega (arith, c .before .before .before .before .before .put-named .ensures .after, put-length (c .before .before .before .before .before .put-named .ensures), decimal-length (c .before .before .before .before .before .before .before .before .before .before .args .shape .axes))
+put-named-requires-2 c κs =
+    let a = c .before .before .before .before .before .before .before .before .before .before .args in
+    let first = c .before .before .before .before .before .put-named in
+    omega (arith, first .ensures .after, put-length (first .ensures), decimal-length (a .shape .axes))
 
 slice-aggregate-put-named-3 : tie.Need-slice-aggregate-put-named-3
 slice-aggregate-put-named-3 c = search needs
 
 put-named-requires-3 : tie.Need-put-named-requires-3
-put-named-requires-3 c κs = omega (arith, c .before .before .before .before .before .before .before .before .before .before .put-named .ensures .after, put-length (c .before .before .before .before .before .before .before .before .before .before .put-named .ensures), c .before .before .before .before .put-named2 .ensures .after, put-length (c .before .before .before .before .put-named2 .ensures), decimal-length (c .before .before .before .before .before .before .before .before .before .before .before .before .before .before .before .args .shape .axes), decimal-length (c .before .before .before .before .before .before .before .before .before .before .before .before .before .before .before .args .shape .level))
+put-named-requires-3 c κs =
+    let a = c .before .before .before .before .before .before .before .before .before .before .before .before .before .before .before .args in
+    let first = c .before .before .before .before .before .before .before .before .before .before .put-named in
+    let second = c .before .before .before .before .put-named2 in
+    omega (arith, first .ensures .after, put-length (first .ensures), second .ensures .after, put-length (second .ensures), decimal-length (a .shape .axes), decimal-length (a .shape .level))
 
 slice-aggregate-put : tie.Need-slice-aggregate-put
 slice-aggregate-put c = search needs
 
 put-requires : tie.Need-put-requires
-put-requires c κs = omega (arith, c .before .before .before .before .before .before .before .before .before .before .before .before .before .before .before .put-named .ensures .after, put-length (c .before .before .before .before .before .before .before .before .before .before .before .before .before .before .before .put-named .ensures), c .before .before .before .before .before .before .before .before .before .put-named2 .ensures .after, put-length (c .before .before .before .before .before .before .before .before .before .put-named2 .ensures), c .before .before .before .before .put-named3 .ensures .after, put-length (c .before .before .before .before .put-named3 .ensures), decimal-length (c .before .before .before .before .before .before .before .before .before .before .before .before .before .before .before .before .before .before .before .before .args .shape .axes), decimal-length (c .before .before .before .before .before .before .before .before .before .before .before .before .before .before .before .before .before .before .before .before .args .shape .level), decimal-length (c .before .before .before .before .before .before .before .before .before .before .before .before .before .before .before .before .before .before .before .before .args .count), c .before .before .before .before .before .before .before .before .before .before .before .before .before .before .before .before .before .before .before .before .pre)
+put-requires c κs =
+    let start = c .before .before .before .before .before .before .before .before .before .before .before .before .before .before .before .before .before .before .before .before in
+    let a = start .args in
+    let first = c .before .before .before .before .before .before .before .before .before .before .before .before .before .before .before .put-named in
+    let second = c .before .before .before .before .before .before .before .before .before .put-named2 in
+    let third = c .before .before .before .before .put-named3 in
+    omega (arith, first .ensures .after, put-length (first .ensures), second .ensures .after, put-length (second .ensures), third .ensures .after, put-length (third .ensures), decimal-length (a .shape .axes), decimal-length (a .shape .level), decimal-length (a .count), start .pre)
 
 same-length : tie.Need-same-length
 same-length c = search needs
 
 returns : tie.Need-returns
 unfolding headingOf
-returns c = put-then (put-then (put-then (c .before .before .before .before .before .before .before .before .before .before .before .before .before .before .before .before .before .before .put-named .ensures) (c .before .before .before .before .before .before .before .before .before .before .before .before .put-named2 .ensures)) (c .before .before .before .before .before .before .before .put-named3 .ensures)) (c .before .before .put .ensures)
+returns c =
+    let first = c .before .before .before .before .before .before .before .before .before .before .before .before .before .before .before .before .before .before .put-named in
+    let second = c .before .before .before .before .before .before .before .before .before .before .before .before .put-named2 in
+    let third = c .before .before .before .before .before .before .before .put-named3 in
+    let last = c .before .before .put in
+    put-then (put-then (put-then (first .ensures) (second .ensures)) (third .ensures)) (last .ensures)
 
 pub put-heading-spec : {M : Type 1} → statement M
 put-heading-spec =

@@ -21,16 +21,28 @@ slice-aggregate-put : tie.Need-slice-aggregate-put
 slice-aggregate-put c = search needs
 
 put-requires : tie.Need-put-requires
-put-requires c κs = omega (arith, c .before .before .before .before .put-decimal .ensures .after, put-length (c .before .before .before .before .put-decimal .ensures), decimal-length (c .before .before .before .before .before .before .before .args .point))
+put-requires c κs =
+    let a = c .before .before .before .before .before .before .before .args in
+    let first = c .before .before .before .before .put-decimal in
+    omega (arith, first .ensures .after, put-length (first .ensures), decimal-length (a .point))
 
 put-signed-requires : tie.Need-put-signed-requires
-put-signed-requires c κs = omega (arith, c .before .before .before .before .before .before .before .before .put-decimal .ensures .after, put-length (c .before .before .before .before .before .before .before .before .put-decimal .ensures), c .before .before .before .put .ensures .after, put-length (c .before .before .before .put .ensures), decimal-length (c .before .before .before .before .before .before .before .before .before .before .before .args .point))
+put-signed-requires c κs =
+    let a = c .before .before .before .before .before .before .before .before .before .before .before .args in
+    let first = c .before .before .before .before .before .before .before .before .put-decimal in
+    let second = c .before .before .before .put in
+    omega (arith, first .ensures .after, put-length (first .ensures), second .ensures .after, put-length (second .ensures), decimal-length (a .point))
 
 slice-aggregate-put-2 : tie.Need-slice-aggregate-put-2
 slice-aggregate-put-2 c = search needs
 
 put-requires-2 : tie.Need-put-requires-2
-put-requires-2 c κs = omega (arith, c .before .before .before .before .before .before .before .before .before .before .before .before .before .put-decimal .ensures .after, put-length (c .before .before .before .before .before .before .before .before .before .before .before .before .before .put-decimal .ensures), c .before .before .before .before .before .before .before .before .put .ensures .after, put-length (c .before .before .before .before .before .before .before .before .put .ensures), c .before .before .before .before .put-signed .ensures .after, put-length (c .before .before .before .before .put-signed .ensures), decimal-length (c .before .before .before .before .before .before .before .before .before .before .before .before .before .before .before .before .args .point), signed-length (toZ w64 (ofZ w64 (c .before .before .before .before .before .before .before .before .before .before .before .before .before .before .before .before .args .value))))
+put-requires-2 c κs =
+    let a = c .before .before .before .before .before .before .before .before .before .before .before .before .before .before .before .before .args in
+    let first = c .before .before .before .before .before .before .before .before .before .before .before .before .before .put-decimal in
+    let second = c .before .before .before .before .before .before .before .before .put in
+    let third = c .before .before .before .before .put-signed in
+    omega (arith, first .ensures .after, put-length (first .ensures), second .ensures .after, put-length (second .ensures), third .ensures .after, put-length (third .ensures), decimal-length (a .point), signed-length (toZ w64 (ofZ w64 (a .value))))
 
 same-length : tie.Need-same-length
 same-length c = search needs
@@ -38,9 +50,15 @@ same-length c = search needs
 returns : tie.Need-returns
 unfolding pointLine
 returns c =
+    let start = c .before .before .before .before .before .before .before .before .before .before .before .before .before .before .before .before .before .before .before in
+    let a = start .args in
+    let first = c .before .before .before .before .before .before .before .before .before .before .before .before .before .before .before .before .put-decimal in
+    let second = c .before .before .before .before .before .before .before .before .before .before .before .put in
+    let third = c .before .before .before .before .before .before .before .put-signed in
+    let last = c .before .before .put2 in
     put-as
-    (ap (λ (z : ℤ). decimal (c .before .before .before .before .before .before .before .before .before .before .before .before .before .before .before .before .before .before .before .args .point) ++ space ++ signed z ++ lineFeed) (toZ-ofZ w64 (c .before .before .before .before .before .before .before .before .before .before .before .before .before .before .before .before .before .before .before .args .value) (c .before .before .before .before .before .before .before .before .before .before .before .before .before .before .before .before .before .before .before .fits .value)))
-    (put-then (put-then (put-then (c .before .before .before .before .before .before .before .before .before .before .before .before .before .before .before .before .put-decimal .ensures) (c .before .before .before .before .before .before .before .before .before .before .before .put .ensures)) (c .before .before .before .before .before .before .before .put-signed .ensures)) (c .before .before .put2 .ensures))
+    (ap (λ (z : ℤ). decimal (a .point) ++ space ++ signed z ++ lineFeed) (toZ-ofZ w64 (a .value) (start .fits .value)))
+    (put-then (put-then (put-then (first .ensures) (second .ensures)) (third .ensures)) (last .ensures))
 
 pub put-point-spec : {M : Type 1} → statement M
 put-point-spec =

@@ -27,14 +27,21 @@ slice-aggregate-put : tie.Need-slice-aggregate-put
 slice-aggregate-put c = search needs
 
 put-requires : tie.Need-put-requires
-put-requires c κs = omega (arith, c .before .before .before .before .put-named .ensures .after, put-length (c .before .before .before .before .put-named .ensures), decimal-length (c .before .before .before .before .before .before .refusal-number .result))
+put-requires c κs =
+    let number = c .before .before .before .before .before .before .refusal-number in
+    let first = c .before .before .before .before .put-named in
+    omega (arith, first .ensures .after, put-length (first .ensures), decimal-length (number .result))
 
 same-length : tie.Need-same-length
 same-length c = search needs
 
 returns : tie.Need-returns
 unfolding refusedLine
-returns c = put-as (ap (λ (n : ℕ). named refusedWord n ++ lineFeed) (c .before .before .before .before .before .before .before .before .before .refusal-number .ensures)) (put-then (c .before .before .before .before .before .before .before .put-named .ensures) (c .before .before .put .ensures))
+returns c =
+    let number = c .before .before .before .before .before .before .before .before .before .refusal-number in
+    let first = c .before .before .before .before .before .before .before .put-named in
+    let second = c .before .before .put in
+    put-as (ap (λ (n : ℕ). named refusedWord n ++ lineFeed) (number .ensures)) (put-then (first .ensures) (second .ensures))
 
 pub put-refused-spec : {M : Type 1} → statement M
 put-refused-spec =

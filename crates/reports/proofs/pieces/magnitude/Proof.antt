@@ -23,34 +23,50 @@ cast : (v : ℤ) → SFits w64 v → ltZ (toZ w64 (ofZ w64 v)) (pos 0) ≡ true
 cast v f e = rw (operand v (test v true f e) f) (toZ-ofZ w64 (pos (natAbs v - 1)) (less-one-fits v (test v true f e) f))
 
 add-result : tie.Need-add-result
-add-result c = rw (toZ-ofZ w64 (c .before .args .v) (c .before .fits .v)) (one-more-fits (c .before .args .v) (test _ true (c .before .fits .v) (c .if1 .taken)) (c .before .fits .v))
+add-result c =
+    let v = c .before .args .v in
+    let fits = c .before .fits .v in
+    let below = test v true fits (c .if1 .taken) in
+    rw (toZ-ofZ w64 v fits) (one-more-fits v below fits)
 
 sub-result : tie.Need-sub-result
 sub-result c =
-    rw (operand (c .before .args .v) (test _ true (c .before .fits .v) (c .if1 .taken)) (c .before .fits .v))
-    (less-one-fits (c .before .args .v) (test _ true (c .before .fits .v) (c .if1 .taken)) (c .before .fits .v))
+    let v = c .before .args .v in
+    let fits = c .before .fits .v in
+    let below = test v true fits (c .if1 .taken) in
+    rw (operand v below fits) (less-one-fits v below fits)
 
 cast-result : tie.Need-cast-result
 cast-result c =
-    rw (cast (c .before .args .v) (c .before .fits .v) (c .if1 .taken))
-    (tt, fits-le (omega arith) (distance-fits (c .before .args .v) (c .before .fits .v)))
+    let v = c .before .args .v in
+    let fits = c .before .fits .v in
+    rw (cast v fits (c .if1 .taken)) (tt, fits-le (omega arith) (distance-fits v fits))
 
 add-result-2 : tie.Need-add-result-2
 add-result-2 c =
-    rw (cast (c .before .args .v) (c .before .fits .v) (c .if1 .taken), distance (c .before .args .v) (test _ true (c .before .fits .v) (c .if1 .taken)))
-    (distance-fits (c .before .args .v) (c .before .fits .v))
+    let v = c .before .args .v in
+    let fits = c .before .fits .v in
+    let below = test v true fits (c .if1 .taken) in
+    rw (cast v fits (c .if1 .taken), distance v below) (distance-fits v fits)
 
 cast-result-2 : tie.Need-cast-result-2
 cast-result-2 c =
-    rw (toZ-ofZ w64 (c .before .args .v) (c .before .fits .v))
-    (not-below (c .before .args .v) (test _ false (c .before .fits .v) (c .if1 .left)), distance-fits (c .before .args .v) (c .before .fits .v))
+    let v = c .before .args .v in
+    let fits = c .before .fits .v in
+    rw (toZ-ofZ w64 v fits) (not-below v (test v false fits (c .if1 .left)), distance-fits v fits)
 
 returns : tie.Need-returns
 returns c =
-    rw (cast (c .before .args .v) (c .before .fits .v) (c .if1 .taken)) (distance (c .before .args .v) (test _ true (c .before .fits .v) (c .if1 .taken)))
+    let v = c .before .args .v in
+    let fits = c .before .fits .v in
+    let below = test v true fits (c .if1 .taken) in
+    rw (cast v fits (c .if1 .taken)) (distance v below)
 
 returns-2 : tie.Need-returns-2
-returns-2 c = ap natAbs (toZ-ofZ w64 (c .before .args .v) (c .before .fits .v))
+returns-2 c =
+    let v = c .before .args .v in
+    let fits = c .before .fits .v in
+    ap natAbs (toZ-ofZ w64 v fits)
 
 pub magnitude-spec : {M : Type 1} → statement M
 magnitude-spec = tie.close (tie.spec add-result sub-result cast-result add-result-2 cast-result-2 returns returns-2)

@@ -19,19 +19,19 @@ slice-aggregate-put c = search needs
 
 put-requires : tie.Need-put-requires
 put-requires c κs =
-    omega (
-      arith,
-      c .before .before .decimal .ensures .0 .1,
-      few-digits (c .before .before .decimal .result) (c .before .before .before .before .before .args .n) (c .before .before .decimal .ensures .1 .0) (c .before .before .before .before .before .fits .n .fits),
-    )
+    let start = c .before .before .before .before .before in
+    let written = c .before .before .decimal in
+    omega (arith, written .ensures .0 .1, few-digits (written .result) (start .args .n) (written .ensures .1 .0) (start .fits .n .fits))
 
 same-length : tie.Need-same-length
 same-length c = search needs
 
 returns : tie.Need-returns
 returns c =
+    let start = c .before .before .before .before .before .before .before .before in
+    let written = c .before .before .before .before .before .decimal in
     put-as
-    (c .before .before .before .before .before .decimal .ensures .1 .1 ∙ decimal-digits _ _ (c .before .before .before .before .before .decimal .ensures .1 .0) (c .before .before .before .before .before .before .before .before .fits .n .fits))
+    (written .ensures .1 .1 ∙ decimal-digits (written .result) (start .args .n) (written .ensures .1 .0) (start .fits .n .fits))
     (c .before .before .put .ensures)
 
 pub put-decimal-spec : {M : Type 1} → statement M

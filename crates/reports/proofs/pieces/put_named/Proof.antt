@@ -15,7 +15,10 @@ same-length : tie.Need-same-length
 same-length c = search needs
 
 returns : tie.Need-returns
-returns c = put-then (c .before .before .before .before .before .before .put .ensures) (c .before .before .put-decimal .ensures)
+returns c =
+    let first = c .before .before .before .before .before .before .put in
+    let second = c .before .before .put-decimal in
+    put-then (first .ensures) (second .ensures)
 
 pub put-named-spec : {M : Type 1} → statement M
 put-named-spec = tie.close (tie.spec put-requires put-decimal-requires same-length returns)

@@ -40,9 +40,14 @@ same-length c = search needs
 
 returns : tie.Need-returns
 returns c =
+    let start = c .before .before .before .before .before .before .before .before .before .before .before .before in
+    let test = c .before .before .before .before .before .before .before .before .before .before .if1 in
+    let size = c .before .before .before .before .magnitude in
+    let first = c .before .before .before .before .before .before .before .put in
+    let second = c .before .before .put-decimal in
     put-as
-    (ap (λ (n : ℕ). 45 ∷ decimal n) (c .before .before .before .before .magnitude .ensures) ∙ below _ (c .before .before .before .before .before .before .before .before .before .before .before .before .fits .value) (c .before .before .before .before .before .before .before .before .before .before .if1 .taken))
-    (put-then (c .before .before .before .before .before .before .before .put .ensures) (c .before .before .put-decimal .ensures))
+    (ap (λ (n : ℕ). 45 ∷ decimal n) (size .ensures) ∙ below _ (start .fits .value) (test .taken))
+    (put-then (first .ensures) (second .ensures))
 
 magnitude-requires-2 : tie.Need-magnitude-requires-2
 magnitude-requires-2 c κs = search needs
@@ -55,9 +60,10 @@ same-length-2 c = search needs
 
 returns-2 : tie.Need-returns-2
 returns-2 c =
-    put-as
-    (ap decimal (c .before .before .before .before .magnitude2 .ensures) ∙ not-below _ (c .before .before .before .before .before .before .before .fits .value) (c .before .before .before .before .before .if1 .left))
-    (c .before .before .put-decimal2 .ensures)
+    let start = c .before .before .before .before .before .before .before in
+    let test = c .before .before .before .before .before .if1 in
+    let size = c .before .before .before .before .magnitude2 in
+    put-as (ap decimal (size .ensures) ∙ not-below _ (start .fits .value) (test .left)) (c .before .before .put-decimal2 .ensures)
 
 pub put-signed-spec : {M : Type 1} → statement M
 put-signed-spec =
