@@ -1,0 +1,29 @@
+-- `numolefays_number_of_point` meets its contract: the call decides, a number goes out and a refusal leaves the output.
+-- Assumes nothing.
+use borrow.Author.Needs.{needs}
+use Rattle.household.proofs.Handing.{refusing}
+use Rattle.household.proofs.point_calls.numolefays_number_of_point.Statement.{statement}
+use Rattle.household.proofs.point_calls.numolefays_number_of_point.Tie as tie
+
+number-of-point-requires : tie.Need-number-of-point-requires
+number-of-point-requires c κs = search needs
+
+enum-known-r : tie.Need-enum-known-r
+enum-known-r c = search needs
+
+refuse-requires : tie.Need-refuse-requires
+refuse-requires c κs = search needs
+
+enum-known-p : tie.Need-enum-known-p
+enum-known-p c = search needs
+
+returns : tie.Need-returns
+returns c = rw (← c .before .before .before .before .before .number-of-point .ensures, c .before .before .before .r .given .1) (refusing (c .before .before .before .before .before .before .before .before .args .number .now) (c .refuse .ensures))
+
+returns-2 : tie.Need-returns-2
+returns-2 c = rw (← c .before .before .before .number-of-point .ensures, c .before .p .given .1)
+
+pub numolefays-number-of-point-spec : {M : Type 1} → statement M
+numolefays-number-of-point-spec =
+    tie.close
+    (tie.spec number-of-point-requires enum-known-r refuse-requires enum-known-p returns returns-2)

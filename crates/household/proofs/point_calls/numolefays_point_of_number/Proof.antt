@@ -1,0 +1,51 @@
+-- `numolefays_point_of_number` meets its contract: the call decides, a point goes out and a refusal leaves the two arrays.
+-- Assumes nothing.
+use borrow.Author.Needs.{needs}
+use Rattle.household.proofs.Handing.{refusing}
+use Rattle.household.proofs.point_calls.numolefays_point_of_number.Statement.{statement}
+use Rattle.household.proofs.point_calls.numolefays_point_of_number.Tie as tie
+
+point-of-number-requires : tie.Need-point-of-number-requires
+point-of-number-requires c κs = search needs
+
+enum-known-outcome : tie.Need-enum-known-outcome
+enum-known-outcome c = search needs
+
+refuse-requires : tie.Need-refuse-requires
+refuse-requires c κs = search needs
+
+enum-told : tie.Need-enum-told
+enum-told c = search needs
+
+enum-told-2 : tie.Need-enum-told-2
+enum-told-2 c = search needs
+
+enum-told-3 : tie.Need-enum-told-3
+enum-told-3 c = search needs
+
+returns : tie.Need-returns
+returns c = rw (← c .before .before .before .before .before .point-of-number .ensures, c .before .before .before .outcome .given .1) (refusing (c .before .before .before .before .before .before .args .levels .now, c .before .before .before .before .before .before .args .indices .now) (c .refuse .ensures))
+
+returns-2 : tie.Need-returns-2
+returns-2 c = rw (← c .before .before .before .before .before .point-of-number .ensures, c .before .before .before .enum-told .given .1)
+
+returns-3 : tie.Need-returns-3
+returns-3 c = rw (← c .before .before .point-of-number .ensures, c .enum-told2 .given .1)
+
+returns-4 : tie.Need-returns-4
+returns-4 c = rw (← c .before .before .point-of-number .ensures, c .enum-told3 .given .1)
+
+pub numolefays-point-of-number-spec : {M : Type 1} → statement M
+numolefays-point-of-number-spec =
+    tie.close
+    (tie.spec
+    point-of-number-requires
+    enum-known-outcome
+    refuse-requires
+    enum-told
+    enum-told-2
+    enum-told-3
+    returns
+    returns-2
+    returns-3
+    returns-4)

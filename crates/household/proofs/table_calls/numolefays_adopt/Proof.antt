@@ -1,0 +1,19 @@
+-- `numolefays_adopt` meets its contract: the call decides, and its answer is handed out.
+-- Assumes nothing.
+use mathlib.Core.Path.{ap, _∙_}
+use borrow.Author.Needs.{needs}
+use Rattle.household.specs.Answers.{ofAnswer}
+use Rattle.household.proofs.table_calls.numolefays_adopt.Statement.{statement}
+use Rattle.household.proofs.table_calls.numolefays_adopt.Tie as tie
+
+adopt-requires : tie.Need-adopt-requires
+adopt-requires c κs = search needs
+
+hand-state-requires : tie.Need-hand-state-requires
+hand-state-requires c κs = search needs
+
+returns : tie.Need-returns
+returns c = c .hand-state .ensures ∙ ap (ofAnswer (c .before .before .before .before .args .forward .now)) (c .before .before .before .adopt .ensures)
+
+pub numolefays-adopt-spec : {M : Type 1} → statement M
+numolefays-adopt-spec = tie.close (tie.spec adopt-requires hand-state-requires returns)
