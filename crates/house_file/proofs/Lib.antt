@@ -1,0 +1,10 @@
+pub mod Gathering
+pub mod Filing
+pub mod Rates
+pub mod Checking
+pub mod Filling
+pub mod Answering
+pub mod Undone
+pub mod Deciding
+pub mod Accepting
+pub mod Worked

@@ -1,0 +1,5 @@
+pub mod Reading
+pub mod Numbers
+pub mod Files
+pub mod Steps
+pub mod Written
