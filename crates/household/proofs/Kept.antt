@@ -33,8 +33,10 @@ use Rattle.runs.specs.Calls.{Report, callsOf, report, reportOf, runCalls}
 use Rattle.whole.specs.Whole.{ratesToCoefficients, hasRates, coefficientsToRates}
 use Rattle.estimates.specs.declared.Estimated.{Estimated}
 use Rattle.estimates.specs.declared.Estimated.the-variants as estimated
+use Rattle.house_file.specs.Reading.{Read, got, refused}
+use Rattle.house_file.specs.Files.{Contents as Filed, filledWith, readContents, readFile}
 use Rattle.household.specs.Returned.{Returned}
-use Rattle.household.specs.Answers.{ofCounted, ofNumbered, ofPointIn, ofPoint, ofSuccessorIn, ofSuccessor, ofAnswer, ofAfter, ofLeft, ofReport, ofEstimated}
+use Rattle.household.specs.Answers.{ofCounted, ofNumbered, ofPointIn, ofPoint, ofSuccessorIn, ofSuccessor, ofAnswer, ofAfter, ofLeft, ofReport, ofEstimated, ofReading}
 
 -- The function answered a number other than 0, and the outputs are these.
 abbrev pub Keeps : {A : Type 0} → A → Returned A → Type 0
@@ -109,18 +111,35 @@ module _ (s : State) (xs : List ℤ) where
   pub forward-keeps : (axis : ℕ) → Keeps (s .forward, xs) (ofAfter (s .forward) (forwardTurn s xs axis))
   unfolding forwardTurn
   forward-keeps axis = after-keeps (s .forward) xs (forwardTurn s xs axis)
-      (checkTurn s (length xs) axis andThen unless (not (has (s .forward) (axis - 1))) (AlreadyForward axis) andThen unless (isAccepted (s .shape) (axis - 1) xs) Contents) _ _ refl
+      (checkTurn s (length xs) axis
+      andThen unless (not (has (s .forward) (axis - 1))) (AlreadyForward axis)
+      andThen unless (isAccepted (s .shape) (axis - 1) xs) Contents) _ _ refl
 
   pub back-keeps : (axis : ℕ) → Keeps (s .forward, xs) (ofAfter (s .forward) (backTurn s xs axis))
   unfolding backTurn
   back-keeps axis = after-keeps (s .forward) xs (backTurn s xs axis)
-      (checkTurn s (length xs) axis andThen unless (has (s .forward) (axis - 1)) (NotForward axis) andThen unless (isAccepted (s .shape) (axis - 1) (formerTable (s .shape) (axis - 1) xs)) Contents) _ _ refl
+      (checkTurn s (length xs) axis
+      andThen unless (has (s .forward) (axis - 1)) (NotForward axis)
+      andThen unless (isAccepted (s .shape) (axis - 1) (formerTable (s .shape) (axis - 1) xs)) Contents) _ _ refl
 
   pub run-keeps : (directions axes ns ps : List ℕ) → Keeps (s .forward, xs, ns, ps) (ofReport (s .forward) (runCalls s xs directions axes ns ps))
   unfolding runCalls
-  run-keeps directions axes ns ps = report-keeps (s .forward) xs (runCalls s xs directions axes ns ps) (eqb (length axes) (length directions) && eqb (length ns) (length directions) && eqb (length ps) (length directions)) (run (callsOf directions axes) s xs) ns ps refl
+  run-keeps directions axes ns ps =
+      report-keeps (s .forward) xs (runCalls s xs directions axes ns ps)
+      (eqb (length axes) (length directions) && eqb (length ns) (length directions) && eqb (length ps) (length directions))
+      (run (callsOf directions axes) s xs) ns ps refl
 
   pub unload-keeps : Keeps xs (ofLeft (unload s xs))
   unfolding unload
   unload-keeps = table-keeps xs (unload s xs)
-      (checkState s (length xs) andThen unless (leb (s .shape .axes) (firstForward s)) (StillForward (suc (firstForward s))) andThen unless (all (scaledAt (s .shape .axes) xs) (length xs)) Contents) _ refl
+      (checkState s (length xs)
+      andThen unless (leb (s .shape .axes) (firstForward s)) (StillForward (suc (firstForward s)))
+      andThen unless (all (scaledAt (s .shape .axes) xs) (length xs)) Contents) _ refl
+
+filled-keeps : (axes level : ℕ) (xs : List ℤ) (contents : Read Filed) → Keeps (axes, level, xs) (ofReading (axes, level) (filledWith xs contents))
+filled-keeps axes level xs (got c rest) e = absurd (e refl)
+filled-keeps axes level xs (refused r) e = refl
+
+pub read-house-file-keeps : (axes level : ℕ) (bytes : List ℕ) (xs : List ℤ) → Keeps (axes, level, xs) (ofReading (axes, level) (readFile bytes xs))
+unfolding readFile
+read-house-file-keeps axes level bytes xs = filled-keeps axes level xs (readContents (length xs) bytes)

@@ -19,6 +19,9 @@ use Rattle.states.specs.After.{After, Left}
 use Rattle.runs.specs.Calls.{Report}
 use Rattle.estimates.specs.declared.Estimated.{Estimated}
 use Rattle.estimates.specs.declared.Estimated.the-variants as estimated
+use Rattle.house_file.specs.declared.Opened.{Opened}
+use Rattle.house_file.specs.declared.Opened.the-variants as opened
+use Rattle.house_file.specs.Files.{AfterReading}
 use Rattle.household.specs.Returned.{Returned, toldOf, leaving, done, refused}
 
 -- A shape and a state, from the numbers that stand for them.
@@ -79,3 +82,12 @@ ofReport held r = leaving (ofAnswer held (r .answer) .told) (ofAnswer held (r .a
 abbrev pub ofEstimated : ℤ → Estimated → Returned ℤ
 ofEstimated held (estimated.Value z) = done z
 ofEstimated held (estimated.Refused r) = refused held r
+
+-- The shape that a house file names, and the table.
+abbrev pub ofOpened : ℕ × ℕ → Opened → Returned (ℕ × ℕ)
+ofOpened held (opened.Holds s) = done (s .axes, s .level)
+ofOpened held (opened.Refused r) = refused held r
+
+abbrev pub ofReading : ℕ × ℕ → AfterReading → Returned (ℕ × ℕ × List ℤ)
+ofReading held a =
+    leaving (ofOpened held (a .answer) .told) (ofOpened held (a .answer) .outputs .0, ofOpened held (a .answer) .outputs .1, a .table)

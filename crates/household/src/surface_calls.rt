@@ -18,7 +18,11 @@ pub extern "C" fn numolefays_estimate(
 ) -> u32
     ensures { λ r. ⌜ returned r (now (place .exit)) (now (estimate .exit)) ≡ ofEstimated (now (estimate .entry)) (surface.estimate (stateOf axes level forward) (now (table .entry)) (now (coordinates .entry))) ⌝ }
 {
-    match estimates::estimate(crate::answers::state_of(axes, level, forward), table, coordinates) {
+    match estimates::estimate(
+        crate::answers::state_of(axes, level, forward),
+        table,
+        coordinates,
+    ) {
         Estimated::Refused(r) => crate::answers::refuse(r, place),
         Estimated::Value(value) => {
             *estimate = value;

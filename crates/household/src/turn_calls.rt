@@ -1,5 +1,4 @@
 // Turns: forward, back, and a list of them. A state goes in as shape and set of forward axes, bit t − 1 for axis t; the set comes out.
-use states::State;
 ghost use mathlib.Core.Path.{_≡_};
 ghost use Rattle.turns.specs.Turns.{forwardTurn, backTurn};
 ghost use Rattle.runs.specs.Calls.{runCalls};

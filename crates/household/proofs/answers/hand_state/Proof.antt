@@ -15,7 +15,10 @@ enum-known-answer-2 : tie.Need-enum-known-answer-2
 enum-known-answer-2 c = search needs
 
 returns : tie.Need-returns
-returns c = rw (c .before .before .before .answer .given .1) (refusing (c .before .before .before .before .before .args .forward .now) (c .refuse .ensures))
+returns c =
+    let a = c .before .before .before .before .before .args in
+    rw (c .before .before .before .answer .given .1)
+    (refusing (a .forward .now) (c .refuse .ensures))
 
 returns-2 : tie.Need-returns-2
 returns-2 c = rw (c .before .answer2 .given .1)

@@ -18,7 +18,10 @@ enum-known-count : tie.Need-enum-known-count
 enum-known-count c = search needs
 
 returns : tie.Need-returns
-returns c = rw (← c .before .before .before .before .before .count .ensures, c .before .before .before .r .given .1) (refusing (c .before .before .before .before .before .before .args .points .now) (c .refuse .ensures))
+returns c =
+    let a = c .before .before .before .before .before .before .args in
+    rw (← c .before .before .before .before .before .count .ensures, c .before .before .before .r .given .1)
+    (refusing (a .points .now) (c .refuse .ensures))
 
 returns-2 : tie.Need-returns-2
 returns-2 c = rw (← c .before .before .before .count .ensures, c .before .count2 .given .1)

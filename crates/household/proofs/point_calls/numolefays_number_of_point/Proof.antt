@@ -18,7 +18,10 @@ enum-known-p : tie.Need-enum-known-p
 enum-known-p c = search needs
 
 returns : tie.Need-returns
-returns c = rw (← c .before .before .before .before .before .number-of-point .ensures, c .before .before .before .r .given .1) (refusing (c .before .before .before .before .before .before .before .before .args .number .now) (c .refuse .ensures))
+returns c =
+    let a = c .before .before .before .before .before .before .before .before .args in
+    rw (← c .before .before .before .before .before .number-of-point .ensures, c .before .before .before .r .given .1)
+    (refusing (a .number .now) (c .refuse .ensures))
 
 returns-2 : tie.Need-returns-2
 returns-2 c = rw (← c .before .before .before .number-of-point .ensures, c .before .p .given .1)

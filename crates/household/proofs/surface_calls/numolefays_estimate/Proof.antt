@@ -25,10 +25,15 @@ enum-known-value : tie.Need-enum-known-value
 enum-known-value c = search needs
 
 returns : tie.Need-returns
-returns c = rw (← c .before .before .before .before .before .before .state-of .ensures, ← c .before .before .before .before .before .estimate .ensures, c .before .before .before .r .given .1) (refusing (c .before .before .before .before .before .before .before .before .args .estimate .now) (c .refuse .ensures))
+returns c =
+    let a = c .before .before .before .before .before .before .before .before .args in
+    rw (← c .before .before .before .before .before .before .state-of .ensures, ← c .before .before .before .before .before .estimate .ensures, c .before .before .before .r .given .1)
+    (refusing (a .estimate .now) (c .refuse .ensures))
 
 returns-2 : tie.Need-returns-2
-returns-2 c = rw (← c .before .before .before .before .state-of .ensures, ← c .before .before .before .estimate .ensures, c .before .value .given .1) (ap done (toZ-ofZ w64 _ (record { sfits = c .known-told2 .given .0 .1 })))
+returns-2 c =
+    rw (← c .before .before .before .before .state-of .ensures, ← c .before .before .before .estimate .ensures, c .before .value .given .1)
+    (ap done (toZ-ofZ w64 _ (record { sfits = c .known-told2 .given .0 .1 })))
 
 pub numolefays-estimate-spec : {M : Type 1} → statement M
 numolefays-estimate-spec =

@@ -13,7 +13,9 @@ hand-state-requires : tie.Need-hand-state-requires
 hand-state-requires c κs = search needs
 
 returns : tie.Need-returns
-returns c = c .hand-state .ensures ∙ ap (ofAnswer (c .before .before .before .before .args .forward .now)) (c .before .before .before .adopt .ensures)
+returns c =
+    let a = c .before .before .before .before .args in
+    c .hand-state .ensures ∙ ap (ofAnswer (a .forward .now)) (c .before .before .before .adopt .ensures)
 
 pub numolefays-adopt-spec : {M : Type 1} → statement M
 numolefays-adopt-spec = tie.close (tie.spec adopt-requires hand-state-requires returns)

@@ -18,7 +18,9 @@ same-length : tie.Need-same-length
 same-length c = search needs
 
 returns : tie.Need-returns
-returns c = rw (← c .before .before .before .before .before .state-of .ensures) (telling (c .tell .ensures) (c .before .before .before .unload .ensures))
+returns c =
+    rw (← c .before .before .before .before .before .state-of .ensures)
+    (telling (c .tell .ensures) (c .before .before .before .unload .ensures))
 
 pub numolefays-unload-spec : {M : Type 1} → statement M
 numolefays-unload-spec =

@@ -24,7 +24,9 @@ same-length-3 : tie.Need-same-length-3
 same-length-3 c = search needs
 
 returns : tie.Need-returns
-returns c = rw (← c .before .before .before .before .before .before .before .before .before .before .before .before .state-of .ensures) (reporting _ (c .hand-state .ensures) (c .before .before .before .before .before .before .before .before .run .ensures))
+returns c =
+    rw (← c .before .before .before .before .before .before .before .before .before .before .before .before .state-of .ensures)
+    (reporting _ (c .hand-state .ensures) (c .before .before .before .before .before .before .before .before .run .ensures))
 
 pub numolefays-run-spec : {M : Type 1} → statement M
 numolefays-run-spec =
