@@ -44,7 +44,7 @@ ofNumbered held (numbered.Refused r) = refused held r
 -- The levels and indices of the point of a number.
 abbrev pub ofPointIn : List ℕ × List ℕ → Outcome → Point → Returned (List ℕ × List ℕ)
 ofPointIn held outcome.Found p = done (p .levels, p .indices)
-ofPointIn held outcome.End p = done held  -- no number has these two outcomes (`never-missing`)
+ofPointIn held outcome.End p = done held  -- no number has this outcome or the next (`point-of-number-gives`)
 ofPointIn held outcome.Border p = done held
 ofPointIn held (outcome.Refused r) p = refused held r
 
@@ -55,7 +55,7 @@ ofPoint held l = ofPointIn held (l .outcome) (l .point)
 abbrev pub ofSuccessorIn : List ℕ × List ℕ × ℕ → Outcome → Point → Returned (List ℕ × List ℕ × ℕ)
 ofSuccessorIn held outcome.Found p = done (p .levels, p .indices, 0)
 ofSuccessorIn held outcome.End p = done (held .0, held .1, 1)
-ofSuccessorIn held outcome.Border p = done (held .0, held .1, 1)  -- no successor has this outcome (`never-border`)
+ofSuccessorIn held outcome.Border p = done (held .0, held .1, 1)  -- no successor has this outcome (`successor-gives`)
 ofSuccessorIn held (outcome.Refused r) p = refused held r
 
 abbrev pub ofSuccessor : List ℕ × List ℕ × ℕ → Located → Returned (List ℕ × List ℕ × ℕ)
