@@ -12,9 +12,9 @@ use Rattle.household.specs.Returned.{Told, told, toldOf, Returned, leavi
 use Rattle.household.specs.Answers.{ofAnswer, ofAfter, ofLeft, ofReport}
 
 module _ {n p : ℕ} where
-  -- Two numbers, beside outputs that are as they were.
-  pub refusing : {A : Type 0} {t : Told} (held : A) → told n p ≡ t → returned n p held ≡ leaving t held
-  refusing held e = ap (λ (t : Told). leaving t held) e
+  -- Two numbers beside outputs.
+  pub beside : {A : Type 0} {t : Told} (outputs : A) → told n p ≡ t → returned n p outputs ≡ leaving t outputs
+  beside outputs e = ap (λ (t : Told). leaving t outputs) e
 
   -- A verdict and a table.
   pub telling : {v : Verdict} {xs : List ℤ} {l : Left} → told n p ≡ toldOf v → left v xs ≡ l → returned n p xs ≡ ofLeft l

@@ -55,7 +55,7 @@ ofPoint held l = ofPointIn held (l .outcome) (l .point)
 abbrev pub ofSuccessorIn : List ℕ × List ℕ × ℕ → Outcome → Point → Returned (List ℕ × List ℕ × ℕ)
 ofSuccessorIn held outcome.Found p = done (p .levels, p .indices, 0)
 ofSuccessorIn held outcome.End p = done (held .0, held .1, 1)
-ofSuccessorIn held outcome.Border p = done (held .0, held .1, 1)  -- no successor has this outcome (`successor-gives`)
+ofSuccessorIn held outcome.Border p = done held  -- no successor has this outcome (`successor-gives`)
 ofSuccessorIn held (outcome.Refused r) p = refused held r
 
 abbrev pub ofSuccessor : List ℕ × List ℕ × ℕ → Located → Returned (List ℕ × List ℕ × ℕ)

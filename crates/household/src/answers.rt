@@ -5,10 +5,20 @@ use shapes::Shape;
 use states::Answer;
 use states::State;
 ghost use mathlib.Core.Path.{_≡_};
-ghost use Rattle.household.specs.Returned.{told, refusal, toldOf, returned};
-ghost use Rattle.household.specs.Answers.{stateOf, ofAnswer};
+ghost use Rattle.household.specs.Returned.{told, success, refusal, toldOf, returned};
+ghost use Rattle.household.specs.Answers.{shapeOf, stateOf, ofAnswer};
 
-// The state of a shape and a set of forward axes.
+// A shape, from the two numbers that stand for it.
+pub fn shape_of(axes: u32, level: u32) -> Shape
+    ensures { λ r. ⌜ r ≡ shapeOf axes level ⌝ }
+{
+    Shape {
+        axes: axes,
+        level: level,
+    }
+}
+
+// A state, from a shape's two numbers and the set of forward axes.
 pub fn state_of(axes: u32, level: u32, forward: u8) -> State
     ensures { λ r. ⌜ r ≡ stateOf axes level forward ⌝ }
 {
@@ -20,6 +30,14 @@ pub fn state_of(axes: u32, level: u32, forward: u8) -> State
         shape: shape,
         forward: forward,
     }
+}
+
+// The call succeeded.
+pub fn succeed(place: &mut u64) -> u32
+    ensures { λ k. ⌜ told k (now (place .exit)) ≡ success ⌝ }
+{
+    *place = 0;
+    0
 }
 
 // Refused: the place goes out, and the number is answered.
@@ -36,10 +54,7 @@ pub fn tell(verdict: Verdict, place: &mut u64) -> u32
 {
     match verdict {
         Verdict::Refused(r) => refuse(r, place),
-        Verdict::Passed => {
-            *place = 0;
-            0
-        }
+        Verdict::Passed => succeed(place),
     }
 }
 
@@ -51,8 +66,7 @@ pub fn hand_state(answer: Answer, forward: &mut u8, place: &mut u64) -> u32
         Answer::Refused(r) => refuse(r, place),
         Answer::Done(state) => {
             *forward = state.forward;
-            *place = 0;
-            0
+            succeed(place)
         }
     }
 }

@@ -21,8 +21,7 @@ pub extern "C" fn numolefays_read_house_file(
         Opened::Holds(shape) => {
             *axes = shape.axes;
             *level = shape.level;
-            *place = 0;
-            0
+            crate::answers::succeed(place)
         }
     }
 }

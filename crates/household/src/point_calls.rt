@@ -2,7 +2,6 @@
 use numbers::Numbered;
 use points::Outcome;
 use shapes::Counted;
-use shapes::Shape;
 ghost use mathlib.Core.Path.{_≡_};
 ghost use Rattle.numbers.specs.Numbers.{numberOfPoint, pointOfNumber};
 ghost use Rattle.shapes.specs.Shapes.{counted};
@@ -15,15 +14,11 @@ ghost use Rattle.household.specs.Answers.{shapeOf, ofCounted, ofNumbered
 pub extern "C" fn numolefays_count(axes: u32, level: u32, points: &mut u64, place: &mut u64) -> u32
     ensures { λ r. ⌜ returned r (now (place .exit)) (now (points .exit)) ≡ ofCounted (now (points .entry)) (counted (shapeOf axes level)) ⌝ }
 {
-    match shapes::count(Shape {
-        axes: axes,
-        level: level,
-    }) {
+    match shapes::count(crate::answers::shape_of(axes, level)) {
         Counted::Refused(r) => crate::answers::refuse(r, place),
         Counted::Points(count) => {
             *points = count;
-            *place = 0;
-            0
+            crate::answers::succeed(place)
         }
     }
 }
@@ -40,16 +35,11 @@ pub extern "C" fn numolefays_number_of_point(
 ) -> u32
     ensures { λ r. ⌜ returned r (now (place .exit)) (now (number .exit)) ≡ ofNumbered (now (number .entry)) (numberOfPoint (shapeOf axes level) (now (levels .entry)) (now (indices .entry))) ⌝ }
 {
-    let shape = Shape {
-        axes: axes,
-        level: level,
-    };
-    match numbers::number_of_point(shape, levels, indices) {
+    match numbers::number_of_point(crate::answers::shape_of(axes, level), levels, indices) {
         Numbered::Refused(r) => crate::answers::refuse(r, place),
         Numbered::At(p) => {
             *number = p;
-            *place = 0;
-            0
+            crate::answers::succeed(place)
         }
     }
 }
@@ -66,11 +56,7 @@ pub extern "C" fn numolefays_point_of_number(
 ) -> u32
     ensures { λ r. ⌜ returned r (now (place .exit)) (now (levels .exit), now (indices .exit)) ≡ ofPoint (now (levels .entry), now (indices .entry)) (pointOfNumber (shapeOf axes level) number) ⌝ }
 {
-    let shape = Shape {
-        axes: axes,
-        level: level,
-    };
-    let located = numbers::point_of_number(shape, number);
+    let located = numbers::point_of_number(crate::answers::shape_of(axes, level), number);
     let outcome = located.outcome;
     match outcome {
         Outcome::Refused(r) => crate::answers::refuse(r, place),
@@ -80,17 +66,10 @@ pub extern "C" fn numolefays_point_of_number(
             let point_indices = point.indices;
             *levels = point_levels;
             *indices = point_indices;
-            *place = 0;
-            0
+            crate::answers::succeed(place)
         }
-        Outcome::End => {
-            *place = 0;
-            0
-        }
-        Outcome::Border => {
-            *place = 0;
-            0
-        }
+        Outcome::End => crate::answers::succeed(place),
+        Outcome::Border => crate::answers::succeed(place),
     }
 }
 
@@ -108,11 +87,7 @@ pub extern "C" fn numolefays_successor(
 ) -> u32
     ensures { λ r. ⌜ returned r (now (place .exit)) (now («next_levels» .exit), now («next_indices» .exit), now (end .exit)) ≡ ofSuccessor (now («next_levels» .entry), now («next_indices» .entry), now (end .entry)) (successorOf (shapeOf axes level) (now (levels .entry)) (now (indices .entry))) ⌝ }
 {
-    let shape = Shape {
-        axes: axes,
-        level: level,
-    };
-    let located = successor::successor(shape, levels, indices);
+    let located = successor::successor(crate::answers::shape_of(axes, level), levels, indices);
     let outcome = located.outcome;
     match outcome {
         Outcome::Refused(r) => crate::answers::refuse(r, place),
@@ -123,18 +98,12 @@ pub extern "C" fn numolefays_successor(
             *next_levels = point_levels;
             *next_indices = point_indices;
             *end = 0;
-            *place = 0;
-            0
+            crate::answers::succeed(place)
         }
         Outcome::End => {
             *end = 1;
-            *place = 0;
-            0
+            crate::answers::succeed(place)
         }
-        Outcome::Border => {
-            *end = 1;
-            *place = 0;
-            0
-        }
+        Outcome::Border => crate::answers::succeed(place),
     }
 }

@@ -26,8 +26,7 @@ pub extern "C" fn numolefays_estimate(
         Estimated::Refused(r) => crate::answers::refuse(r, place),
         Estimated::Value(value) => {
             *estimate = value;
-            *place = 0;
-            0
+            crate::answers::succeed(place)
         }
     }
 }

@@ -1,5 +1,4 @@
 // Tables: load, adopt, unload, and the two whole calls.
-use shapes::Shape;
 ghost use mathlib.Core.Path.{_≡_};
 ghost use Rattle.tables.specs.Tables.{load, adopt, unload};
 ghost use Rattle.whole.specs.Whole.{ratesToCoefficients, coefficientsToRates};
@@ -17,13 +16,7 @@ pub extern "C" fn numolefays_load(
 ) -> u32
     ensures { λ r. ⌜ returned r (now (place .exit)) (now (forward .exit), now (table .exit)) ≡ ofAfter (now (forward .entry)) (load (shapeOf axes level) (now (table .entry))) ⌝ }
 {
-    let answer = tables::load(
-        Shape {
-            axes: axes,
-            level: level,
-        },
-        table,
-    );
+    let answer = tables::load(crate::answers::shape_of(axes, level), table);
     crate::answers::hand_state(answer, forward, place)
 }
 
@@ -38,13 +31,7 @@ pub extern "C" fn numolefays_adopt(
 ) -> u32
     ensures { λ r. ⌜ returned r (now (place .exit)) (now (forward .exit)) ≡ ofAnswer (now (forward .entry)) (adopt (shapeOf axes level) (now (table .entry))) ⌝ }
 {
-    let answer = tables::adopt(
-        Shape {
-            axes: axes,
-            level: level,
-        },
-        table,
-    );
+    let answer = tables::adopt(crate::answers::shape_of(axes, level), table);
     crate::answers::hand_state(answer, forward, place)
 }
 
@@ -73,13 +60,7 @@ pub extern "C" fn numolefays_rates_to_coefficients(
 ) -> u32
     ensures { λ r. ⌜ returned r (now (place .exit)) (now (table .exit)) ≡ ofLeft (ratesToCoefficients (shapeOf axes level) (now (table .entry))) ⌝ }
 {
-    let verdict = whole::rates_to_coefficients(
-        Shape {
-            axes: axes,
-            level: level,
-        },
-        table,
-    );
+    let verdict = whole::rates_to_coefficients(crate::answers::shape_of(axes, level), table);
     crate::answers::tell(verdict, place)
 }
 
@@ -93,12 +74,6 @@ pub extern "C" fn numolefays_coefficients_to_rates(
 ) -> u32
     ensures { λ r. ⌜ returned r (now (place .exit)) (now (table .exit)) ≡ ofLeft (coefficientsToRates (shapeOf axes level) (now (table .entry))) ⌝ }
 {
-    let verdict = whole::coefficients_to_rates(
-        Shape {
-            axes: axes,
-            level: level,
-        },
-        table,
-    );
+    let verdict = whole::coefficients_to_rates(crate::answers::shape_of(axes, level), table);
     crate::answers::tell(verdict, place)
 }

@@ -17,8 +17,7 @@ pub extern "C" fn numolefays_forward(
 ) -> u32
     ensures { λ r. ⌜ returned r (now (place .exit)) (now (forward .exit), now (table .exit)) ≡ ofAfter (now (forward .entry)) (forwardTurn (stateOf axes level (now (forward .entry))) (now (table .entry)) axis) ⌝ }
 {
-    let state = crate::answers::state_of(axes, level, *forward);
-    let answer = turns::hierarchize(state, table, axis);
+    let answer = turns::hierarchize(crate::answers::state_of(axes, level, *forward), table, axis);
     crate::answers::hand_state(answer, forward, place)
 }
 
@@ -34,8 +33,7 @@ pub extern "C" fn numolefays_back(
 ) -> u32
     ensures { λ r. ⌜ returned r (now (place .exit)) (now (forward .exit), now (table .exit)) ≡ ofAfter (now (forward .entry)) (backTurn (stateOf axes level (now (forward .entry))) (now (table .entry)) axis) ⌝ }
 {
-    let state = crate::answers::state_of(axes, level, *forward);
-    let answer = turns::dehierarchize(state, table, axis);
+    let answer = turns::dehierarchize(crate::answers::state_of(axes, level, *forward), table, axis);
     crate::answers::hand_state(answer, forward, place)
 }
 

@@ -13,11 +13,16 @@ refuse-requires c κs = search needs
 enum-told : tie.Need-enum-told
 enum-told c = search needs
 
+succeed-requires : tie.Need-succeed-requires
+succeed-requires c κs = search needs
+
 returns : tie.Need-returns
 returns c = rw (c .before .before .before .verdict .given .1) (c .refuse .ensures)
 
 returns-2 : tie.Need-returns-2
-returns-2 c = search needs
+returns-2 c = rw (c .before .before .enum-told .given .1) (c .succeed .ensures)
 
 pub tell-spec : {M : Type 1} → statement M
-tell-spec = tie.close (tie.spec enum-known-verdict refuse-requires enum-told returns returns-2)
+tell-spec =
+    tie.close
+    (tie.spec enum-known-verdict refuse-requires enum-told succeed-requires returns returns-2)

@@ -1,11 +1,9 @@
 -- `numolefays_estimate` meets its contract: the call decides, an estimate goes out and a refusal leaves the output.
 -- Assumes nothing.
-use mathlib.Core.Path.{ap}
 use borrow.Author.Needs.{needs}
 use mir.Syntax.{w64}
 use mir.ValLaws.{toZ-ofZ}
-use Rattle.household.specs.Returned.{done}
-use Rattle.household.proofs.Handing.{refusing}
+use Rattle.household.proofs.Handing.{beside}
 use Rattle.household.proofs.surface_calls.numolefays_estimate.Statement.{statement}
 use Rattle.household.proofs.surface_calls.numolefays_estimate.Tie as tie
 
@@ -24,16 +22,19 @@ refuse-requires c κs = search needs
 enum-known-value : tie.Need-enum-known-value
 enum-known-value c = search needs
 
+succeed-requires : tie.Need-succeed-requires
+succeed-requires c κs = search needs
+
 returns : tie.Need-returns
 returns c =
     let a = c .before .before .before .before .before .before .before .before .args in
     rw (← c .before .before .before .before .before .before .state-of .ensures, ← c .before .before .before .before .before .estimate .ensures, c .before .before .before .r .given .1)
-    (refusing (a .estimate .now) (c .refuse .ensures))
+    (beside (a .estimate .now) (c .refuse .ensures))
 
 returns-2 : tie.Need-returns-2
 returns-2 c =
-    rw (← c .before .before .before .before .state-of .ensures, ← c .before .before .before .estimate .ensures, c .before .value .given .1)
-    (ap done (toZ-ofZ w64 _ (record { sfits = c .known-told2 .given .0 .1 })))
+    rw (← c .before .before .before .before .before .before .state-of .ensures, ← c .before .before .before .before .before .estimate .ensures, c .before .before .before .value .given .1, toZ-ofZ w64 (c .before .before .before .value .given .0 .0) (record { sfits = c .before .before .known-told2 .given .0 .1 }))
+    (beside (c .before .before .before .value .given .0 .0) (c .succeed .ensures))
 
 pub numolefays-estimate-spec : {M : Type 1} → statement M
 numolefays-estimate-spec =
@@ -44,5 +45,6 @@ numolefays-estimate-spec =
     enum-known-r
     refuse-requires
     enum-known-value
+    succeed-requires
     returns
     returns-2)

@@ -6,6 +6,9 @@ use Rattle.household.specs.Answers.{ofAnswer}
 use Rattle.household.proofs.table_calls.numolefays_adopt.Statement.{statement}
 use Rattle.household.proofs.table_calls.numolefays_adopt.Tie as tie
 
+shape-of-requires : tie.Need-shape-of-requires
+shape-of-requires c κs = search needs
+
 adopt-requires : tie.Need-adopt-requires
 adopt-requires c κs = search needs
 
@@ -14,8 +17,9 @@ hand-state-requires c κs = search needs
 
 returns : tie.Need-returns
 returns c =
-    let a = c .before .before .before .before .args in
-    c .hand-state .ensures ∙ ap (ofAnswer (a .forward .now)) (c .before .before .before .adopt .ensures)
+    let a = c .before .before .before .before .before .args in
+    rw (← c .before .before .before .before .shape-of .ensures) (c .hand-state .ensures ∙ ap (ofAnswer (a .forward .now)) (c .before .before .before .adopt .ensures))
 
 pub numolefays-adopt-spec : {M : Type 1} → statement M
-numolefays-adopt-spec = tie.close (tie.spec adopt-requires hand-state-requires returns)
+numolefays-adopt-spec =
+    tie.close (tie.spec shape-of-requires adopt-requires hand-state-requires returns)

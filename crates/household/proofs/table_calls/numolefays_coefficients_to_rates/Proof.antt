@@ -7,6 +7,9 @@ use Rattle.household.proofs.table_calls.numolefays_coefficients_to_rate
 }
 use Rattle.household.proofs.table_calls.numolefays_coefficients_to_rates.Tie as tie
 
+shape-of-requires : tie.Need-shape-of-requires
+shape-of-requires c κs = search needs
+
 coefficients-to-rates-requires : tie.Need-coefficients-to-rates-requires
 coefficients-to-rates-requires c κs = search needs
 
@@ -17,8 +20,11 @@ same-length : tie.Need-same-length
 same-length c = search needs
 
 returns : tie.Need-returns
-returns c = telling (c .tell .ensures) (c .before .before .before .coefficients-to-rates .ensures)
+returns c =
+    rw (← c .before .before .before .before .before .shape-of .ensures)
+    (telling (c .tell .ensures) (c .before .before .before .coefficients-to-rates .ensures))
 
 pub numolefays-coefficients-to-rates-spec : {M : Type 1} → statement M
 numolefays-coefficients-to-rates-spec =
-    tie.close (tie.spec coefficients-to-rates-requires tell-requires same-length returns)
+    tie.close
+    (tie.spec shape-of-requires coefficients-to-rates-requires tell-requires same-length returns)

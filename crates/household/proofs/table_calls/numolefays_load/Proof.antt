@@ -5,6 +5,9 @@ use Rattle.household.proofs.Handing.{handing}
 use Rattle.household.proofs.table_calls.numolefays_load.Statement.{statement}
 use Rattle.household.proofs.table_calls.numolefays_load.Tie as tie
 
+shape-of-requires : tie.Need-shape-of-requires
+shape-of-requires c κs = search needs
+
 load-requires : tie.Need-load-requires
 load-requires c κs = search needs
 
@@ -15,7 +18,10 @@ same-length : tie.Need-same-length
 same-length c = search needs
 
 returns : tie.Need-returns
-returns c = handing _ (c .hand-state .ensures) (c .before .before .before .before .load .ensures)
+returns c =
+    rw (← c .before .before .before .before .before .before .shape-of .ensures)
+    (handing _ (c .hand-state .ensures) (c .before .before .before .before .load .ensures))
 
 pub numolefays-load-spec : {M : Type 1} → statement M
-numolefays-load-spec = tie.close (tie.spec load-requires hand-state-requires same-length returns)
+numolefays-load-spec =
+    tie.close (tie.spec shape-of-requires load-requires hand-state-requires same-length returns)

@@ -7,6 +7,9 @@ use Rattle.household.proofs.table_calls.numolefays_rates_to_coefficient
 }
 use Rattle.household.proofs.table_calls.numolefays_rates_to_coefficients.Tie as tie
 
+shape-of-requires : tie.Need-shape-of-requires
+shape-of-requires c κs = search needs
+
 rates-to-coefficients-requires : tie.Need-rates-to-coefficients-requires
 rates-to-coefficients-requires c κs = search needs
 
@@ -17,8 +20,11 @@ same-length : tie.Need-same-length
 same-length c = search needs
 
 returns : tie.Need-returns
-returns c = telling (c .tell .ensures) (c .before .before .before .rates-to-coefficients .ensures)
+returns c =
+    rw (← c .before .before .before .before .before .shape-of .ensures)
+    (telling (c .tell .ensures) (c .before .before .before .rates-to-coefficients .ensures))
 
 pub numolefays-rates-to-coefficients-spec : {M : Type 1} → statement M
 numolefays-rates-to-coefficients-spec =
-    tie.close (tie.spec rates-to-coefficients-requires tell-requires same-length returns)
+    tie.close
+    (tie.spec shape-of-requires rates-to-coefficients-requires tell-requires same-length returns)
