@@ -28,12 +28,21 @@ succeed-requires c κs = search needs
 returns : tie.Need-returns
 returns c =
     let a = c .before .before .before .before .before .before .before .before .args in
-    rw (← c .before .before .before .before .before .before .state-of .ensures, ← c .before .before .before .before .before .estimate .ensures, c .before .before .before .r .given .1)
+    rw (
+      ← c .before .before .before .before .before .before .state-of .ensures,
+      ← c .before .before .before .before .before .estimate .ensures,
+      c .before .before .before .r .given .1,
+    )
     (beside (a .estimate .now) (c .refuse .ensures))
 
 returns-2 : tie.Need-returns-2
 returns-2 c =
-    rw (← c .before .before .before .before .before .before .state-of .ensures, ← c .before .before .before .before .before .estimate .ensures, c .before .before .before .value .given .1, toZ-ofZ w64 (c .before .before .before .value .given .0 .0) (record { sfits = c .before .before .known-told2 .given .0 .1 }))
+    rw (
+      ← c .before .before .before .before .before .before .state-of .ensures,
+      ← c .before .before .before .before .before .estimate .ensures,
+      c .before .before .before .value .given .1,
+      toZ-ofZ w64 (c .before .before .before .value .given .0 .0) (record { sfits = c .before .before .known-told2 .given .0 .1 }),
+    )
     (beside (c .before .before .before .value .given .0 .0) (c .succeed .ensures))
 
 pub numolefays-estimate-spec : {M : Type 1} → statement M
