@@ -69,6 +69,11 @@ impl Hashed {
         }
     }
 
+    /// Each value changed by itself.
+    pub fn each(&mut self, change: impl Fn(i64) -> i64) {
+        self.map.values_mut().for_each(|v| *v = change(*v));
+    }
+
     /// Forward on axis t, from 0.
     pub fn forward(&mut self, t: usize) {
         self.lines(t, |map, key, left| down(map, key, t, left, 0, 0, true));

@@ -10,7 +10,7 @@ mod lent;
 mod model;
 mod report;
 
-use checks::{estimates, files, points, rates, runs, threads, turns, walks, worked};
+use checks::{estimates, exhaustive, files, points, rates, runs, threads, turns, walks, worked};
 use draw::Draw;
 use report::Report;
 use std::time::Instant;
@@ -58,6 +58,12 @@ fn main() {
     }
     files::short_files(&mut draw, &mut report);
     step(&clock, "worked tables, shapes, short files");
+
+    exhaustive::states(&mut draw, &mut report);
+    exhaustive::lengths(&mut draw, &mut report);
+    exhaustive::line(&mut draw, &mut report);
+    exhaustive::small_tables(&mut draw, &mut report);
+    step(&clock, "all states, all lengths, all coordinates of a line, all small tables");
 
     for axes in 1..=8 {
         for level in 0..=8 {

@@ -1,6 +1,7 @@
 //! Each call, once through the boundary with every output and buffer compared, and once through the safe wrapper.
 
 pub mod estimates;
+pub mod exhaustive;
 pub mod files;
 pub mod points;
 pub mod rates;
