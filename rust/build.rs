@@ -1,6 +1,6 @@
 //! Links the proved library, `libhousehold.a`, which `rt staticlib household` writes to `target/staticlib`.
 //!
-//! Another folder: set `NUMOLEFAYS_ARCHIVE_DIR` to the folder that holds the archive.
+//! Another folder: set `NUMOLEFAYS_ARCHIVE_DIR` to the whole path of the folder that holds the archive.
 
 use std::path::PathBuf;
 
@@ -15,6 +15,7 @@ fn main() {
     if !archive.is_file() {
         panic!("{} is not there: run `rt staticlib household`, or set NUMOLEFAYS_ARCHIVE_DIR", archive.display());
     }
+    let folder = folder.canonicalize().unwrap_or(folder);
     println!("cargo:rustc-link-search=native={}", folder.display());
     println!("cargo:rustc-link-lib=static=household");
 }

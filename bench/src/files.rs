@@ -9,10 +9,12 @@ use std::hint::black_box;
 
 pub fn print(shapes: &[(u32, u32)], seconds: f64) {
     println!("\n### Reading a house file: million bytes for each second\n");
-    println!("| (d, n) | rates | bytes | library | plain Rust, two passes | how many times as long the library takes |");
+    println!(
+        "| (d, n) | rates | bytes | library | plain Rust, two passes | how many times as long the library takes |"
+    );
     println!("|---|---|---|---|---|---|");
     for &(axes, level) in shapes {
-        for (what, bits) in [("any", 0), ("below 64", 26)] {
+        for (what, bits) in [("any", 0), ("−32 to 31", 26)] {
             let n = Shape::new(axes, level).points().expect("a shape") as usize;
             let rates: Vec<i64> = input::rates(n).into_iter().map(|r| r >> bits).collect();
             let bytes = filed(axes, level, &rates);

@@ -21,9 +21,7 @@ pub fn head(title: &str, columns: &[&str]) {
 
 /// Three figures.
 pub fn number(x: f64) -> String {
-    if x >= 1e6 {
-        format!("{:.0}", x)
-    } else if x >= 100.0 {
+    if x >= 100.0 {
         format!("{x:.0}")
     } else if x >= 10.0 {
         format!("{x:.1}")

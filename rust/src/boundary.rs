@@ -45,8 +45,22 @@ mod raw {
             end: *mut u32,
             place: *mut u64,
         ) -> u32;
-        pub fn numolefays_load(axes: u32, level: u32, table: *mut i64, len: usize, forward: *mut u8, place: *mut u64) -> u32;
-        pub fn numolefays_adopt(axes: u32, level: u32, table: *const i64, len: usize, forward: *mut u8, place: *mut u64) -> u32;
+        pub fn numolefays_load(
+            axes: u32,
+            level: u32,
+            table: *mut i64,
+            len: usize,
+            forward: *mut u8,
+            place: *mut u64,
+        ) -> u32;
+        pub fn numolefays_adopt(
+            axes: u32,
+            level: u32,
+            table: *const i64,
+            len: usize,
+            forward: *mut u8,
+            place: *mut u64,
+        ) -> u32;
         pub fn numolefays_forward(
             axes: u32,
             level: u32,
@@ -65,9 +79,28 @@ mod raw {
             axis: u32,
             place: *mut u64,
         ) -> u32;
-        pub fn numolefays_unload(axes: u32, level: u32, forward: u8, table: *mut i64, len: usize, place: *mut u64) -> u32;
-        pub fn numolefays_rates_to_coefficients(axes: u32, level: u32, table: *mut i64, len: usize, place: *mut u64) -> u32;
-        pub fn numolefays_coefficients_to_rates(axes: u32, level: u32, table: *mut i64, len: usize, place: *mut u64) -> u32;
+        pub fn numolefays_unload(
+            axes: u32,
+            level: u32,
+            forward: u8,
+            table: *mut i64,
+            len: usize,
+            place: *mut u64,
+        ) -> u32;
+        pub fn numolefays_rates_to_coefficients(
+            axes: u32,
+            level: u32,
+            table: *mut i64,
+            len: usize,
+            place: *mut u64,
+        ) -> u32;
+        pub fn numolefays_coefficients_to_rates(
+            axes: u32,
+            level: u32,
+            table: *mut i64,
+            len: usize,
+            place: *mut u64,
+        ) -> u32;
         pub fn numolefays_run(
             axes: u32,
             level: u32,
@@ -113,7 +146,14 @@ pub fn count(axes: u32, level: u32, points: &mut u64, place: &mut u64) -> u32 {
 }
 
 /// The number of a point. Refused with 1, 2, 7, 9.
-pub fn number_of_point(axes: u32, level: u32, levels: &[u32], indices: &[u32], number: &mut u64, place: &mut u64) -> u32 {
+pub fn number_of_point(
+    axes: u32,
+    level: u32,
+    levels: &[u32],
+    indices: &[u32],
+    number: &mut u64,
+    place: &mut u64,
+) -> u32 {
     unsafe {
         raw::numolefays_number_of_point(
             axes,

@@ -76,12 +76,20 @@ impl Refusal {
             _ => return Refusal::Unknown { number, place },
         };
         // a place that the case cannot hold is not dropped in silence
-        if known.place() == place { known } else { Refusal::Unknown { number, place } }
+        if known.place() == place {
+            known
+        } else {
+            Refusal::Unknown { number, place }
+        }
     }
 
     /// `Ok` where the boundary answered 0, else the refusal.
     pub(crate) fn checked(number: u32, place: u64) -> Result<(), Refusal> {
-        if number == 0 { Ok(()) } else { Err(Refusal::from_number(number, place)) }
+        if number == 0 {
+            Ok(())
+        } else {
+            Err(Refusal::from_number(number, place))
+        }
     }
 
     /// Document 01's number of the refusal.

@@ -36,8 +36,14 @@ impl Shape {
     pub fn point(self, number: u64) -> Result<Point, Refusal> {
         let mut point = Point { axes: self.axes, all_levels: [0; 8], all_indices: [0; 8] };
         let mut place = 0;
-        let refused =
-            boundary::point_of_number(self.axes, self.level, number, &mut point.all_levels, &mut point.all_indices, &mut place);
+        let refused = boundary::point_of_number(
+            self.axes,
+            self.level,
+            number,
+            &mut point.all_levels,
+            &mut point.all_indices,
+            &mut place,
+        );
         Refusal::checked(refused, place).map(|()| point)
     }
 

@@ -99,8 +99,15 @@ impl State {
     /// table that is forward on every axis. Refused with 1, 2, 14, 3, 17, 7, 8, 10.
     pub fn estimate(self, table: &[i64], coordinates: &[u32]) -> Result<i64, Refusal> {
         let (mut estimate, mut place) = (0, 0);
-        let number =
-            boundary::estimate(self.shape.axes, self.shape.level, self.bits, table, coordinates, &mut estimate, &mut place);
+        let number = boundary::estimate(
+            self.shape.axes,
+            self.shape.level,
+            self.bits,
+            table,
+            coordinates,
+            &mut estimate,
+            &mut place,
+        );
         Refusal::checked(number, place).map(|()| estimate)
     }
 }

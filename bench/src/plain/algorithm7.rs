@@ -20,11 +20,11 @@ fn summed(axes: usize, level: u32, table: &[i64], hats: impl Fn(usize, u32) -> (
         let mut levels: Levels = first(sum);
         loop {
             let (mut joint, mut position, mut shift) = (UNIT, 0, 0);
-            for t in 0..axes {
-                let (place, weight) = hats(t, levels[t]);
+            for (t, &l) in levels[..axes].iter().enumerate() {
+                let (place, weight) = hats(t, l);
                 joint = (joint * weight) >> BITS;
                 position += place << shift;
-                shift += levels[t];
+                shift += l;
             }
             total += i128::from(table[start + position as usize]) * i128::from(joint);
             start += 1 << sum;

@@ -17,7 +17,7 @@ impl Draw {
 
     /// 0 to count − 1.
     pub fn below(&mut self, count: u64) -> u64 {
-        (u128::from(self.bits()) * u128::from(count) >> 64) as u64
+        ((u128::from(self.bits()) * u128::from(count)) >> 64) as u64
     }
 
     pub fn index(&mut self, count: usize) -> usize {
@@ -36,6 +36,6 @@ impl Draw {
     /// From low to high, both ends in.
     pub fn between(&mut self, low: i64, high: i64) -> i64 {
         let span = (i128::from(high) - i128::from(low) + 1) as u128;
-        (i128::from(low) + (u128::from(self.bits()) * span >> 64) as i128) as i64
+        (i128::from(low) + ((u128::from(self.bits()) * span) >> 64) as i128) as i64
     }
 }

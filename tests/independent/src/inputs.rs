@@ -43,7 +43,18 @@ pub fn places(draw: &mut Draw, axes: u32, level: u32) -> usize {
         return n;
     }
     let other = |a: u32, l: u32| if is_shape(a, l) && count(a, l) <= 40_000 { count(a, l) as usize } else { 0 };
-    let wrong = [0, 1, n - 1, n + 1, n / 2, 2 * n, n + 8, other(axes + 1, level), other(axes - 1, level), other(axes, level + 1)];
+    let wrong = [
+        0,
+        1,
+        n - 1,
+        n + 1,
+        n / 2,
+        2 * n,
+        n + 8,
+        other(axes + 1, level),
+        other(axes - 1, level),
+        other(axes, level + 1),
+    ];
     draw.of(&wrong)
 }
 
@@ -63,8 +74,26 @@ pub fn all_bits(axes: u32) -> u8 {
 /// An axis: mostly one of 1 to d.
 pub fn axis(draw: &mut Draw, axes: u32) -> u32 {
     let good = 1 + draw.below(u64::from(axes.clamp(1, 8))) as u32;
-    let bad = [0, axes.wrapping_add(1), 8, 9, 32, 33, 255, 256, 256 + good, 65_536 + good, 1 << 31, (1 << 31) + good, u32::MAX];
-    if draw.one_in(10) { draw.of(&bad) } else { good }
+    let bad = [
+        0,
+        axes.wrapping_add(1),
+        8,
+        9,
+        32,
+        33,
+        255,
+        256,
+        256 + good,
+        65_536 + good,
+        1 << 31,
+        (1 << 31) + good,
+        u32::MAX,
+    ];
+    if draw.one_in(10) {
+        draw.of(&bad)
+    } else {
+        good
+    }
 }
 
 /// Accepted rates: small ones, any, or the ends of the range.
@@ -85,7 +114,8 @@ pub fn any_rates(draw: &mut Draw, places: usize) -> Vec<i64> {
         let (low, high) = (i64::from(i32::MIN), i64::from(i32::MAX));
         for _ in 0..1 + draw.below(3) {
             let p = if draw.one_in(4) { places - 1 } else { draw.index(places) };
-            table[p] = draw.of(&[high + 1, low - 1, 1 << 32, -1 << 32, (1 << 32) + 5, 1 << 62, i64::MIN, i64::MAX, high << 8]);
+            table[p] =
+                draw.of(&[high + 1, low - 1, 1 << 32, -1 << 32, (1 << 32) + 5, 1 << 62, i64::MIN, i64::MAX, high << 8]);
         }
     }
     table
@@ -230,5 +260,9 @@ pub fn coordinates(draw: &mut Draw, axes: u32) -> Vec<u32> {
 
 pub fn list_length(draw: &mut Draw, axes: u32) -> usize {
     let good = axes.min(9) as usize;
-    if draw.one_in(10) { draw.of(&[0, 1, 7, 8, 9, 16, good.saturating_sub(1), good + 1]) } else { good }
+    if draw.one_in(10) {
+        draw.of(&[0, 1, 7, 8, 9, 16, good.saturating_sub(1), good + 1])
+    } else {
+        good
+    }
 }

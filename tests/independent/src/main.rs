@@ -134,7 +134,13 @@ fn model_against_itself(draw: &mut Draw, report: &mut Report) {
         let say = || format!("axes {axes} level {level} rates {}", checks::short(&rates));
         let turned = model::rates::coefficients_by_turns(axes, level, &rates);
         report.case(CALL, 0);
-        report.same(CALL, "axes in the other order", &Some(turned.clone()), &inputs::coefficients_by_maps(axes, level, &rates), &say);
+        report.same(
+            CALL,
+            "axes in the other order",
+            &Some(turned.clone()),
+            &inputs::coefficients_by_maps(axes, level, &rates),
+            &say,
+        );
         if 3usize.pow(axes) * rates.len() <= 300_000 {
             report.same(CALL, "stencil", &turned, &model::rates::coefficients_by_stencil(axes, level, &rates), &say);
         }
@@ -151,6 +157,8 @@ fn large(draw: &mut Draw, report: &mut Report) {
             let coordinates: Vec<u32> = (0..axes).map(|_| inputs::coordinate(draw)).collect();
             estimates::estimate(draw, report, axes, level, all, &coefficients, &coordinates);
         }
+        let rates = inputs::rates(draw, coefficients.len());
+        rates::rates_to_coefficients(draw, report, axes, level, &rates);
         let axis = 1 + draw.below(u64::from(axes)) as u32;
         let half = all ^ 1 << (axis - 1);
         let table = inputs::contents(draw, axes, level, half);
@@ -173,6 +181,8 @@ fn largest(draw: &mut Draw, report: &mut Report) {
     rates::load(draw, report, axes, level, &rates);
     let loaded: Vec<i64> = rates.iter().map(|&r| r << axes).collect();
     turns::turn(draw, report, false, axes, level, 0, &loaded, 3);
+    let turned = model::turns::turn_table(&model::grid::grid(axes, level), false, &loaded, 2).expect("a loaded table");
+    turns::turn(draw, report, true, axes, level, 4, &turned, 3);
     for _ in 0..4 {
         let coordinates: Vec<u32> = (0..axes).map(|_| inputs::coordinate(draw)).collect();
         estimates::estimate(draw, report, axes, level, 255, &loaded, &coordinates);

@@ -67,9 +67,17 @@ impl Report {
 
     pub fn print(&self) {
         for (call, tally) in &self.calls {
-            let refusals: Vec<String> =
-                tally.refusals.iter().map(|(n, times)| format!("{}: {times}", if *n == 0 { "done".into() } else { n.to_string() })).collect();
-            println!("{call}: {} calls compared with separate code in {} places ({})", tally.cases, tally.comparisons, refusals.join(", "));
+            let refusals: Vec<String> = tally
+                .refusals
+                .iter()
+                .map(|(n, times)| format!("{}: {times}", if *n == 0 { "done".into() } else { n.to_string() }))
+                .collect();
+            println!(
+                "{call}: {} calls compared with separate code in {} places ({})",
+                tally.cases,
+                tally.comparisons,
+                refusals.join(", ")
+            );
         }
     }
 
@@ -77,7 +85,11 @@ impl Report {
         let calls: Vec<String> = self.calls.iter().map(|(call, t)| format!("{call} {}", t.cases)).collect();
         let cases: u64 = self.calls.values().map(|t| t.cases).sum();
         let comparisons: u64 = self.calls.values().map(|t| t.comparisons).sum();
-        format!("independent: {} differences in {comparisons} comparisons, {cases} calls ({})", self.differences, calls.join(", "))
+        format!(
+            "independent: {} differences in {comparisons} comparisons, {cases} calls ({})",
+            self.differences,
+            calls.join(", ")
+        )
     }
 }
 

@@ -8,7 +8,8 @@ fn main() -> Result<(), Refusal> {
     println!("loader: {} axes, top level {}, {} points", shape.axes, shape.level, shape.points()?);
 
     // levels, indices, rate; in the order in which the counters came home
-    let samples = [([0, 1], [1, 3], 6), ([1, 0], [1, 1], 3), ([0, 0], [1, 1], 4), ([0, 1], [1, 1], 2), ([1, 0], [3, 1], 5)];
+    let samples =
+        [([0, 1], [1, 3], 6), ([1, 0], [1, 1], 3), ([0, 0], [1, 1], 4), ([0, 1], [1, 1], 2), ([1, 0], [3, 1], 5)];
     let mut table = vec![0; shape.points()? as usize];
     for (levels, indices, rate) in samples {
         let number = shape.number_of(&levels, &indices)?;

@@ -10,7 +10,15 @@ use numolefays::{boundary, Shape, State};
 
 const CALL: &str = "estimate";
 
-pub fn estimate(draw: &mut Draw, report: &mut Report, axes: u32, level: u32, bits: u8, table: &[i64], coordinates: &[u32]) {
+pub fn estimate(
+    draw: &mut Draw,
+    report: &mut Report,
+    axes: u32,
+    level: u32,
+    bits: u8,
+    table: &[i64],
+    coordinates: &[u32],
+) {
     let want = model::estimate(axes, level, bits, table, coordinates);
     report.case(CALL, answer(&want).0);
     let say = || format!("axes {axes} level {level} bits {bits:#x} coordinates {coordinates:?} table {}", short(table));

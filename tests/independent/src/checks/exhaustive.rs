@@ -64,7 +64,27 @@ pub fn line(draw: &mut Draw, report: &mut Report) {
 /// Every table of three values from a few, on one axis: both whole calls and both turns.
 pub fn small_tables(draw: &mut Draw, report: &mut Report) {
     let top = inputs::LIMIT;
-    let values = [-top - 1, -top, 1 - top, -4, -3, -2, -1, 0, 1, 2, 3, 4, top - 1, top, top + 1, i64::MIN, i64::MAX, 1 << 31, 1 << 32];
+    let values = [
+        -top - 1,
+        -top,
+        1 - top,
+        -4,
+        -3,
+        -2,
+        -1,
+        0,
+        1,
+        2,
+        3,
+        4,
+        top - 1,
+        top,
+        top + 1,
+        i64::MIN,
+        i64::MAX,
+        1 << 31,
+        1 << 32,
+    ];
     for a in values {
         for b in values {
             for c in values {

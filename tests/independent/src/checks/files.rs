@@ -59,7 +59,9 @@ pub fn random(draw: &mut Draw, report: &mut Report, most: u64) {
         damage(draw, &mut bytes);
     }
     if draw.one_in(40) {
-        bytes = (0..draw.index(24)).map(|_| if draw.one_in(2) { draw.bits() as u8 } else { draw.of(&[0, 1, 2, 8, 9, 127, 128, 255]) }).collect();
+        bytes = (0..draw.index(24))
+            .map(|_| if draw.one_in(2) { draw.bits() as u8 } else { draw.of(&[0, 1, 2, 8, 9, 127, 128, 255]) })
+            .collect();
     }
     let places = match draw.below(8) {
         0 => points.saturating_sub(1),

@@ -84,7 +84,8 @@ pub fn random(draw: &mut Draw, report: &mut Report, most: u64) {
     successor(draw, report, axes, level, &levels, &indices);
     let n = if inputs::is_shape(axes, level) { count(axes, level) as u64 } else { 5 };
     let inside = draw.below(n);
-    let beyond = [n, n + 1, (1 << 32) + inside, (1 << 32) + 34, (1 << 63) + inside, 1 << 63, u64::from(u32::MAX), u64::MAX];
+    let beyond =
+        [n, n + 1, (1 << 32) + inside, (1 << 32) + 34, (1 << 63) + inside, 1 << 63, u64::from(u32::MAX), u64::MAX];
     let number = match draw.below(8) {
         0 => draw.of(&beyond),
         1 => n - 1,
@@ -111,8 +112,40 @@ fn lists(draw: &mut Draw, axes: u32, level: u32) -> (Vec<u32>, Vec<u32>) {
     let l = levels[t];
     let width = 1u32 << (l + 1);
     match draw.below(14) {
-        0 => indices[t] = draw.of(&[0, 2, width, width + 1, width - 2, indices[t] + 1, 1 << 31, u32::MAX, width | 1 << 16, (1 << 31) + 1]),
-        1 => levels[t] = draw.of(&[level + (level < u32::MAX) as u32, l + 1, 8, 9, 31, 32, 33, 63, 64, 200, 255, 256, 256 + l, 65_536 + l, 1 << 31, u32::MAX]),
+        0 => {
+            indices[t] = draw.of(&[
+                0,
+                2,
+                width,
+                width + 1,
+                width - 2,
+                indices[t] + 1,
+                1 << 31,
+                u32::MAX,
+                width | 1 << 16,
+                (1 << 31) + 1,
+            ])
+        }
+        1 => {
+            levels[t] = draw.of(&[
+                level + (level < u32::MAX) as u32,
+                l + 1,
+                8,
+                9,
+                31,
+                32,
+                33,
+                63,
+                64,
+                200,
+                255,
+                256,
+                256 + l,
+                65_536 + l,
+                1 << 31,
+                u32::MAX,
+            ])
+        }
         2 => {
             // a sum that wraps around 32 bits
             let u = draw.index(levels.len());

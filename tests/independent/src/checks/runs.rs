@@ -82,20 +82,29 @@ pub fn run(draw: &mut Draw, report: &mut Report, axes: u32, level: u32, bits: u8
 }
 
 /// Demand 3: a load, then a run, then nothing but what the model of sets says; the list handed in whole and in two parts.
-pub fn demand3(draw: &mut Draw, report: &mut Report, axes: u32, level: u32, rates: &[i64], directions: &[u8], turned: &[u32]) {
+pub fn demand3(
+    draw: &mut Draw,
+    report: &mut Report,
+    axes: u32,
+    level: u32,
+    rates: &[i64],
+    directions: &[u8],
+    turned: &[u32],
+) {
     const CALL: &str = "run after load";
     let want = model::demand3(axes, level, rates, directions, turned);
     report.case(CALL, 0);
-    let say = || format!("axes {axes} level {level} directions {directions:?} turned {turned:?} rates {}", short(rates));
+    let say =
+        || format!("axes {axes} level {level} directions {directions:?} turned {turned:?} rates {}", short(rates));
     let cut = draw.index(directions.len() + 1);
-    for parts in [vec![0..directions.len()], vec![0..cut, cut..directions.len()]] {
+    for cut in [0, cut] {
         let mut table = rates.to_vec();
         let Ok(mut state) = Shape::new(axes, level).load(&mut table) else {
             report.same(CALL, "load", &true, &false, &say);
             return;
         };
         let (mut numbers, mut places) = (vec![7; directions.len()], vec![7; directions.len()]);
-        for part in parts {
+        for part in [0..cut, cut..directions.len()] {
             let done = state.run_lists(
                 &mut table,
                 &directions[part.clone()],

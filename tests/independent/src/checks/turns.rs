@@ -9,7 +9,16 @@ use crate::report::Report;
 use numolefays::{boundary, Shape, State};
 
 #[allow(clippy::too_many_arguments)]
-pub fn turn(draw: &mut Draw, report: &mut Report, back: bool, axes: u32, level: u32, bits: u8, table: &[i64], axis: u32) {
+pub fn turn(
+    draw: &mut Draw,
+    report: &mut Report,
+    back: bool,
+    axes: u32,
+    level: u32,
+    bits: u8,
+    table: &[i64],
+    axis: u32,
+) {
     let call = if back { "back" } else { "forward" };
     let want = model::turn(back, axes, level, bits, table, axis);
     report.case(call, answer(&want).0);
@@ -34,6 +43,8 @@ pub fn turn(draw: &mut Draw, report: &mut Report, back: bool, axes: u32, level: 
     let got = if back { state.back(&mut again, axis) } else { state.forward(&mut again, axis) };
     report.same(call, "wrapper", &want.as_ref().map(|_| ()).map_err(|&r| refusal(r)), &got, &say);
     report.same(call, "wrapper's state", &State::saved(Shape::new(axes, level), want_bits), &state, &say);
+    let forward: Vec<u32> = (1..=8).filter(|&t| crate::model::is_forward(want_bits, t)).collect();
+    report.same(call, "wrapper's axes", &forward, &(0..=9).filter(|&t| state.is_forward(t)).collect(), &say);
     report.same(call, "wrapper's table", want_table, &again[..], &say);
 }
 

@@ -12,7 +12,8 @@ pub fn worked(report: &mut Report) {
         report.same(CALL, "separate code", &want, &separate, &|| what.to_string());
         report.same(CALL, "library", &want, &library, &|| what.to_string());
     };
-    let sizes = [(1, 0, 1), (2, 2, 17), (3, 2, 31), (1, 8, 511), (2, 3, 49), (8, 4, 6_401), (8, 5, 31_745), (8, 8, 2_228_225)];
+    let sizes =
+        [(1, 0, 1), (2, 2, 17), (3, 2, 31), (1, 8, 511), (2, 3, 49), (8, 4, 6_401), (8, 5, 31_745), (8, 8, 2_228_225)];
     for (axes, level, n) in sizes {
         let library = Shape::new(axes, level).points().map_or(-1, |n| n as i64);
         paper("N", vec![n], vec![model::grid::count(axes, level) as i64], vec![library]);
@@ -32,14 +33,24 @@ pub fn worked(report: &mut Report) {
         let mut there = rates.to_vec();
         let done = shape.rates_to_coefficients(&mut there);
         let separate = model::rates::rates_to_coefficients(axes, level, rates).unwrap_or_default();
-        paper("rates to coefficients", coefficients.to_vec(), separate, if done.is_ok() { there.clone() } else { vec![] });
+        paper(
+            "rates to coefficients",
+            coefficients.to_vec(),
+            separate,
+            if done.is_ok() { there.clone() } else { vec![] },
+        );
         let done = shape.coefficients_to_rates(&mut there);
         let separate = model::rates::coefficients_to_rates(axes, level, coefficients).unwrap_or_default();
         paper("coefficients to rates", rates.to_vec(), separate, if done.is_ok() { there } else { vec![] });
     }
 
-    let readings: [(&[i64], u32, i64); 5] =
-        [(&[6, 7, 11], 16_384, 10), (&[6, 7, 11], 8_192, 5), (&[6, 7, 11], 0, 0), (&[6, 7, 11], 1, 0), (&[-6, -7, -11], 1, -1)];
+    let readings: [(&[i64], u32, i64); 5] = [
+        (&[6, 7, 11], 16_384, 10),
+        (&[6, 7, 11], 8_192, 5),
+        (&[6, 7, 11], 0, 0),
+        (&[6, 7, 11], 1, 0),
+        (&[-6, -7, -11], 1, -1),
+    ];
     for (table, x, want) in readings {
         let separate = model::estimates::estimate(1, 1, 1, table, &[x]).unwrap_or(i64::MIN);
         let library = State::saved(Shape::new(1, 1), 1).estimate(table, &[x]).unwrap_or(i64::MIN);
@@ -50,7 +61,12 @@ pub fn worked(report: &mut Report) {
     let library = |r: Result<u64, Refusal>| r.map_or_else(|r| i64::from(r.number()), |_| 0);
     let separate = |r: Result<u64, model::Refused>| r.map_or_else(|r| i64::from(r.0), |_| 0);
     for (axes, level, want) in [(8, 0, 0), (9, 0, 1), (1, 9, 2), (0, 9, 1)] {
-        paper("shapes", vec![want], vec![separate(model::points::points(axes, level))], vec![library(Shape::new(axes, level).points())]);
+        paper(
+            "shapes",
+            vec![want],
+            vec![separate(model::points::points(axes, level))],
+            vec![library(Shape::new(axes, level).points())],
+        );
     }
     for (x, want) in [(65_536, 0), (65_537, 8)] {
         let l = State::saved(Shape::new(1, 0), 1).estimate(&[4], &[x]).map(|_| 0);

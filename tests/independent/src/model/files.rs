@@ -71,5 +71,9 @@ pub fn filed(mut value: u64, needless: usize) -> Vec<u8> {
 }
 
 pub fn filed_rate(r: i64) -> u64 {
-    if r >= 0 { 2 * r as u64 } else { (-2 * r - 1) as u64 }
+    if r >= 0 {
+        2 * r as u64
+    } else {
+        (-2 * r - 1) as u64
+    }
 }

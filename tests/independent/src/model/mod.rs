@@ -17,11 +17,11 @@ pub type Refused = (u32, u64);
 pub const LIMIT: i128 = 1 << 47;
 
 pub fn within(v: i128) -> bool {
-    -LIMIT <= v && v <= LIMIT
+    (-LIMIT..=LIMIT).contains(&v)
 }
 
 pub fn is_rate(v: i128) -> bool {
-    -2_147_483_648 <= v && v <= 2_147_483_647
+    (-2_147_483_648..=2_147_483_647).contains(&v)
 }
 
 /// Refusals 1 and 2.

@@ -12,7 +12,8 @@ pub struct Run {
     pub bits: u8,
 }
 
-/// Each call handed what the one before it left.
+/// `numbers` and `places` are the lengths of those lists. Each call handed what the one before it left.
+#[allow(clippy::too_many_arguments)]
 pub fn run(
     axes: u32,
     level: u32,
@@ -51,7 +52,11 @@ pub fn demand3(axes: u32, level: u32, rates: &[i64], directions: &[u8], turned: 
         let number = if axis < 1 || axis > axes {
             5
         } else if direction == 0 {
-            if set.insert(axis) { 0 } else { 15 }
+            if set.insert(axis) {
+                0
+            } else {
+                15
+            }
         } else if set.remove(&axis) {
             0
         } else {
