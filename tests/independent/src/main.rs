@@ -1,7 +1,8 @@
 //! Compares the library, through its boundary and its safe wrapper, with separate code on thousands of random inputs.
 //!
 //! `NUMOLEFAYS_SEED` and `NUMOLEFAYS_COUNT` set the seed and the number of rounds; a round is one random input to every
-//! call. The last line has the counts; the exit code is 1 where anything differs.
+//! call. `NUMOLEFAYS_LARGE=0` leaves out the large tables, as for a run under valgrind. The last line has the counts; the
+//! exit code is 1 where anything differs.
 
 mod checks;
 mod draw;
@@ -80,8 +81,10 @@ fn main() {
     step(&clock, "random inputs");
 
     model_against_itself(&mut draw, &mut report);
-    large(&mut draw, &mut report);
-    step(&clock, "large tables");
+    if setting("NUMOLEFAYS_LARGE", 1) != 0 {
+        large(&mut draw, &mut report);
+        step(&clock, "large tables");
+    }
 
     report.merge(threads::own_tables(seed, count / 40));
     threads::neighbouring_tables(seed, count / 40, &mut report);
