@@ -40,7 +40,7 @@ fn library_forward(t: &Tables, table: &mut [i64]) {
 }
 
 fn library_back(t: &Tables, table: &mut [i64]) {
-    let mut state = Shape::new(t.axes as u32, t.level).adopt(table).expect("coefficients");
+    let mut state = State::saved(Shape::new(t.axes as u32, t.level), ((1u32 << t.axes) - 1) as u8);
     for axis in 1..=t.axes as u32 {
         state.back(table, axis).expect("an accepted turn");
     }

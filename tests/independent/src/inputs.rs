@@ -43,19 +43,13 @@ pub fn places(draw: &mut Draw, axes: u32, level: u32) -> usize {
         return n;
     }
     let other = |a: u32, l: u32| if is_shape(a, l) && count(a, l) <= 40_000 { count(a, l) as usize } else { 0 };
-    let wrong = [
-        0,
-        1,
-        n - 1,
-        n + 1,
-        n / 2,
-        2 * n,
-        n + 8,
-        other(axes + 1, level),
-        other(axes - 1, level),
-        other(axes, level + 1),
-    ];
-    draw.of(&wrong)
+    let near = [0, 1, n - 1, n + 1, n / 2, 2 * n, n + 8];
+    let of_others = [other(axes + 1, level), other(axes - 1, level), other(axes, level + 1)];
+    if draw.one_in(3) {
+        draw.of(&of_others)
+    } else {
+        draw.of(&near)
+    }
 }
 
 /// Bits of a state: mostly none above axis d.
@@ -74,25 +68,12 @@ pub fn all_bits(axes: u32) -> u8 {
 /// An axis: mostly one of 1 to d.
 pub fn axis(draw: &mut Draw, axes: u32) -> u32 {
     let good = 1 + draw.below(u64::from(axes.clamp(1, 8))) as u32;
-    let bad = [
-        0,
-        axes.wrapping_add(1),
-        8,
-        9,
-        32,
-        33,
-        255,
-        256,
-        256 + good,
-        65_536 + good,
-        1 << 31,
-        (1 << 31) + good,
-        u32::MAX,
-    ];
-    if draw.one_in(10) {
-        draw.of(&bad)
-    } else {
-        good
+    let bad = [0, axes.wrapping_add(1), 8, 9, 32, 33, 255, 256, 1 << 31, u32::MAX];
+    let wrapped = [256 + good, 65_536 + good, (1 << 31) + good];
+    match draw.below(30) {
+        0 | 1 => draw.of(&bad),
+        2 => draw.of(&wrapped),
+        _ => good,
     }
 }
 

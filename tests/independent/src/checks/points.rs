@@ -111,41 +111,13 @@ fn lists(draw: &mut Draw, axes: u32, level: u32) -> (Vec<u32>, Vec<u32>) {
     let t = draw.index(levels.len());
     let l = levels[t];
     let width = 1u32 << (l + 1);
+    let even = [0, 2, width, width - 2, indices[t] + 1, 1 << 31];
+    let large = [width + 1, width | (1 << 16) | 1, (1 << 31) + 1, u32::MAX];
+    let above = [l + 1, 8, 9, level.saturating_add(1), 200, 255, 256, 256 + l, 65_536 + l, 1 << 31, u32::MAX];
+    let shifted = [31, 32, 33, 63, 64];
     match draw.below(14) {
-        0 => {
-            indices[t] = draw.of(&[
-                0,
-                2,
-                width,
-                width + 1,
-                width - 2,
-                indices[t] + 1,
-                1 << 31,
-                u32::MAX,
-                width | 1 << 16,
-                (1 << 31) + 1,
-            ])
-        }
-        1 => {
-            levels[t] = draw.of(&[
-                level + (level < u32::MAX) as u32,
-                l + 1,
-                8,
-                9,
-                31,
-                32,
-                33,
-                63,
-                64,
-                200,
-                255,
-                256,
-                256 + l,
-                65_536 + l,
-                1 << 31,
-                u32::MAX,
-            ])
-        }
+        0 => indices[t] = if draw.one_in(2) { draw.of(&even) } else { draw.of(&large) },
+        1 => levels[t] = if draw.one_in(3) { draw.of(&shifted) } else { draw.of(&above) },
         2 => {
             // a sum that wraps around 32 bits
             let u = draw.index(levels.len());
