@@ -1,0 +1,87 @@
+//! Several tables at once, by several threads: each call on its own table is as if it were alone.
+
+use super::{estimates, rates, runs, turns};
+use crate::draw::Draw;
+use crate::inputs;
+use crate::model::{estimates as model_estimates, rates as model_rates, turns as model_turns};
+use crate::report::Report;
+use numolefays::{Shape, State};
+use std::thread;
+
+const THREADS: u64 = 4;
+
+/// Every thread makes random calls on tables of its own.
+pub fn own_tables(seed: u64, cases: u64) -> Report {
+    let mut report = Report::default();
+    let parts: Vec<Report> = thread::scope(|scope| {
+        let work = |k: u64| {
+            move || {
+                let mut draw = Draw::new(seed ^ (0x7468_7265_6164 + k));
+                let mut report = Report::default();
+                for _ in 0..cases {
+                    turns::random(&mut draw, &mut report, 1_200);
+                    rates::random(&mut draw, &mut report, 1_200);
+                    estimates::random(&mut draw, &mut report, 1_200);
+                    runs::random(&mut draw, &mut report, 300);
+                }
+                report
+            }
+        };
+        let handles: Vec<_> = (0..THREADS).map(|k| scope.spawn(work(k))).collect();
+        handles.into_iter().map(|h| h.join().expect("a thread that ended")).collect()
+    });
+    parts.into_iter().for_each(|part| report.merge(part));
+    report
+}
+
+/// Tables side by side in one allocation, each turned by its own thread; and one table of coefficients read by all.
+pub fn neighbouring_tables(seed: u64, rounds: u64, report: &mut Report) {
+    const CALL: &str = "threads";
+    let mut draw = Draw::new(seed ^ 0x6265_7369_6465);
+    for round in 0..rounds {
+        let (axes, level) = [(3, 3), (8, 2), (5, 4), (1, 8), (2, 6)][(round % 5) as usize];
+        let shape = Shape::new(axes, level);
+        let n = shape.points().unwrap_or(1) as usize;
+        let rates: Vec<i64> = (0..THREADS).flat_map(|_| inputs::rates(&mut draw, n)).collect();
+        let mut tables = rates.clone();
+        let shared = model_rates::coefficients(axes, level, &rates[..n]);
+        let at: Vec<Vec<u32>> =
+            (0..THREADS).map(|_| (0..axes).map(|_| inputs::coordinate(&mut draw)).collect()).collect();
+        let answers: Vec<_> = thread::scope(|scope| {
+            let work = |table, coordinates| {
+                let shared = &shared;
+                move || turn_and_read(shape, table, shared, coordinates)
+            };
+            let handles: Vec<_> = tables.chunks_mut(n).zip(&at).map(|(t, c)| scope.spawn(work(t, c))).collect();
+            handles.into_iter().map(|h| h.join().expect("a thread that ended")).collect()
+        });
+        for (k, answer) in answers.into_iter().enumerate() {
+            let mine = &rates[k * n..(k + 1) * n];
+            let say = || format!("round {round} thread {k} axes {axes} level {level} rates {}", super::short(mine));
+            let want = model_rates::load(axes, level, mine).unwrap().0;
+            let (want, bits) = model_turns::turn(false, axes, level, 0, &want, axes).unwrap();
+            let estimate = model_estimates::estimate(axes, level, inputs::all_bits(axes), &shared, &at[k]).unwrap();
+            report.case(CALL, 0);
+            report.same(CALL, "state and estimate", &Some((bits, estimate)), &answer, &say);
+            report.same(CALL, "table", &want[..], &tables[k * n..(k + 1) * n], &say);
+        }
+    }
+}
+
+/// There and back on all axes twice, then forward on the last one; and an estimate from the shared table.
+fn turn_and_read(shape: Shape, table: &mut [i64], shared: &[i64], coordinates: &[u32]) -> Option<(u8, i64)> {
+    let mut state = shape.load(table).ok()?;
+    let all = State::saved(shape, inputs::all_bits(shape.axes));
+    let mut estimate = 0;
+    for _ in 0..2 {
+        for axis in 1..=shape.axes {
+            state.forward(table, axis).ok()?;
+            estimate = all.estimate(shared, coordinates).ok()?;
+        }
+        for axis in 1..=shape.axes {
+            state.back(table, axis).ok()?;
+        }
+    }
+    state.forward(table, shape.axes).ok()?;
+    Some((state.bits, estimate))
+}

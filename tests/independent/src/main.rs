@@ -1,0 +1,196 @@
+//! Compares the library, through its boundary and its safe wrapper, with separate code on thousands of random inputs.
+//!
+//! `NUMOLEFAYS_SEED` and `NUMOLEFAYS_COUNT` set the seed and the number of rounds; a round is one random input to every
+//! call. `NUMOLEFAYS_LARGE=0` leaves out the large tables, as for a run under valgrind. The last line has the counts; the
+//! exit code is 1 where anything differs.
+
+mod checks;
+mod draw;
+mod inputs;
+mod lent;
+mod model;
+mod report;
+
+use checks::{estimates, exhaustive, files, points, rates, runs, threads, turns, walks, worked};
+use draw::Draw;
+use report::Report;
+use std::time::Instant;
+
+const SEED: u64 = 20_261_113;
+const COUNT: u64 = 10_000;
+
+fn setting(name: &str, usual: u64) -> u64 {
+    match std::env::var(name) {
+        Ok(text) => text.parse().unwrap_or_else(|_| panic!("{name} is a number")),
+        Err(_) => usual,
+    }
+}
+
+/// What each call can answer, as refusal numbers, 0 for success: all of it has to have been met.
+const ANSWERS: [(&str, &[u32]); 14] = [
+    ("count", &[0, 1, 2]),
+    ("number_of_point", &[0, 1, 2, 7, 9]),
+    ("successor", &[0, 1, 2, 7, 9]),
+    ("point_of_number", &[0, 1, 2, 6]),
+    ("load", &[0, 1, 2, 3, 4]),
+    ("adopt", &[0, 1, 2, 3, 10]),
+    ("forward", &[0, 1, 2, 14, 3, 5, 15, 10]),
+    ("back", &[0, 1, 2, 14, 3, 5, 16, 10]),
+    ("unload", &[0, 1, 2, 14, 3, 18, 10]),
+    ("rates_to_coefficients", &[0, 1, 2, 3, 4]),
+    ("coefficients_to_rates", &[0, 1, 2, 3, 10]),
+    ("run", &[0, 7]),
+    ("estimate", &[0, 1, 2, 14, 3, 17, 7, 8, 10]),
+    ("read_house_file", &[0, 11, 12, 1, 2, 3, 13]),
+];
+
+fn main() {
+    let (seed, count) = (setting("NUMOLEFAYS_SEED", SEED), setting("NUMOLEFAYS_COUNT", COUNT));
+    println!("seed {seed}, {count} rounds");
+    let clock = Instant::now();
+    let mut report = Report::default();
+    let mut draw = Draw::new(seed);
+
+    worked::worked(&mut report);
+    for axes in 0..=10 {
+        for level in 0..=10 {
+            points::count_of(&mut draw, &mut report, axes, level);
+        }
+    }
+    files::short_files(&mut draw, &mut report);
+    step(&clock, "worked tables, shapes, short files");
+
+    exhaustive::states(&mut draw, &mut report);
+    exhaustive::lengths(&mut draw, &mut report);
+    exhaustive::line(&mut draw, &mut report);
+    exhaustive::small_tables(&mut draw, &mut report);
+    step(&clock, "all states, all lengths, all coordinates of a line, all small tables");
+
+    for axes in 1..=8 {
+        for level in 0..=8 {
+            if model::grid::count(axes, level) <= 7_000 {
+                walks::walk(&mut report, axes, level);
+            }
+        }
+    }
+    step(&clock, "every point of every shape with up to 7,000 points");
+
+    for round in 0..count {
+        one_round(&mut draw, &mut report, round);
+    }
+    step(&clock, "random inputs");
+
+    model_against_itself(&mut draw, &mut report);
+    if setting("NUMOLEFAYS_LARGE", 1) != 0 {
+        large(&mut draw, &mut report);
+        step(&clock, "large tables");
+    }
+
+    report.merge(threads::own_tables(seed, count / 40));
+    threads::neighbouring_tables(seed, count / 40, &mut report);
+    step(&clock, "threads");
+
+    report.print();
+    let mut met = true;
+    if count >= COUNT {
+        for (call, numbers) in ANSWERS {
+            let missing = report.never_met(call, numbers);
+            if !missing.is_empty() {
+                met = false;
+                println!("{call}: no input was answered with {missing:?}");
+            }
+        }
+    }
+    println!("{}", report.last_line());
+    std::process::exit(if report.differences == 0 && met { 0 } else { 1 });
+}
+
+fn step(clock: &Instant, what: &str) {
+    println!("{:7.1} s  {what}", clock.elapsed().as_secs_f64());
+}
+
+/// One random input to every call; now and then a larger table.
+fn one_round(draw: &mut Draw, report: &mut Report, round: u64) {
+    let most = match round % 100 {
+        99 => 7_000,
+        9 | 29 | 49 | 69 | 89 => 1_500,
+        _ => 300,
+    };
+    points::random(draw, report, most);
+    points::random(draw, report, 7_000);
+    turns::random(draw, report, most);
+    turns::random(draw, report, 60);
+    rates::random(draw, report, most);
+    rates::random(draw, report, 60);
+    runs::random(draw, report, most.min(1_500));
+    estimates::random(draw, report, most);
+    files::random(draw, report, most);
+    files::random(draw, report, 60);
+}
+
+/// The two ways of the separate code to the coefficients, and the axes in the other order.
+fn model_against_itself(draw: &mut Draw, report: &mut Report) {
+    const CALL: &str = "separate code with itself";
+    for _ in 0..60 {
+        let (axes, level) = inputs::good_shape(draw, 300);
+        let rates = inputs::rates(draw, model::grid::count(axes, level) as usize);
+        let say = || format!("axes {axes} level {level} rates {}", checks::short(&rates));
+        let turned = model::rates::coefficients_by_turns(axes, level, &rates);
+        report.case(CALL, 0);
+        report.same(
+            CALL,
+            "axes in the other order",
+            &Some(turned.clone()),
+            &inputs::coefficients_by_maps(axes, level, &rates),
+            &say,
+        );
+        if 3usize.pow(axes) * rates.len() <= 300_000 {
+            report.same(CALL, "stencil", &turned, &model::rates::coefficients_by_stencil(axes, level, &rates), &say);
+        }
+    }
+}
+
+/// Tables that are too large to be drawn often.
+fn large(draw: &mut Draw, report: &mut Report) {
+    for (axes, level) in [(8, 5), (4, 7), (3, 8), (6, 6)] {
+        let all = inputs::all_bits(axes);
+        let coefficients = inputs::contents(draw, axes, level, all);
+        rates::coefficients_to_rates(draw, report, axes, level, &coefficients);
+        for _ in 0..5 {
+            let coordinates: Vec<u32> = (0..axes).map(|_| inputs::coordinate(draw)).collect();
+            estimates::estimate(draw, report, axes, level, all, &coefficients, &coordinates);
+        }
+        let rates = inputs::rates(draw, coefficients.len());
+        rates::rates_to_coefficients(draw, report, axes, level, &rates);
+        let axis = 1 + draw.below(u64::from(axes)) as u32;
+        let half = all ^ 1 << (axis - 1);
+        let table = inputs::contents(draw, axes, level, half);
+        turns::turn(draw, report, false, axes, level, half, &table, axis);
+        let table = inputs::contents(draw, axes, level, all);
+        turns::turn(draw, report, true, axes, level, all, &table, axis);
+        for _ in 0..400 {
+            points::random(draw, report, 40_000);
+        }
+    }
+    largest(draw, report);
+}
+
+/// The largest table of all, 2,228,225 points.
+fn largest(draw: &mut Draw, report: &mut Report) {
+    let (axes, level) = (8, 8);
+    let n = model::grid::count(axes, level) as usize;
+    walks::walk(report, axes, level);
+    let rates = inputs::rates(draw, n);
+    rates::load(draw, report, axes, level, &rates);
+    let loaded: Vec<i64> = rates.iter().map(|&r| r << axes).collect();
+    turns::turn(draw, report, false, axes, level, 0, &loaded, 3);
+    let turned = model::turns::turn_table(&model::grid::grid(axes, level), false, &loaded, 2).expect("a loaded table");
+    turns::turn(draw, report, true, axes, level, 4, &turned, 3);
+    for _ in 0..4 {
+        let coordinates: Vec<u32> = (0..axes).map(|_| inputs::coordinate(draw)).collect();
+        estimates::estimate(draw, report, axes, level, 255, &loaded, &coordinates);
+    }
+    let file = files::file(draw, axes, level, &rates, 50);
+    files::read(draw, report, &file, n + 5);
+    files::read(draw, report, &file[..file.len() - 1], n);
+}
