@@ -14,36 +14,19 @@ use Rattle.naturals.proofs.Cases.{le-or-lt}
 use Rattle.naturals.proofs.Sums.{sumTo-cong}
 use Rattle.numbering.specs.Count.{points}
 use Rattle.numbering.specs.Point.{IsPoint}
-use Rattle.numbering.specs.Number.{number, digit, position}
+use Rattle.numbering.specs.Number.{digit, position, firstOf}
 use Rattle.numbering.specs.Inverse.{levelAt, indexOf, indexAt}
 use Rattle.numbering.proofs.Position.{position-lt, position-cong, position-of-index, index-of-position, index-odd, index-below}
-use Rattle.numbering.proofs.Numbering.{number-is, number-lt}
-use Rattle.numbering.proofs.Named.{Named, levels-again, indices-again}
+use Rattle.numbering.proofs.Subspaces.{indicesTo, indices-in, block-levels, block-indices}
 use Rattle.surfaces.specs.Weights.{unit, weight, weightOn, joint}
 use Rattle.surfaces.specs.Surface.{jointAt}
 use Rattle.surfaces.proofs.Hat.{weight-high}
 use Rattle.surfaces.proofs.GridPoints.{joint-zero, joint-suc}
 use Rattle.surfaces.proofs.Cells.{only-half, joint-above}
-use Rattle.evaluation.specs.Steps.{cellOf, firstOf, indexOfCell}
+use Rattle.evaluation.specs.Steps.{cellOf, indexOfCell}
 use Rattle.evaluation.proofs.Weighing.{cell-inside, index-below as taken-within}
 
 -- ---- the points of a level vector
-
-first-is : (d : ℕ) (l i : ℕ → ℕ) → number d l i ≡ firstOf d l + position l i d
-unfolding firstOf
-first-is d l i = number-is d l i
-
--- The indices of a position on the first d axes, and 0 past them.
-indicesTo : ℕ → (ℕ → ℕ) → ℕ → ℕ → ℕ
-indicesTo d l j t = if ltb t d then indexOf l j t else 0
-
-indices-in : (d : ℕ) (l : ℕ → ℕ) (j t : ℕ) → t < d → indicesTo d l j t ≡ indexOf l j t
-unfolding indicesTo
-indices-in d l j t h = rw (lt-ltb t d h)
-
-indices-past : (d : ℕ) (l : ℕ → ℕ) (j t : ℕ) → d ≤ t → indicesTo d l j t ≡ 0
-unfolding indicesTo
-indices-past d l j t h = rw (le-ltb t d h)
 
 -- The joint weight depends on the indices of its axes alone.
 joint-cong : (x l i j : ℕ → ℕ) (k : ℕ) → ((t : ℕ) → t < k → i t ≡ j t) → joint x l i k ≡ joint x l j k
@@ -55,37 +38,10 @@ joint-cong x l i j (suc k) same =
     ∙ sym (joint-suc x l j k)
 
 module _ (d n : ℕ) (l : ℕ → ℕ) (rest : (t : ℕ) → d ≤ t → l t ≡ 0) (low : sumTo l d ≤ n) (j : ℕ) (j-in : j < 2 ^ sumTo l d) where
-  block-point : Named d n l (indicesTo d l j)
-  block-point =
-      record {
-        point = record {
-          sum = low;
-          odd = λ t h. ap (λ (x : ℕ). x % 2) (indices-in d l j t h) ∙ index-odd l j t;
-          below = λ t h. rw (indices-in d l j t h) (index-below l j t);
-        };
-        levels = rest;
-        indices = indices-past d l j;
-      }
-
-  block-number : number d l (indicesTo d l j) ≡ firstOf d l + j
-  block-number =
-      first-is d l (indicesTo d l j)
-      ∙ ap (λ (q : ℕ). firstOf d l + q)
-      (position-cong l (indicesTo d l j) l (indexOf l j) d (λ t h. refl) (indices-in d l j) ∙ position-of-index l j d j-in)
-
-  pub block-below : firstOf d l + j < points d n
-  block-below = rw (sym block-number) (number-lt (block-point .point))
-
-  block-levels : levelAt d n (firstOf d l + j) ≡ l
-  block-levels = ap (levelAt d n) (sym block-number) ∙ levels-again block-point
-
-  block-indices : indexAt d n (firstOf d l + j) ≡ indicesTo d l j
-  block-indices = ap (indexAt d n) (sym block-number) ∙ indices-again block-point
-
   block-joint : (x : ℕ → ℕ) → jointAt d n x (firstOf d l + j) ≡ joint x l (indexOf l j) d
   unfolding jointAt
   block-joint x =
-      ap₂ (λ (m i : ℕ → ℕ). joint x m i d) block-levels block-indices
+      ap₂ (λ (m i : ℕ → ℕ). joint x m i d) (block-levels d n l rest low j j-in) (block-indices d n l rest low j j-in)
       ∙ joint-cong x l (indicesTo d l j) (indexOf l j) d (indices-in d l j)
 
 -- ---- the point in whose cells the coordinates lie

@@ -12,16 +12,13 @@ use Rattle.naturals.specs.Sum.{sumTo}
 use Rattle.naturals.proofs.Sums.{sumTo-suc}
 use Rattle.numbering.specs.Count.{vectors, start}
 use Rattle.numbering.specs.Point.{at}
-use Rattle.numbering.specs.Number.{rank}
+use Rattle.numbering.specs.Number.{rank, firstOf}
 use Rattle.numbering.proofs.Numbering.{start-suc}
+use Rattle.numbering.proofs.Subspaces.{first-is}
 use Rattle.numbering.proofs.Succession.{sum-first, rank-first}
 use Rattle.successor.specs.Steps.{StepsLevels}
 use Rattle.successor.proofs.Onward.{first, first-zeros}
-use Rattle.evaluation.specs.Steps.{VectorIn, NextVector, firstOf, vectorsBefore}
-
-pub first-is : (d : ℕ) (l : ℕ → ℕ) → firstOf d l ≡ start d (sumTo l d) + 2 ^ sumTo l d * rank l d
-unfolding firstOf
-first-is d l = refl
+use Rattle.evaluation.specs.Steps.{VectorIn, NextVector, vectorsBefore}
 
 before-is : (d : ℕ) (l : ℕ → ℕ) → vectorsBefore d l ≡ sumTo (vectors d) (sumTo l d) + rank l d
 unfolding vectorsBefore

@@ -28,9 +28,10 @@ use Rattle.integers.proofs.Totals.{total-zero, total-suc, total-block}
 use Rattle.numbering.specs.Binomial.{choose}
 use Rattle.numbering.specs.Count.{vectors, points}
 use Rattle.numbering.specs.Inverse.{levelAt, indexAt}
-use Rattle.numbering.specs.Number.{rank}
+use Rattle.numbering.specs.Number.{rank, firstOf}
 use Rattle.numbering.specs.Point.{at}
 use Rattle.numbering.proofs.Numbering.{points-is, start-mono}
+use Rattle.numbering.proofs.Subspaces.{block-below}
 use Rattle.numbering.proofs.Rank.{rank-lt}
 use Rattle.numbering.proofs.Succession.{rank-first}
 use Rattle.hierarchy.specs.Turns.{valueAt}
@@ -40,8 +41,8 @@ use Rattle.surfaces.specs.Weights.{unit}
 use Rattle.surfaces.specs.Surface.{jointAt, rounded, estimateAt}
 use Rattle.surfaces.proofs.Cells.{joint-le}
 use Rattle.surfaces.proofs.Unit.{unit-pos}
-use Rattle.evaluation.specs.Steps.{VectorIn, firstOf, vectorsBefore, NextVector}
-use Rattle.evaluation.proofs.Blocks.{block-below, takenAt, taken-below, block-zero}
+use Rattle.evaluation.specs.Steps.{VectorIn, vectorsBefore, NextVector}
+use Rattle.evaluation.proofs.Blocks.{takenAt, taken-below, block-zero}
 use Rattle.evaluation.proofs.Parts.{high-size, low-size}
 
 -- ---- how many level vectors there are

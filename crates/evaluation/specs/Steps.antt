@@ -10,9 +10,9 @@ use lib.ListN.{length}
 use Rattle.naturals.specs.Sum.{sumTo}
 use Rattle.naturals.specs.Test.{if_then_else_}
 use Rattle.integers.specs.Half.{inLimit}
-use Rattle.numbering.specs.Count.{vectors, start, points}
+use Rattle.numbering.specs.Count.{vectors, points}
 use Rattle.numbering.specs.Point.{at}
-use Rattle.numbering.specs.Number.{rank}
+use Rattle.numbering.specs.Number.{rank, firstOf}
 use Rattle.hierarchy.specs.Turns.{valueAt}
 use Rattle.surfaces.specs.Weights.{unit, weight}
 
@@ -65,10 +65,7 @@ pub record VectorIn (d sum : ℕ) (ls : List ℕ) : Type 0 where
   pub total : sumTo (at ls) d ≡ sum
   pub rest : (t : ℕ) → d ≤ t → at ls t ≡ 0
 
--- The number of its first point, and how many level vectors come before it.
-unfoldable pub firstOf : ℕ → (ℕ → ℕ) → ℕ
-firstOf d l = start d (sumTo l d) + 2 ^ sumTo l d * rank l d
-
+-- How many level vectors come before it.
 unfoldable pub vectorsBefore : ℕ → (ℕ → ℕ) → ℕ
 vectorsBefore d l = sumTo (vectors d) (sumTo l d) + rank l d
 

@@ -5,6 +5,7 @@ pub mod Unrank
 pub mod Position
 pub mod Numbering
 pub mod Named
+pub mod Subspaces
 pub mod Ordering
 pub mod Succession
 pub mod Twos

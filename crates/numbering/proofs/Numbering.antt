@@ -11,7 +11,7 @@ use Rattle.naturals.specs.Sum.{sumTo}
 use Rattle.naturals.proofs.Sums.{sumTo-suc, sumTo-mono, sumTo-cong}
 use Rattle.numbering.specs.Count.{vectors, shell, start, points}
 use Rattle.numbering.specs.Point.{IsPoint}
-use Rattle.numbering.specs.Number.{rank, position, number}
+use Rattle.numbering.specs.Number.{rank, position, firstOf, number}
 use Rattle.numbering.specs.Inverse.{block, levelOf, sumAt, within, levelAt, indexOf, indexAt}
 use Rattle.numbering.proofs.Rank.{rank-lt}
 use Rattle.numbering.proofs.Block.{block-is, block-le, block-low, block-high}
@@ -42,7 +42,7 @@ start-mono d s t h = omega (arith, start-is d s, start-is d t, sumTo-mono (shell
 
 pub number-is : (d : ℕ) (l i : ℕ → ℕ) →
     number d l i ≡ start d (sumTo l d) + 2 ^ sumTo l d * rank l d + position l i d
-unfolding number
+unfolding number firstOf
 number-is d l i = refl
 
 pub number-in-shell : {d n : ℕ} {l i : ℕ → ℕ} → IsPoint d n l i → number d l i < start d (suc (sumTo l d))

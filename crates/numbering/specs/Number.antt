@@ -22,6 +22,10 @@ digit l i t = (i t - 1) / 2 * 2 ^ sumTo l t
 unfoldable pub position : (ℕ → ℕ) → (ℕ → ℕ) → ℕ → ℕ
 position l i d = sumTo (digit l i) d
 
--- The number of a point of d axes: all points of a smaller level sum, then 2^(level sum) for each earlier level vector, then the position.
+-- The number of the first point of a level vector of d axes: all points of a smaller level sum, then 2^(level sum) for each earlier level vector.
+unfoldable pub firstOf : ℕ → (ℕ → ℕ) → ℕ
+firstOf d l = start d (sumTo l d) + 2 ^ sumTo l d * rank l d
+
+-- The number of a point of d axes: that of the first point of its level vector, then the position.
 unfoldable pub number : ℕ → (ℕ → ℕ) → (ℕ → ℕ) → ℕ
-number d l i = start d (sumTo l d) + 2 ^ sumTo l d * rank l d + position l i d
+number d l i = firstOf d l + position l i d

@@ -7,7 +7,7 @@ use Rattle.naturals.specs.Sum.{sumTo}
 use Rattle.integers.specs.Half.{half}
 use Rattle.numbering.specs.Binomial.{choose}
 use Rattle.numbering.specs.Count.{vectors, shell, start, points}
-use Rattle.numbering.specs.Number.{ending, rank, digit, position, number}
+use Rattle.numbering.specs.Number.{ending, rank, digit, position, firstOf, number}
 use Rattle.numbering.specs.Inverse.{block, lastLevel, levelOf, sumAt, within, levelAt, indexOf, indexAt}
 use Rattle.numbering.specs.Parent.{isBorder, twos, parentLevel, parentIndex, update, parent}
 use Rattle.hierarchy.specs.Turns.{valueAt, valuesOf, sumOn, forward}
@@ -33,5 +33,5 @@ abbrev pub Cut : Type 0
 Cut = report (9 ∷ []) ≡ 114 ∷ 101 ∷ 102 ∷ 117 ∷ 115 ∷ 101 ∷ 100 ∷ 32 ∷ 49 ∷ 49 ∷ 10 ∷ []
 
 pub worked-reports : Example × Negative × Cut
-unfolding digitsOf decimal signed headingOf pointLine pointLines refusedLine tableText report sumTo choose vectors shell start points checkShape block lastLevel levelOf sumAt within levelAt indexOf indexAt ending rank digit position number isBorder twos parentLevel parentIndex update parent trailingZeros half valueAt valuesOf sumOn forward scaled swept tableOf codeOf neighbour coefficientsOf below groups largest limited readNumber rateOf prepended readRates ended readTable readContents
+unfolding digitsOf decimal signed headingOf pointLine pointLines refusedLine tableText report sumTo choose vectors shell start points checkShape block lastLevel levelOf sumAt within levelAt indexOf indexAt ending rank digit position firstOf number isBorder twos parentLevel parentIndex update parent trailingZeros half valueAt valuesOf sumOn forward scaled swept tableOf codeOf neighbour coefficientsOf below groups largest limited readNumber rateOf prepended readRates ended readTable readContents
 worked-reports = (refl, refl, refl)

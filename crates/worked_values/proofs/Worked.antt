@@ -6,7 +6,7 @@ use Rattle.naturals.specs.Test.{all}
 use Rattle.numbering.specs.Binomial.{choose}
 use Rattle.numbering.specs.Count.{vectors, shell, start, points}
 use Rattle.numbering.specs.Point.{isIndex, indexed, isPoint}
-use Rattle.numbering.specs.Number.{ending, rank, digit, position, number}
+use Rattle.numbering.specs.Number.{ending, rank, digit, position, firstOf, number}
 use Rattle.shapes.specs.Shapes.{checkShape, counted}
 use Rattle.points.specs.Points.{checkLists, checkPoint}
 use Rattle.numbers.specs.Numbers.{numberOfPoint}
@@ -29,7 +29,7 @@ use Rattle.estimates.specs.Estimates.{firstSampled, checkForward, insideAt, fir
 use Rattle.worked_values.specs.Worked.{AllHold, examples}
 
 pub worked-values : AllHold examples
-unfolding sumTo all choose vectors shell start points isIndex indexed isPoint ending rank digit position number checkShape counted checkLists checkPoint numberOfPoint half isRate block lastLevel levelOf sumAt within levelAt indexOf indexAt isBorder twos parentLevel parentIndex update parent trailingZeros valueAt valuesOf sumOn forward scaled swept tableOf codeOf neighbour firstFailing checkTable rateAt checkRates coefficientsOf ratesToCoefficients total floor inLimit weighted weightedSum unit isCoordinate distance weight weightOn joint jointAt rounded estimateAt has checkContents checkState contentAt adopt firstSampled checkForward insideAt firstOutside checkCoordinates estimate
+unfolding sumTo all choose vectors shell start points isIndex indexed isPoint ending rank digit position firstOf number checkShape counted checkLists checkPoint numberOfPoint half isRate block lastLevel levelOf sumAt within levelAt indexOf indexAt isBorder twos parentLevel parentIndex update parent trailingZeros valueAt valuesOf sumOn forward scaled swept tableOf codeOf neighbour firstFailing checkTable rateAt checkRates coefficientsOf ratesToCoefficients total floor inLimit weighted weightedSum unit isCoordinate distance weight weightOn joint jointAt rounded estimateAt has checkContents checkState contentAt adopt firstSampled checkForward insideAt firstOutside checkCoordinates estimate
 worked-values = (
   refl,
   (refl, (refl, (refl, (refl, (refl, (refl, (refl, ((refl, refl), ((refl, refl), ((refl, refl), ((refl, refl), ((refl, refl), tt)))))))))))),
