@@ -1,1 +1,4 @@
-pub mod Coded
+pub mod Beside
+pub mod Coding
+pub mod Coarsening
+pub mod Seeing

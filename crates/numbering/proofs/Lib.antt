@@ -10,3 +10,4 @@ pub mod Ordering
 pub mod Succession
 pub mod Twos
 pub mod Parents
+pub mod ParentPlaces

@@ -166,7 +166,7 @@ module _ (d n p : ℕ) (lt : p < points d n) where
   unfolding levelAt
   levels-rank = rank-of-level d (sumAt d n p) (within d n p / 2 ^ sumAt d n p) rank-within
 
-  indices-position : position (levelAt d n p) (indexAt d n p) d ≡ within d n p % 2 ^ sumAt d n p
+  pub indices-position : position (levelAt d n p) (indexAt d n p) d ≡ within d n p % 2 ^ sumAt d n p
   indices-position =
       position-cong (levelAt d n p) (indexAt d n p) (levelAt d n p) _ d (λ t h. refl) (λ t h. index-in d n p t h)
       ∙ position-of-index (levelAt d n p) (within d n p % 2 ^ sumAt d n p) d

@@ -200,7 +200,7 @@ module _ {d n : ℕ} {l i : ℕ → ℕ} (p : IsPoint d n l i) (few : n ≤ 8) (
   within-borders : Inside (l t) (numerator side (i t))
   within-borders = inside side (l t) (i t) (p .odd t axis) (p .below t axis) e
 
-  parent-sum : sumTo (update l t (parentLevel (l t) (numerator side (i t)))) d < sumTo l d
+  pub parent-sum : sumTo (update l t (parentLevel (l t) (numerator side (i t)))) d < sumTo l d
   parent-sum =
       omega (
         arith,

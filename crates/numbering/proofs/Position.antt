@@ -46,7 +46,7 @@ position-lt {l = l} {i = i} p (suc k) h =
     )
 
 -- The lowest digits of the position are those of the first axes.
-pow-split : (l : ℕ → ℕ) (k m : ℕ) → k ≤ m → 2 ^ sumTo l m ≡ 2 ^ (sumTo l m - sumTo l k) * 2 ^ sumTo l k
+pub pow-split : (l : ℕ → ℕ) (k m : ℕ) → k ≤ m → 2 ^ sumTo l m ≡ 2 ^ (sumTo l m - sumTo l k) * 2 ^ sumTo l k
 pow-split l k m h =
     ap (λ (n : ℕ). 2 ^ n) (omega (arith, sumTo-mono l k m h)) ∙ pow-add 2 (sumTo l m - sumTo l k) (sumTo l k)
 

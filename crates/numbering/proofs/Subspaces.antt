@@ -10,9 +10,9 @@ use Rattle.naturals.specs.Sum.{sumTo}
 use Rattle.naturals.specs.Test.{if_then_else_}
 use Rattle.numbering.specs.Count.{start, points}
 use Rattle.numbering.specs.Number.{rank, position, firstOf, number}
-use Rattle.numbering.specs.Inverse.{levelAt, indexOf, indexAt}
+use Rattle.numbering.specs.Inverse.{sumAt, within, levelAt, indexOf, indexAt}
 use Rattle.numbering.proofs.Position.{position-cong, position-of-index, index-odd, index-below}
-use Rattle.numbering.proofs.Numbering.{number-lt}
+use Rattle.numbering.proofs.Numbering.{number-lt, indices-position, number-of-point}
 use Rattle.numbering.proofs.Named.{Named, levels-again, indices-again}
 
 pub first-is : (d : ℕ) (l : ℕ → ℕ) → firstOf d l ≡ start d (sumTo l d) + 2 ^ sumTo l d * rank l d
@@ -63,3 +63,10 @@ module _ (d n : ℕ) (l : ℕ → ℕ) (rest : (t : ℕ) → d ≤ t → l t ≡
 
   pub block-indices : indexAt d n (firstOf d l + j) ≡ indicesTo d l j
   block-indices = ap (indexAt d n) (sym block-number) ∙ indices-again block-point
+
+-- A number lies as far behind the first of its level vector as its position says.
+pub number-behind-first : (d n p : ℕ) → p < points d n → firstOf d (levelAt d n p) + within d n p % 2 ^ sumAt d n p ≡ p
+number-behind-first d n p lt =
+    ap (λ (q : ℕ). firstOf d (levelAt d n p) + q) (sym (indices-position d n p lt))
+    ∙ sym (number-from-first d (levelAt d n p) (indexAt d n p))
+    ∙ number-of-point d n p lt

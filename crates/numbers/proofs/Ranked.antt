@@ -11,8 +11,8 @@ use Rattle.numbering.specs.Count.{vectors}
 use Rattle.numbering.specs.Number.{rank}
 use Rattle.numbering.proofs.Vectors.{vectors-more}
 use Rattle.numbering.proofs.Rank.{rank-zero, rank-step, rank-lt}
+use Rattle.shapes.proofs.Totals.{vectors-small}
 use Rattle.numbers.proofs.Summed.{Summed, summed-starts, summed-steps, summed-so-far, summed-fits}
-use Rattle.numbers.proofs.Widths.{vectors-small}
 
 pub record Ranked (l : ℕ → ℕ) (d t r sum : ℕ) : Type 0 where
   pub sums : Summed l d t sum
@@ -54,9 +54,9 @@ ranked-fits {l} {d} {t} {r} {sum} ranked h high small a next =
       ranked .ranks,
       rank-lt l t,
       vectors-more t (sumTo l t),
-      vectors-small (suc t) (sumTo l t) (omega arith) (omega arith) below,
+      vectors-small (suc t) (omega arith) (omega arith) (sumTo l t) below,
       next,
-      vectors-small (t + 1) (sum + l t) (omega arith) (omega arith) (omega (arith, summed-fits (ranked .sums) h)),
+      vectors-small (t + 1) (omega arith) (omega arith) (sum + l t) (omega (arith, summed-fits (ranked .sums) h)),
     )
 
 pub ranked-ends : {l : ℕ → ℕ} {d t r sum : ℕ} → Ranked l d t r sum → d ≤ t → r ≡ rank l d

@@ -1,5 +1,5 @@
--- The point of a number, read off what the search for its level sum finds: the rank and the position are the high and the low bits of what is left,
--- and the levels and indices of these are those of the point.
+-- The level vector of a number, read off what the search for its level sum finds: the rank and the position are the high and the low bits of what is
+-- left, and the levels of this rank are those of the point. The point of a number, read off its level vector and the position there.
 -- Assumes nothing.
 use mathlib.Core.Path.{_≡_, sym, ap, ap₂, _∙_}
 use mathlib.Core.List.{List}
@@ -11,18 +11,18 @@ use Rattle.naturals.proofs.Sums.{sumTo-cong}
 use Rattle.numbering.specs.Count.{vectors, shell, points}
 use Rattle.numbering.specs.Point.{at}
 use Rattle.numbering.specs.Inverse.{sumAt, within, levelOf, levelAt, indexOf, indexAt}
-use Rattle.numbering.proofs.Numbering.{rank-within, levels-sum, index-in, index-cong, index-zero}
+use Rattle.numbering.proofs.Numbering.{rank-within, point-of-number, index-in, index-cong, index-zero}
 use Rattle.points.specs.Points.{eight, pointAt}
 use Rattle.points.proofs.Eight.{eight-at, eight-cong}
 use Rattle.numbers.specs.Steps.{Lies, indicesOf}
 use Rattle.numbers.proofs.Places.{sum-found, within-found}
 use Rattle.numbers.proofs.Unpacked.{indices-before, indices-past}
 
-module _ (d n p : ℕ) {s left : ℕ} (high : d ≤ 8) (lt : p < points d n) (lies : Lies (shell d) n p s left) where
+module _ (d n p : ℕ) {s left : ℕ} (lt : p < points d n) (lies : Lies (shell d) n p s left) where
   rank-found : within d n p / 2 ^ sumAt d n p ≡ left / 2 ^ s
   rank-found = ap₂ (λ (w k : ℕ). w / 2 ^ k) (within-found d n p lies) (sum-found d n p lies)
 
-  position-found : within d n p % 2 ^ sumAt d n p ≡ left % 2 ^ s
+  pub position-found : within d n p % 2 ^ sumAt d n p ≡ left % 2 ^ s
   position-found = ap₂ (λ (w k : ℕ). w % 2 ^ k) (within-found d n p lies) (sum-found d n p lies)
 
   pub rank-below : left / 2 ^ s < vectors d s
@@ -32,29 +32,31 @@ module _ (d n p : ℕ) {s left : ℕ} (high : d ≤ 8) (lt : p < points d n) (li
   unfolding levelAt
   level-found t = sym (ap₂ (λ (k r : ℕ). levelOf d k r t) (sum-found d n p lies) rank-found)
 
-  module _ {levels : List ℕ} (made : levels ≡ eight (levelOf d s (left / 2 ^ s))) where
-    level-at : (t : ℕ) → t < 8 → at levels t ≡ levelAt d n p t
-    level-at t h = rw made (eight-at (levelOf d s (left / 2 ^ s)) t h ∙ level-found t)
+  pub levels-found : eight (levelOf d s (left / 2 ^ s)) ≡ eight (levelAt d n p)
+  levels-found = eight-cong (levelOf d s (left / 2 ^ s)) (levelAt d n p) (λ t h. level-found t)
 
-    pub levels-sum-found : sumTo (at levels) d ≡ s
-    levels-sum-found =
-        sumTo-cong (at levels) (levelAt d n p) d (λ t h. level-at t (omega arith)) ∙ levels-sum d n p lt ∙ sum-found d n p lies
+module _ (d n p : ℕ) (high : d ≤ 8) (lt : p < points d n) {levels : List ℕ} (made : levels ≡ eight (levelAt d n p)) where
+  level-at : (t : ℕ) → t < 8 → at levels t ≡ levelAt d n p t
+  level-at t h = rw made (eight-at (levelAt d n p) t h)
 
-    index-found : (t : ℕ) → t < 8 → indicesOf d (at levels) (left % 2 ^ s) t ≡ indexAt d n p t
+  pub levels-few : sumTo (at levels) d ≤ n
+  levels-few =
+      omega (arith, sumTo-cong (at levels) (levelAt d n p) d (λ t h. level-at t (omega arith)), point-of-number d n p lt .sum)
+
+  module _ (q : ℕ) (low : q ≡ within d n p % 2 ^ sumAt d n p) where
+    index-found : (t : ℕ) → t < 8 → indicesOf d (at levels) q t ≡ indexAt d n p t
     index-found t h =
         le-or-lt d t
-        (λ past. indices-past d (at levels) (left % 2 ^ s) t past ∙ sym (index-zero d n p t past))
+        (λ past. indices-past d (at levels) q t past ∙ sym (index-zero d n p t past))
         (λ before.
-        indices-before d (at levels) (left % 2 ^ s) t before
-        ∙ index-cong (at levels) (levelAt d n p) (left % 2 ^ s) t (λ u le. level-at u (omega arith))
-        ∙ sym (index-in d n p t before ∙ ap (λ (q : ℕ). indexOf (levelAt d n p) q t) position-found))
+        indices-before d (at levels) q t before
+        ∙ index-cong (at levels) (levelAt d n p) q t (λ u le. level-at u (omega arith))
+        ∙ ap (λ (x : ℕ). indexOf (levelAt d n p) x t) low
+        ∙ sym (index-in d n p t before))
 
-    pub point-found : {indices : List ℕ} (q : ℕ) → q ≡ left % 2 ^ s → indices ≡ eight (indicesOf d (at levels) q) →
+    pub point-found : {indices : List ℕ} → indices ≡ eight (indicesOf d (at levels) q) →
         record { levels = levels; indices = indices } ≡ pointAt d n p
     unfolding pointAt
-    point-found q low written =
-        ap₂ (λ (ls is : List ℕ). record { levels = ls; indices = is })
-        (made ∙ eight-cong (levelOf d s (left / 2 ^ s)) (levelAt d n p) (λ t h. level-found t))
-        (written
-        ∙ ap (λ (x : ℕ). eight (indicesOf d (at levels) x)) low
-        ∙ eight-cong (indicesOf d (at levels) (left % 2 ^ s)) (indexAt d n p) index-found)
+    point-found written =
+        ap₂ (λ (ls is : List ℕ). record { levels = ls; indices = is }) made
+        (written ∙ eight-cong (indicesOf d (at levels) q) (indexAt d n p) index-found)

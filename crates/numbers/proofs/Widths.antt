@@ -1,9 +1,9 @@
--- What stays within the widths: the counts of level vectors and of points of up to 8 axes and level sums up to 8, and digits of up to 8 bits.
+-- What stays within the widths: the counts of points of up to 8 axes and level sums up to 8, and digits of up to 8 bits.
 -- True since the largest count of points is below 2^32.
 -- Assumes nothing.
 use mathlib.Core.Path.{_≡_, sym, _∙_}
 use Prim.Native.Nat.{ℕ, suc, _-_, _*_, _/_, _%_, _^_, _≤_, _<_}
-use native.Mathlib.Nat.{mul-comm, mul-le-mul-left, mod-eq-of-lt, mod-lt}
+use native.Mathlib.Nat.{mul-comm, mod-eq-of-lt, mod-lt}
 use native.Mathlib.Omega.{arith}
 use lib.Pow.{pow-pos, pow-mono, split}
 use Rattle.numbering.specs.Count.{vectors, shell}
@@ -11,12 +11,9 @@ use Rattle.numbering.proofs.Numbering.{shell-is, start-suc}
 use Rattle.shapes.proofs.Totals.{start-small}
 
 module _ (d j : ℕ) (low : 1 ≤ d) (high : d ≤ 8) (short : j ≤ 8) where
-  pub shell-small : shell d j < 4294967296
+  shell-small : shell d j < 4294967296
   shell-small =
       omega (arith, shell-is d j, start-suc d j, start-small d low high (suc j) (omega arith))
-
-  pub vectors-small : vectors d j < 4294967296
-  vectors-small = omega (arith, shell-small, shell-is d j, mul-le-mul-left (vectors d j) (pow-pos j), mul-comm (2 ^ j) (vectors d j))
 
   -- A count of level vectors, shifted, is that of their points.
   pub shell-shifted : vectors d j * 2 ^ j % 2 ^ 64 ≡ shell d j

@@ -13,9 +13,10 @@ ghost use Rattle.naturals.specs.Sum.{sumTo};
 ghost use Rattle.numbering.specs.declared.Order.the-variants.{Same};
 ghost use Rattle.numbering.specs.Count.{vectors, shell, points};
 ghost use Rattle.numbering.specs.Point.{at, IsPoint};
-ghost use Rattle.numbering.specs.Number.{number, rank, position, ending};
-ghost use Rattle.numbering.specs.Inverse.{levelOf};
+ghost use Rattle.numbering.specs.Number.{firstOf, number, rank, position, ending};
+ghost use Rattle.numbering.specs.Inverse.{levelOf, sumAt, within, levelAt};
 ghost use Rattle.numbering.specs.Order.{orderOfLevels};
+ghost use Rattle.shapes.specs.Rows.{Binomials};
 ghost use Rattle.points.specs.Points.{eight, pointAt};
 ghost use Rattle.numbers.specs.Numbers.{numberOfPoint, pointOfNumber};
 ghost use Rattle.numbers.specs.Steps.{Lies, indicesOf};
@@ -28,7 +29,7 @@ pub enum Numbered {
 // ---- from point to number
 
 // The level sum of the first axes.
-fn level_sum(axes: usize, levels: &[u32]) -> u32
+pub fn level_sum(axes: usize, levels: &[u32]) -> u32
     requires { ⌜ (axes ≤ length (now levels)) × (sumTo (at (now levels)) axes ≤ 8) ⌝ }
     ensures { λ r. ⌜ r ≡ sumTo (at (now (levels .entry))) axes ⌝ }
 {
@@ -42,8 +43,8 @@ fn level_sum(axes: usize, levels: &[u32]) -> u32
 }
 
 // The rank of a level vector: two entries of the table for each axis.
-fn vector_rank(axes: usize, levels: &[u32]) -> u64
-    requires { ⌜ (axes ≤ 8) × (axes ≤ length (now levels)) × (sumTo (at (now levels)) axes ≤ 8) ⌝ }
+fn vector_rank(rows: &[[u16; 9]; 8], axes: usize, levels: &[u32]) -> u64
+    requires { ⌜ Binomials (now rows) × (axes ≤ 8) × (axes ≤ length (now levels)) × (sumTo (at (now levels)) axes ≤ 8) ⌝ }
     ensures { λ r. ⌜ r ≡ rank (at (now (levels .entry))) axes ⌝ }
 {
     let mut rank: u64 = 0;
@@ -52,7 +53,7 @@ fn vector_rank(axes: usize, levels: &[u32]) -> u64
     while t < axes {
         let next = sum + levels[t];
         let row = t as u32 + 1;
-        rank = rank + shapes::vector_count(row, next) - shapes::vector_count(row, sum);
+        rank = rank + shapes::vector_count(rows, row, next) - shapes::vector_count(rows, row, sum);
         sum = next;
         t += 1;
     }
@@ -77,16 +78,24 @@ fn position_at(axes: usize, levels: &[u32], indices: &[u32]) -> u64
     position
 }
 
+// The number of the first point of a level vector of these axes, whose levels sum to at most 8.
+pub fn first_of(axes: u32, levels: &[u32]) -> u64
+    requires { ⌜ (1 ≤ axes) × (axes ≤ 8) × (axes ≤ length (now levels)) × (sumTo (at (now levels)) axes ≤ 8) ⌝ }
+    ensures { λ r. ⌜ r ≡ firstOf axes (at (now (levels .entry))) ⌝ }
+{
+    let rows = shapes::rows();
+    let count = axes as usize;
+    let sum = level_sum(count, levels);
+    let rank = vector_rank(&rows, count, levels);
+    shapes::start_of(&rows, axes, sum) + (rank << sum)
+}
+
 // The number of a point of these axes, whose levels sum to at most 8.
 pub fn number_at(axes: u32, levels: &[u32], indices: &[u32]) -> u64
     requires { ⌜ (1 ≤ axes) × (axes ≤ 8) × (axes ≤ length (now levels)) × (axes ≤ length (now indices)) × IsPoint axes 8 (at (now levels)) (at (now indices)) ⌝ }
     ensures { λ r. ⌜ r ≡ number axes (at (now (levels .entry))) (at (now (indices .entry))) ⌝ }
 {
-    let count = axes as usize;
-    let sum = level_sum(count, levels);
-    let rank = vector_rank(count, levels);
-    let position = position_at(count, levels, indices);
-    shapes::first_number(axes, sum) + (rank << sum) + position
+    first_of(axes, levels) + position_at(axes as usize, levels, indices)
 }
 
 // The number of a point.
@@ -108,14 +117,14 @@ struct Place {
 }
 
 // The level sum of a point number, and how many points of that sum come before it.
-fn shell_of(axes: u32, level: u32, number: u64) -> Place
-    requires { ⌜ (1 ≤ axes) × (axes ≤ 8) × (level ≤ 8) × (number < points axes level) ⌝ }
+fn shell_of(rows: &[[u16; 9]; 8], axes: u32, level: u32, number: u64) -> Place
+    requires { ⌜ Binomials (now rows) × (1 ≤ axes) × (axes ≤ 8) × (level ≤ 8) × (number < points axes level) ⌝ }
     ensures { λ r. ⌜ Lies (shell axes) level number (r .block) (r .rest) ⌝ }
 {
     let mut sum: u32 = 0;
     let mut rest = number;
     loop {
-        let size = shapes::vector_count(axes, sum) << sum;
+        let size = shapes::vector_count(rows, axes, sum) << sum;
         if rest < size {
             return Place {
                 block: sum,
@@ -128,14 +137,14 @@ fn shell_of(axes: u32, level: u32, number: u64) -> Place
 }
 
 // The last level of the level vector of axes + 1 axes with this rank and level sum, and the rank of its other levels.
-fn last_level(axes: u32, sum: u32, rank: u64) -> Place
-    requires { ⌜ (1 ≤ axes) × (axes ≤ 8) × (sum ≤ 8) × (rank < vectors (suc axes) sum) ⌝ }
+fn last_level(rows: &[[u16; 9]; 8], axes: u32, sum: u32, rank: u64) -> Place
+    requires { ⌜ Binomials (now rows) × (1 ≤ axes) × (axes ≤ 8) × (sum ≤ 8) × (rank < vectors (suc axes) sum) ⌝ }
     ensures { λ r. ⌜ Lies (ending axes sum) sum rank (r .block) (r .rest) ⌝ }
 {
     let mut level: u32 = 0;
     let mut rest = rank;
     loop {
-        let size = shapes::vector_count(axes, sum - level);
+        let size = shapes::vector_count(rows, axes, sum - level);
         if rest < size {
             return Place {
                 block: level,
@@ -148,8 +157,8 @@ fn last_level(axes: u32, sum: u32, rank: u64) -> Place
 }
 
 // The level vector of this rank and level sum, from the last axis down.
-fn levels_of(axes: u32, sum: u32, rank: u64) -> [u32; 8]
-    requires { ⌜ (1 ≤ axes) × (axes ≤ 8) × (sum ≤ 8) × (rank < vectors axes sum) ⌝ }
+fn levels_of(rows: &[[u16; 9]; 8], axes: u32, sum: u32, rank: u64) -> [u32; 8]
+    requires { ⌜ Binomials (now rows) × (1 ≤ axes) × (axes ≤ 8) × (sum ≤ 8) × (rank < vectors axes sum) ⌝ }
     ensures { λ r. ⌜ r ≡ eight (levelOf axes sum rank) ⌝ }
 {
     let mut levels = [0u32; 8];
@@ -158,7 +167,7 @@ fn levels_of(axes: u32, sum: u32, rank: u64) -> [u32; 8]
     let mut rest = rank;
     while 1 < k {
         k -= 1;
-        let place = last_level(k, left, rest);
+        let place = last_level(rows, k, left, rest);
         levels[k as usize] = place.block;
         left -= place.block;
         rest = place.rest;
@@ -168,7 +177,7 @@ fn levels_of(axes: u32, sum: u32, rank: u64) -> [u32; 8]
 }
 
 // The lowest bits of a number.
-fn low_bits(x: u64, bits: u32) -> u64
+pub fn low_bits(x: u64, bits: u32) -> u64
     requires { ⌜ bits ≤ 8 ⌝ }
     ensures { λ r. ⌜ r ≡ x % 2 ^ bits ⌝ }
 {
@@ -193,16 +202,38 @@ fn indices_of(axes: u32, levels: [u32; 8], position: u64) -> [u32; 8]
     indices
 }
 
+// The level vector that a point lies in: its level sum, its levels, and how many points of it come before the point.
+pub struct Placed {
+    pub sum: u32,
+    pub levels: [u32; 8],
+    pub position: u64,
+}
+
+// Where point number `number` of these axes and top level lies.
+pub fn vector_at(axes: u32, level: u32, number: u64) -> Placed
+    requires { ⌜ (1 ≤ axes) × (axes ≤ 8) × (level ≤ 8) × (number < points axes level) ⌝ }
+    ensures { λ r. ⌜ (r .sum ≡ sumAt axes level number) × (r .levels ≡ eight (levelAt axes level number)) × (r .position ≡ within axes level number % 2 ^ sumAt axes level number) ⌝ }
+{
+    let rows = shapes::rows();
+    let place = shell_of(&rows, axes, level, number);
+    let sum = place.block;
+    let rest = place.rest;
+    let levels = levels_of(&rows, axes, sum, rest >> sum);
+    Placed {
+        sum: sum,
+        levels: levels,
+        position: low_bits(rest, sum),
+    }
+}
+
 // Point number `number` of these axes and top level.
 pub fn point_at(axes: u32, level: u32, number: u64) -> Point
     requires { ⌜ (1 ≤ axes) × (axes ≤ 8) × (level ≤ 8) × (number < points axes level) ⌝ }
     ensures { λ r. ⌜ r ≡ pointAt axes level number ⌝ }
 {
-    let place = shell_of(axes, level, number);
-    let sum = place.block;
-    let rest = place.rest;
-    let levels = levels_of(axes, sum, rest >> sum);
-    let indices = indices_of(axes, levels, low_bits(rest, sum));
+    let placed = vector_at(axes, level, number);
+    let levels = placed.levels;
+    let indices = indices_of(axes, levels, placed.position);
     Point {
         levels: levels,
         indices: indices,

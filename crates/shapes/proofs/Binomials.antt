@@ -1,20 +1,20 @@
 -- The rule of the table of binomials: row d − 1, column j holds C(d − 1 + j, j), for every d from 1 to 8 and j from 0 to 8.
 -- One test, which antt computes, compares all 72 entries with the binomials, and the law carries it to each of them.
 -- Assumes nothing.
-use mathlib.Core.Path.{_≡_, refl}
+use mathlib.Core.Path.{_≡_, refl, sym, _∙_}
 use mathlib.Core.Bool.{Bool, true}
 use mathlib.Core.List.{List, [], _∷_}
 use Prim.Native.Nat.{ℕ, zero, suc, _+_, _-_, _≤_}
 use native.Mathlib.Omega.{arith}
 use lib.Dec.{eqb}
-use lib.ListN.{getD}
 use borrow.Author.Tests.{eqb-true}
 use Rattle.naturals.specs.Test.{all}
 use Rattle.naturals.proofs.Tests.{all-at}
 use Rattle.numbering.specs.Binomial.{choose}
 use Rattle.numbering.specs.Count.{vectors}
+use Rattle.shapes.specs.Rows.{entry, Binomials}
 
--- The table as the code has it: the proof of `vector_count` is refused where the two differ.
+-- The table as the code has it: the proof of `rows` is refused where the two differ.
 unfoldable pub rows : List (List ℕ)
 rows =
     (1 ∷ 1 ∷ 1 ∷ 1 ∷ 1 ∷ 1 ∷ 1 ∷ 1 ∷ 1 ∷ [])
@@ -27,11 +27,8 @@ rows =
     ∷ (1 ∷ 8 ∷ 36 ∷ 120 ∷ 330 ∷ 792 ∷ 1716 ∷ 3432 ∷ 6435 ∷ [])
     ∷ []
 
-abbrev pub entry : ℕ → ℕ → ℕ
-entry row column = getD (getD rows row []) column 0
-
 entryRight : ℕ → ℕ → Bool
-entryRight row column = eqb (entry row column) (choose (row + column) column)
+entryRight row column = eqb (entry rows row column) (choose (row + column) column)
 
 rowRight : ℕ → Bool
 rowRight row = all (entryRight row) 9
@@ -40,14 +37,17 @@ all-right : all rowRight 8 ≡ true
 unfolding all rowRight entryRight rows choose
 all-right = refl
 
-pub binomials : (d j : ℕ) → 1 ≤ d → d ≤ 8 → j ≤ 8 → entry (d - 1) j ≡ choose (d - 1 + j) j
+binomials : (d j : ℕ) → 1 ≤ d → d ≤ 8 → j ≤ 8 → entry rows (d - 1) j ≡ choose (d - 1 + j) j
 unfolding rowRight entryRight
 binomials d j low high short =
     let row : rowRight (d - 1) ≡ true = all-at rowRight 8 all-right (d - 1) (omega arith) in
-    eqb-true (entry (d - 1) j) (choose (d - 1 + j) j) (all-at (entryRight (d - 1)) 9 row j (omega arith))
+    eqb-true (entry rows (d - 1) j) (choose (d - 1 + j) j) (all-at (entryRight (d - 1)) 9 row j (omega arith))
 
 -- The count of level vectors is that binomial.
-pub vectors-choose : (d j : ℕ) → 1 ≤ d → vectors d j ≡ choose (d - 1 + j) j
+vectors-choose : (d j : ℕ) → 1 ≤ d → vectors d j ≡ choose (d - 1 + j) j
 unfolding vectors
 vectors-choose zero j low = omega arith
 vectors-choose (suc k) j low = let less : suc k - 1 ≡ k = omega arith in rw less
+
+pub rows-hold : Binomials rows
+rows-hold = record { holds = λ d j low high short. binomials d j low high short ∙ sym (vectors-choose d j low) }

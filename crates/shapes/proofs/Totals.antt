@@ -4,9 +4,10 @@
 use mathlib.Core.Path.{_≡_, refl}
 use mathlib.Core.Bool.{Bool, true}
 use Prim.Native.Nat.{ℕ, suc, _+_, _-_, _*_, _^_, _%_, _≤_, _<_}
-use native.Mathlib.Nat.{mul-comm, mod-eq-of-lt}
+use native.Mathlib.Nat.{mul-comm, mul-le-mul-left, mod-eq-of-lt}
 use native.Mathlib.Omega.{arith}
 use lib.Dec.{ltb}
+use lib.Pow.{pow-pos}
 use borrow.Author.Tests.{ltb-true}
 use Rattle.naturals.specs.Sum.{sumTo}
 use Rattle.naturals.specs.Test.{all}
@@ -41,6 +42,12 @@ module _ (d : ℕ) (low : 1 ≤ d) (high : d ≤ 8) where
   pub start-small : (s : ℕ) → s ≤ 9 → start d s < 4294967296
   unfolding start
   start-small s le = omega (arith, largest-small, sumTo-mono (shell d) s 9 le)
+
+  pub vectors-small : (j : ℕ) → j ≤ 8 → vectors d j < 4294967296
+  unfolding start shell
+  vectors-small j le =
+      let one : vectors d j ≤ shell d j = omega (arith, mul-le-mul-left (vectors d j) (pow-pos j), mul-comm (2 ^ j) (vectors d j)) in
+      omega (arith, one, largest-small, term-le (shell d) 9 j (omega arith))
 
   -- The code's shift is exact.
   shifted : (j : ℕ) → j ≤ 8 → vectors d j * 2 ^ j % 2 ^ 64 ≡ shell d j

@@ -5,6 +5,7 @@ ghost use mathlib.Core.Path.{_≡_};
 ghost use Prim.Native.Nat.{_≤_};
 ghost use Rattle.numbering.specs.Count.{vectors, start};
 ghost use Rattle.shapes.specs.Shapes.{checkShape, checkAxis, counted};
+ghost use Rattle.shapes.specs.Rows.{Binomials};
 
 // A number of axes d and a top level n (document 01: a shape).
 pub struct Shape {
@@ -18,7 +19,7 @@ pub enum Counted {
 }
 
 // C(d − 1 + j, j), how many level vectors of d axes have the level sum j: a row for each d from 1 to 8, j from 0 to 8.
-const ROWS: [[u64; 9]; 8] = [
+const ROWS: [[u16; 9]; 8] = [
     [1, 1, 1, 1, 1, 1, 1, 1, 1],
     [1, 2, 3, 4, 5, 6, 7, 8, 9],
     [1, 3, 6, 10, 15, 21, 28, 36, 45],
@@ -60,14 +61,35 @@ pub fn check_axis(shape: Shape, axis: u32) -> Verdict
     Verdict::Passed
 }
 
+// The table, to be built once and lent to what reads it.
+pub fn rows() -> [[u16; 9]; 8]
+    ensures { λ r. ⌜ Binomials r ⌝ }
+{
+    ROWS
+}
+
 // How many level vectors of these axes have this level sum.
-pub fn vector_count(axes: u32, sum: u32) -> u64
-    requires { ⌜ (1 ≤ axes) × (axes ≤ 8) × (sum ≤ 8) ⌝ }
+pub fn vector_count(rows: &[[u16; 9]; 8], axes: u32, sum: u32) -> u64
+    requires { ⌜ Binomials (now rows) × (1 ≤ axes) × (axes ≤ 8) × (sum ≤ 8) ⌝ }
     ensures { λ r. ⌜ r ≡ vectors axes sum ⌝ }
 {
     let row = (axes - 1) as usize;
     let column = sum as usize;
-    ROWS[row][column]
+    rows[row][column] as u64
+}
+
+// How many points of these axes have a level sum below this one, from a lent table.
+pub fn start_of(rows: &[[u16; 9]; 8], axes: u32, sum: u32) -> u64
+    requires { ⌜ Binomials (now rows) × (1 ≤ axes) × (axes ≤ 8) × (sum ≤ 9) ⌝ }
+    ensures { λ r. ⌜ r ≡ start axes sum ⌝ }
+{
+    let mut total: u64 = 0;
+    let mut j: u32 = 0;
+    while j < sum {
+        total += vector_count(rows, axes, j) << j;
+        j += 1;
+    }
+    total
 }
 
 // How many points of these axes have a level sum below this one.
@@ -75,13 +97,8 @@ pub fn first_number(axes: u32, sum: u32) -> u64
     requires { ⌜ (1 ≤ axes) × (axes ≤ 8) × (sum ≤ 9) ⌝ }
     ensures { λ r. ⌜ r ≡ start axes sum ⌝ }
 {
-    let mut total: u64 = 0;
-    let mut j: u32 = 0;
-    while j < sum {
-        total += vector_count(axes, j) << j;
-        j += 1;
-    }
-    total
+    let rows = rows();
+    start_of(&rows, axes, sum)
 }
 
 // How many points a shape has.

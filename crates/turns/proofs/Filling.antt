@@ -1,6 +1,6 @@
--- The steps back of a table from point 0 up, as the loop of `fill` makes them: below the point the table holds the former one, above it what it held.
--- At the point, the former value is the one there plus half the parents' sum, and turning it forward gives back the one there, which is within the
--- limit: so the point is accepted exactly where that sum is even and the former value within the limit.
+-- The steps back of a table from point 0 up, a level vector at a time, as the loop of `fill` makes them: below the point the table holds the former one,
+-- above it what it held. The parents of the points of a level vector stand before it and hold the former table already, so that a raised value is the
+-- former one, and turning it forward gives back the one there, which is within the limit: the point is accepted exactly where the step is.
 -- Assumes nothing.
 use mathlib.Core.Path.{_≡_, refl, ap, ap₂, sym, _∙_}
 use mathlib.Core.Bool.{Bool, true, false, _&&_}
@@ -8,8 +8,8 @@ use mathlib.Core.List.{List}
 use Prim.Native.Nat.{ℕ, zero, suc, _≤_, _<_}
 use native.Mathlib.Omega.{arith}
 use lib.IntN.{ℤ, _+ℤ_}
-use lib.ListN.{length, set, length-set}
-use Rattle.naturals.proofs.Cases.{eq-or-not}
+use lib.ListN.{length}
+use Rattle.naturals.proofs.Cases.{le-or-lt}
 use Rattle.naturals.proofs.Tests.{and-left}
 use Rattle.integers.specs.Half.{half, isEven, inLimit}
 use Rattle.numbering.specs.declared.Side.{Side}
@@ -17,13 +17,14 @@ use Rattle.numbering.specs.declared.Side.the-variants.{Left, Right}
 use Rattle.numbering.specs.Count.{points}
 use Rattle.hierarchy.specs.Turns.{valueAt, sumOn, forward, acceptedAt}
 use Rattle.hierarchy.specs.Work.{mixed}
-use Rattle.hierarchy.proofs.Values.{value-zero}
+use Rattle.hierarchy.proofs.Values.{value-zero, value-past, values-length, value-of-values}
 use Rattle.hierarchy.proofs.Inverse.{forward-of-back}
 use Rattle.hierarchy.proofs.Sweeps as sweeps
 use Rattle.zero_border.specs.ZeroBorder.{neighbour, depth}
 use Rattle.zero_border.proofs.Instance.{zero-border, depth-le}
-use Rattle.turns.specs.Steps.{OnAxis, Limited, former, Filled}
-use Rattle.turns.proofs.AtPoint.{zero-in-limit, earlier, AtParents}
+use Rattle.turns.specs.Steps.{OnAxis, Limited, between, raised, raisesOn, FilledBetween, former, Filled}
+use Rattle.turns.proofs.AtPoint.{earlier}
+use Rattle.turns.proofs.Raising.{between-low, between-inside, between-high}
 
 -- No code lies deeper than the steps back go.
 pub shallow : (d n t p : ℕ) → depth d n t p < suc n
@@ -33,10 +34,6 @@ shallow d n t p = omega (arith, depth-le d n t p)
 pub accepted-limited : (d n t : ℕ) (f : ℕ → ℤ) (p : ℕ) → acceptedAt (neighbour d n) t f p ≡ true → inLimit (f (suc p)) ≡ true
 unfolding acceptedAt
 accepted-limited d n t f p e = and-left (inLimit (f (suc p))) _ (and-left (inLimit (f (suc p)) && isEven (sumOn (neighbour d n) t f (suc p))) _ e)
-
-no-end : (a b : Bool) → a && false && b ≡ false
-no-end true b = refl
-no-end false b = refl
 
 module _ (d n t : ℕ) (xs : List ℤ) where
   pub record FilledUp (ys : List ℤ) (p : ℕ) : Type 0 where
@@ -70,83 +67,107 @@ module _ (d n t : ℕ) (xs : List ℤ) where
         stopped = stop;
       }
 
-  -- One turn of the loop, at point number p.
-  module _ (ys : List ℤ) (p : ℕ) (s : FilledUp ys p) (more : p < points d n) (a b : ℤ) (parents : AtParents d n t ys p a b) where
-    former-limited : (q : ℕ) → q ≤ p → inLimit (valueAt ys q) ≡ true
-    former-limited zero h = ap inLimit (value-zero ys) ∙ zero-in-limit
-    former-limited (suc q) h =
-        ap inLimit (s .held (suc q) ∙ sweeps.mixed-low p (former d n t xs) (valueAt xs) (suc q) h)
-        ∙ accepted-limited d n t (former d n t xs) q (s .passed q (omega arith))
+  -- One turn of the loop: the points from number p to hi − 1, whose parents stand before p.
+  module _ (ys : List ℤ) (p : ℕ) (s : FilledUp ys p) (hi : ℕ) (inside : hi ≤ points d n)
+      (before : (q : ℕ) → p ≤ q → q < hi → (b : Side) → neighbour d n t b (suc q) ≤ p) where
+    pub all-limited : Limited ys (length ys)
+    all-limited q h =
+        ap inLimit (s .held (suc q))
+        ∙ le-or-lt (suc q) p
+        (λ low.
+        ap inLimit (sweeps.mixed-low p (former d n t xs) (valueAt xs) (suc q) low)
+        ∙ accepted-limited d n t (former d n t xs) q (s .passed q (omega arith)))
+        (λ high.
+        ap inLimit (sweeps.mixed-high p (former d n t xs) (valueAt xs) (suc q) high)
+        ∙ s .limited q (omega (arith, s .long, s .axis .long)))
 
-    parent-limited : (side : Side) → inLimit (valueAt ys (neighbour d n t side (suc p))) ≡ true
-    parent-limited side =
-        former-limited (neighbour d n t side (suc p))
-        (eq-or-not (neighbour d n t side (suc p)) 0 (λ e. omega arith)
-        (λ ne. omega (arith, earlier d n t (s .axis .low) side (suc p) ne)))
+    -- At a point of them.
+    module _ (q : ℕ) (from : p ≤ q) (to : q < hi) where
+      former-parent : (b : Side) → valueAt ys (neighbour d n t b (suc q)) ≡ former d n t xs (neighbour d n t b (suc q))
+      former-parent b = s .held _ ∙ sweeps.mixed-low p (former d n t xs) (valueAt xs) _ (before q from to b)
 
-    pub parents-limited : (inLimit a ≡ true) × (inLimit b ≡ true)
-    parents-limited = (ap inLimit (parents .left) ∙ parent-limited Left, ap inLimit (parents .right) ∙ parent-limited Right)
+      former-sum : sumOn (neighbour d n) t (valueAt ys) (suc q) ≡ sumOn (neighbour d n) t (former d n t xs) (suc q)
+      unfolding sumOn
+      former-sum = ap₂ _+ℤ_ (former-parent Left) (former-parent Right)
 
-    -- The parents hold the former table already.
-    former-sum : a +ℤ b ≡ sumOn (neighbour d n) t (former d n t xs) (suc p)
-    unfolding sumOn
-    former-sum =
-        ap₂ _+ℤ_ (parents .left) (parents .right)
-        ∙ sweeps.parents-filled (points d n) (neighbour d n) (depth d n) (zero-border d n (s .axis .low)) t (earlier d n t (s .axis .low))
-        (suc n) (shallow d n t) (valueAt xs) (value-zero xs) p (valueAt ys) (s .held)
+      here-held : valueAt ys (suc q) ≡ valueAt xs (suc q)
+      here-held = s .held (suc q) ∙ sweeps.mixed-high p (former d n t xs) (valueAt xs) (suc q) (omega arith)
 
-    here-held : valueAt ys (suc p) ≡ valueAt xs (suc p)
-    here-held = s .held (suc p) ∙ sweeps.mixed-high p (former d n t xs) (valueAt xs) (suc p) (omega arith)
-
-    here-limited : inLimit (valueAt xs (suc p)) ≡ true
-    here-limited = s .limited p (omega (arith, s .axis .long))
-
-    turned-limited : inLimit (forward (neighbour d n) t (former d n t xs) (suc p)) ≡ true
-    turned-limited =
-        ap inLimit
-        (forward-of-back (points d n) (neighbour d n) (depth d n) (zero-border d n (s .axis .low)) t (suc n) (valueAt xs) (value-zero xs) (suc p)
-        (shallow d n t (suc p)))
-        ∙ here-limited
-
-    pub odd-stops : isEven (a +ℤ b) ≡ false → acceptedAt (neighbour d n) t (former d n t xs) p ≡ false
-    unfolding acceptedAt
-    odd-stops odd = rw (← former-sum, odd) (no-end (inLimit (former d n t xs (suc p))) _)
-
-    module _ (v : ℤ) (here : v ≡ valueAt ys (suc p)) where
-      pub all-limited : (inLimit v ≡ true) × (inLimit a ≡ true) × (inLimit b ≡ true)
-      all-limited = (ap inLimit (here ∙ here-held) ∙ here-limited, parents-limited .0, parents-limited .1)
-
-      -- The former value.
-      raised-is : v +ℤ half (a +ℤ b) ≡ former d n t xs (suc p)
-      raised-is =
-          ap₂ (λ (x y : ℤ). x +ℤ half y) (here ∙ here-held) former-sum
+      raised-former : raised d n t ys (suc q) ≡ former d n t xs (suc q)
+      unfolding raised
+      raised-former =
+          ap₂ (λ (x y : ℤ). x +ℤ half y) here-held former-sum
           ∙ sym
           (sweeps.result-at (points d n) (neighbour d n) (depth d n) (zero-border d n (s .axis .low)) t (earlier d n t (s .axis .low))
-          (suc n) (shallow d n t) (valueAt xs) (value-zero xs) (suc p))
+          (suc n) (shallow d n t) (valueAt xs) (value-zero xs) (suc q))
 
-      module _ (w : ℤ) (raised : w ≡ v +ℤ half (a +ℤ b)) where
-        pub large-stops : inLimit w ≡ false → acceptedAt (neighbour d n) t (former d n t xs) p ≡ false
-        unfolding acceptedAt
-        large-stops large = rw (← raised-is, ← raised, large)
+      turned-limited : inLimit (forward (neighbour d n) t (former d n t xs) (suc q)) ≡ true
+      turned-limited =
+          ap inLimit
+          (forward-of-back (points d n) (neighbour d n) (depth d n) (zero-border d n (s .axis .low)) t (suc n) (valueAt xs) (value-zero xs) (suc q)
+          (shallow d n t (suc q)))
+          ∙ s .limited q (omega (arith, s .axis .long))
 
-        accepted-here : isEven (a +ℤ b) ≡ true → inLimit w ≡ true → acceptedAt (neighbour d n) t (former d n t xs) p ≡ true
-        unfolding acceptedAt
-        accepted-here even small = rw (turned-limited, ← former-sum, even, ← raised-is, ← raised, small)
+      accepted-is : acceptedAt (neighbour d n) t (former d n t xs) q ≡ raisesOn d n t ys q
+      unfolding acceptedAt raisesOn
+      accepted-is = rw (turned-limited, former-sum, raised-former) (swap (inLimit (former d n t xs (suc q))) _)
+        where
+          swap : (a b : Bool) → a && b && true ≡ b && a
+          swap true true = refl
+          swap true false = refl
+          swap false true = refl
+          swap false false = refl
 
-        pub filled-steps : isEven (a +ℤ b) ≡ true → inLimit w ≡ true → FilledUp (set ys p w) (suc p)
-        unfolding sumOn
-        filled-steps even small =
-            record {
-              axis = s .axis;
-              limited = s .limited;
-              within = more;
-              long = length-set ys p w ∙ s .long;
-              held =
-                  λ q.
-                  rw (sweeps.value-set ys p w (omega (arith, s .long)), raised, here, parents .left, parents .right)
-                  (sweeps.fill-steps (points d n) (neighbour d n) (depth d n) (zero-border d n (s .axis .low)) t (earlier d n t (s .axis .low))
-                  (suc n) (shallow d n t) (valueAt xs) (value-zero xs) p (valueAt ys) (s .held) q);
-              passed =
-                  λ q h.
-                  eq-or-not q p (λ e. rw e (accepted-here even small)) (λ ne. s .passed q (omega arith));
-            }
+    module _ (k : ℕ) (zs : List ℤ) (filled : FilledBetween d n t p hi ys k zs) where
+      holds : (q : ℕ) → valueAt zs q ≡ between p k (raised d n t ys) (valueAt ys) q
+      holds q =
+          ap (λ (ws : List ℤ). valueAt ws q) (filled .holds)
+          ∙ ap (λ (f : ℕ → ℤ). f q)
+          (value-of-values (points d n) (between p k (raised d n t ys) (valueAt ys))
+          (between-low p k (raised d n t ys) (valueAt ys) 0 (omega arith) ∙ value-zero ys)
+          (λ r past.
+          between-high p k (raised d n t ys) (valueAt ys) r (omega (arith, s .within)) (omega (arith, filled .to))
+          ∙ value-past ys r (omega (arith, s .long))))
+
+      next-held : (q : ℕ) → valueAt zs q ≡ mixed k (former d n t xs) (valueAt xs) q
+      next-held q =
+          holds q
+          ∙ le-or-lt q p
+          (λ low.
+          between-low p k (raised d n t ys) (valueAt ys) q low
+          ∙ s .held q
+          ∙ sweeps.mixed-low p (former d n t xs) (valueAt xs) q low
+          ∙ sym (sweeps.mixed-low k (former d n t xs) (valueAt xs) q (omega (arith, filled .from))))
+          (λ high. above q high)
+        where
+          above : (q : ℕ) → p < q → between p k (raised d n t ys) (valueAt ys) q ≡ mixed k (former d n t xs) (valueAt xs) q
+          above zero high = absurd (omega arith)
+          above (suc q) high =
+              le-or-lt (suc q) k
+              (λ done.
+              between-inside p k (raised d n t ys) (valueAt ys) (suc q) high done
+              ∙ raised-former q (omega arith) (omega (arith, filled .to))
+              ∙ sym (sweeps.mixed-low k (former d n t xs) (valueAt xs) (suc q) done))
+              (λ later.
+              between-high p k (raised d n t ys) (valueAt ys) (suc q) high later
+              ∙ s .held (suc q)
+              ∙ sweeps.mixed-high p (former d n t xs) (valueAt xs) (suc q) high
+              ∙ sym (sweeps.mixed-high k (former d n t xs) (valueAt xs) (suc q) later))
+
+      pub filled-block : FilledUp zs k
+      filled-block =
+          record {
+            axis = s .axis;
+            limited = s .limited;
+            within = omega (arith, filled .to);
+            long = ap length (filled .holds) ∙ values-length (points d n) _;
+            held = next-held;
+            passed =
+                λ q h.
+                le-or-lt p q
+                (λ from. accepted-is q from (omega (arith, filled .to)) ∙ filled .passed q from h)
+                (λ old. s .passed q old);
+          }
+
+      pub block-stops : k < hi → acceptedAt (neighbour d n) t (former d n t xs) k ≡ false
+      block-stops less = accepted-is k (filled .from) less ∙ filled .stopped less

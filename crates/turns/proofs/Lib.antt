@@ -2,6 +2,7 @@ pub mod Checking
 pub mod Accepting
 pub mod AtPoint
 pub mod Sweeping
+pub mod Raising
 pub mod Filling
 pub mod Former
 pub mod Answering

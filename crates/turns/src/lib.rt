@@ -1,4 +1,6 @@
 // Forward and back on one axis of a table, in the one lent buffer.
+use neighbours::Line;
+use neighbours::Subspace;
 use refusals::Refusal;
 use refusals::Verdict;
 use states::Answer;
@@ -10,16 +12,10 @@ ghost use lib.ListN.{length};
 ghost use Rattle.numbering.specs.Count.{points};
 ghost use Rattle.hierarchy.specs.Turns.{valueAt, accepted};
 ghost use Rattle.zero_border.specs.ZeroBorder.{neighbour};
+ghost use Rattle.neighbours.specs.Subspaces.{Seen};
 ghost use Rattle.states.specs.After.{after};
 ghost use Rattle.turns.specs.Turns.{checkTurn, forwardTurn, backTurn};
-ghost use Rattle.turns.specs.Steps.{OnAxis, allLimited, Limited, movesOn, sweptTo, Filled};
-
-// An axis of a shape, by its place from 0.
-struct Line {
-    axes: u32,
-    level: u32,
-    place: u32,
-}
+ghost use Rattle.turns.specs.Steps.{OnAxis, allLimited, Limited, movesOn, movesBetween, sweptBetween, sweptTo, FilledBetween, Filled};
 
 // What stands at a code: 0 at the border.
 fn value(table: &[i64], code: u64) -> i64
@@ -49,19 +45,34 @@ fn all_in_limit(table: &[i64]) -> bool
     true
 }
 
-// The sum of the parents' values of point p is even, and the value less its half is within the limit.
-fn moves(line: Line, table: &[i64], p: u64) -> bool
-    requires { ⌜ OnAxis (line .axes) (line .level) (line .place) (now table) × Limited (now table) (length (now table)) × (p < points (line .axes) (line .level)) ⌝ }
-    ensures { λ r. ⌜ r ≡ movesOn (line .axes) (line .level) (line .place) (now (table .entry)) p ⌝ }
+// The sum of the parents' values of point p of a level vector is even, and the value less its half is within the limit.
+fn moves(v: Subspace, table: &[i64], p: u64) -> bool
+    requires { ⌜ Seen v × OnAxis (v .line .axes) (v .line .level) (v .line .place) (now table) × Limited (now table) (length (now table)) × (v .start ≤ p) × (p < v .end) ⌝ }
+    ensures { λ r. ⌜ r ≡ movesOn (v .line .axes) (v .line .level) (v .line .place) (now (table .entry)) p ⌝ }
 {
-    let codes = neighbours::codes(line.axes, line.level, line.place, p);
+    let codes = neighbours::codes(v, p);
     let left = value(table, codes.left);
     let right = value(table, codes.right);
     if !integers::even_sum(left, right) {
         return false;
     }
-    let v = value(table, p + 1);
-    integers::in_limit(integers::less_half(v, left, right))
+    let here = value(table, p + 1);
+    integers::in_limit(integers::less_half(here, left, right))
+}
+
+// So it is at all points of a level vector from number `from` on.
+fn subspace_moves(v: Subspace, table: &[i64], from: u64) -> bool
+    requires { ⌜ Seen v × OnAxis (v .line .axes) (v .line .level) (v .line .place) (now table) × Limited (now table) (length (now table)) × (v .start ≤ from) × (from ≤ v .end) ⌝ }
+    ensures { λ r. ⌜ r ≡ movesBetween (v .line .axes) (v .line .level) (v .line .place) from (v .end) (now (table .entry)) ⌝ }
+{
+    let mut p = from;
+    while p < v.end {
+        if !moves(v, table, p) {
+            return false;
+        }
+        p += 1;
+    }
+    true
 }
 
 // The forward turn is accepted. No sum is formed of values that were not tested.
@@ -74,50 +85,82 @@ fn is_accepted(line: Line, table: &[i64]) -> bool
     }
     let mut p: u64 = 0;
     while p < table.len() as u64 {
-        if !moves(line, table, p) {
+        let v = neighbours::subspace_of(line, p);
+        if !subspace_moves(v, table, p) {
             return false;
         }
-        p += 1;
+        p = v.end;
     }
     true
 }
 
-// The forward steps of the first points, from point `count` − 1 down: a point's parents have smaller numbers and have not moved yet.
+// The forward steps of the points of a level vector below number `count`, from the last down.
+fn sweep_subspace(v: Subspace, table: &mut [i64], count: u64)
+    requires { ⌜ Seen v × OnAxis (v .line .axes) (v .line .level) (v .line .place) (now table) × Limited (now table) count × (v .start ≤ count) × (count ≤ v .end) ⌝ }
+    ensures { λ _. ⌜ now (table .exit) ≡ sweptBetween (v .line .axes) (v .line .level) (v .line .place) (v .start) count (now (table .entry)) ⌝ }
+{
+    let mut p = count;
+    while v.start < p {
+        let here = value(table, p);
+        p -= 1;
+        let codes = neighbours::codes(v, p); // not moved yet
+        let left = value(table, codes.left);
+        let right = value(table, codes.right);
+        table[p as usize] = integers::less_half(here, left, right);
+    }
+}
+
+// The forward steps of the first points, from point `count` − 1 down, a level vector at a time: a point's parents have smaller numbers and have not
+// moved yet.
 fn sweep(line: Line, table: &mut [i64], count: u64)
     requires { ⌜ OnAxis (line .axes) (line .level) (line .place) (now table) × Limited (now table) count × (count ≤ points (line .axes) (line .level)) ⌝ }
     ensures { λ _. ⌜ now (table .exit) ≡ sweptTo (line .axes) (line .level) (line .place) count (now (table .entry)) ⌝ }
 {
     let mut p = count;
     while 0 < p {
-        let v = value(table, p);
-        p -= 1;
-        let codes = neighbours::codes(line.axes, line.level, line.place, p); // not moved yet
-        let left = value(table, codes.left);
-        let right = value(table, codes.right);
-        table[p as usize] = integers::less_half(v, left, right);
+        let v = neighbours::subspace_of(line, p - 1);
+        sweep_subspace(v, table, p);
+        p = v.start;
     }
 }
 
-// The steps back of the first points, from point 0 up, as long as they are accepted: how many were.
+// The steps back of the points of a level vector from number `from` up, as long as they are accepted: the number of the first that was not, or the end.
+fn fill_subspace(v: Subspace, table: &mut [i64], from: u64) -> u64
+    requires { ⌜ Seen v × OnAxis (v .line .axes) (v .line .level) (v .line .place) (now table) × Limited (now table) (length (now table)) × (v .start ≤ from) × (from ≤ v .end) ⌝ }
+    ensures { λ r. ⌜ FilledBetween (v .line .axes) (v .line .level) (v .line .place) from (v .end) (now (table .entry)) r (now (table .exit)) ⌝ }
+{
+    let mut p = from;
+    while p < v.end {
+        let codes = neighbours::codes(v, p); // filled already
+        let left = value(table, codes.left);
+        let right = value(table, codes.right);
+        if !integers::even_sum(left, right) {
+            return p;
+        }
+        let here = value(table, p + 1);
+        let raised = integers::plus_half(here, left, right);
+        if !integers::in_limit(raised) {
+            return p;
+        }
+        table[p as usize] = raised;
+        p += 1;
+    }
+    p
+}
+
+// The steps back of the first points, from point 0 up, a level vector at a time, as long as they are accepted: how many were.
 fn fill(line: Line, table: &mut [i64]) -> u64
     requires { ⌜ OnAxis (line .axes) (line .level) (line .place) (now table) × Limited (now table) (length (now table)) ⌝ }
     ensures { λ r. ⌜ Filled (line .axes) (line .level) (line .place) (now (table .entry)) r (now (table .exit)) ⌝ }
 {
     let mut p: u64 = 0;
     while p < table.len() as u64 {
-        let codes = neighbours::codes(line.axes, line.level, line.place, p); // filled already
-        let left = value(table, codes.left);
-        let right = value(table, codes.right);
-        if !integers::even_sum(left, right) {
-            return p;
+        let v = neighbours::subspace_of(line, p);
+        let filled = fill_subspace(v, table, p);
+        if filled < v.end {
+            return filled;
         }
-        let v = value(table, p + 1);
-        let raised = integers::plus_half(v, left, right);
-        if !integers::in_limit(raised) {
-            return p;
-        }
-        table[p as usize] = raised;
-        p += 1;
+        p = v.end;
     }
     p
 }

@@ -1,79 +1,114 @@
--- `neighbours::code` meets its contract: the outcome decides the code, and the number of a point is below 2^32, so that one more fits.
+-- `neighbours::code` meets its contract: the two tests decide the border, and past them every shift and sum is exact.
 -- Assumes nothing.
-use mathlib.Core.Path.{ap, _∙_}
-use Prim.Native.Nat.{suc}
-use native.Mathlib.Numerals.{add-one}
+use Prim.Native.Nat.{_+_, _-_, _*_, _/_, _%_, _^_, _<_}
+use lib.Count.{trailingZeros}
+use Rattle.numbering.specs.Point.{at}
 use native.Mathlib.Omega.{arith}
 use borrow.Author.Needs.{needs}
-use Rattle.numbering.specs.Point.{at, IsPoint}
-use Rattle.numbers.proofs.Parts.{number-small}
-use Rattle.neighbours.specs.Codes.{codeBy}
+use Rattle.neighbours.proofs.Coding.{at-zero, at-one, zeros-le, falls, half-small, first-small, total-small, computed}
 use Rattle.neighbours.proofs.code.Statement.{statement}
 use Rattle.neighbours.proofs.code.Tie as tie
 
-enum-told : tie.Need-enum-told
-enum-told c = search needs
+returns : tie.Need-returns
+returns c = at-zero (c .before .pre .0) _ _ _ (c .if1 .taken)
 
--- what was found is a point
-point : (c : tie.After-enum-told) →
-    let a = c .before .before .before .before .args in
-    IsPoint (a .axes) 8 (at (a .beside .point .levels)) (at (a .beside .point .indices))
-point c = c .before .before .before .before .pre .point (c .enum-told .given .1)
+shl-if2 : tie.Need-shl-if2
+shl-if2 c = omega (arith, c .before .pre .0 .bits)
 
-slice-aggregate-number-at : tie.Need-slice-aggregate-number-at
-slice-aggregate-number-at c = search needs
+returns-2 : tie.Need-returns-2
+returns-2 c = at-one (c .before .before .pre .0) _ _ _ (c .if2 .taken)
 
-slice-aggregate-number-at-2 : tie.Need-slice-aggregate-number-at-2
-slice-aggregate-number-at-2 c = search needs
+sub-level : tie.Need-sub-level
+sub-level c =
+    let start = c .before .before in
+    zeros-le (start .pre .0) 0 0 _ (start .pre .3) (start .pre .4) (c .before .if1 .left) (c .if2 .left)
 
-number-at-requires : tie.Need-number-at-requires
-number-at-requires c κs =
-    let start = c .before .before .before .before .before .before in
-    (start .pre .low, start .pre .high, omega (arith, slice-aggregate-number-at (c .before)), omega (arith, slice-aggregate-number-at-2 c), point (c .before .before))
+shr-half : tie.Need-shr-half
+shr-half c =
+    let start = c .before .before in
+    omega (arith, zeros-le (start .pre .0) 0 0 _ (start .pre .3) (start .pre .4) (c .before .if1 .left) (c .if2 .left), start .pre .0 .bits)
+
+cast-half : tie.Need-cast-half
+cast-half c =
+    let start = c .before .before in
+    omega (arith, half-small (start .pre .0) 0 0 _ (start .pre .3) (start .pre .4) (c .before .if1 .left) (c .if2 .left))
+
+-- all sums are below 2^33
+small : (c : tie.After-result) → let start = c .before .before .before in
+    at (start .args .t1 .coarser) (start .args .t1 .own - trailingZeros 32 (start .args .numerator))
+    + start .args .before
+    + start .args .numerator / 2 ^ trailingZeros 32 (start .args .numerator) / 2 * 2 ^ start .args .t1 .low % 2 ^ 64
+    + start .args .beyond * 2 ^ (start .args .t1 .low + (start .args .t1 .own - trailingZeros 32 (start .args .numerator))) % 2 ^ 64
+    < 2 ^ 33
+small c =
+    let start = c .before .before .before in
+    total-small (start .pre .0) _ _ _ (start .pre .3) (start .pre .4) (c .before .before .if1 .left) (c .before .if2 .left) (start .pre .2) (start .pre .1)
+
+cast-result : tie.Need-cast-result
+cast-result c = search needs
+
+mul-result : tie.Need-mul-result
+mul-result c = search needs
+
+element-copy-out-result : tie.Need-element-copy-out-result
+element-copy-out-result c =
+    let start = c .before .before in
+    omega (arith, falls (start .pre .0) 0 0 _ (start .pre .3) (start .pre .4) (c .before .if1 .left) (c .if2 .left), start .pre .0 .bits)
 
 add-result : tie.Need-add-result
 add-result c =
-    let pre = c .before .before .before .before .before .before .before .pre in
-    omega (arith, c .number-at .ensures, number-small (point (c .before .before .before)) (pre .low) (pre .high))
+    let start = c .before .before .before in
+    omega (arith, first-small (start .pre .0) 0 0 _ (start .pre .3) (start .pre .4) (c .before .before .if1 .left) (c .before .if2 .left), start .pre .1)
 
-enum-told-2 : tie.Need-enum-told-2
-enum-told-2 c = search needs
+cast-result-2 : tie.Need-cast-result-2
+cast-result-2 c = search needs
 
-enum-told-3 : tie.Need-enum-told-3
-enum-told-3 c = search needs
+shl-result : tie.Need-shl-result
+shl-result c = search needs
 
-enum-told-4 : tie.Need-enum-told-4
-enum-told-4 c = search needs
+add-result-2 : tie.Need-add-result-2
+add-result-2 c = omega (arith, small c)
 
-returns : tie.Need-returns
-unfolding codeBy
-returns c = rw (c .before .before .before .enum-told .given .1) (add-one (c .number-at .result) ∙ ap suc (c .number-at .ensures))
+add-result-3 : tie.Need-add-result-3
+add-result-3 c = search needs
 
-returns-2 : tie.Need-returns-2
-unfolding codeBy
-returns-2 c = rw (c .enum-told2 .given .1)
+cast-result-3 : tie.Need-cast-result-3
+cast-result-3 c = search needs
+
+shl-result-2 : tie.Need-shl-result-2
+shl-result-2 c = search needs
+
+add-result-4 : tie.Need-add-result-4
+add-result-4 c = omega (arith, small c)
+
+add-result-5 : tie.Need-add-result-5
+add-result-5 c = omega (arith, small c)
 
 returns-3 : tie.Need-returns-3
-unfolding codeBy
-returns-3 c = rw (c .enum-told3 .given .1)
-
-returns-4 : tie.Need-returns-4
-unfolding codeBy
-returns-4 c = rw (c .enum-told4 .given .1)
+returns-3 c =
+    let start = c .before .before .before in
+    computed (start .pre .0) _ _ _ (start .pre .3) (start .pre .4) (c .before .before .if1 .left) (c .before .if2 .left) (start .pre .2)
 
 pub code-spec : {M : Type 1} → statement M
 code-spec =
     tie.close
     (tie.spec
-    enum-told
-    slice-aggregate-number-at
-    slice-aggregate-number-at-2
-    number-at-requires
-    add-result
-    enum-told-2
-    enum-told-3
-    enum-told-4
     returns
+    shl-if2
     returns-2
-    returns-3
-    returns-4)
+    sub-level
+    shr-half
+    cast-half
+    cast-result
+    mul-result
+    element-copy-out-result
+    add-result
+    cast-result-2
+    shl-result
+    add-result-2
+    add-result-3
+    cast-result-3
+    shl-result-2
+    add-result-4
+    add-result-5
+    returns-3)

@@ -1,53 +1,112 @@
--- `neighbours::codes` meets its contract: what the step along the axis finds on either side of the point of the number has a code, the neighbour's.
+-- `neighbours::codes` meets its contract: the shifts read the digits of the position, and the codes are computed from them.
 -- Assumes nothing.
-use mathlib.Core.Path.{_∙_}
+use mathlib.Core.Path.{ap₂, _∙_}
+use Prim.Native.Nat.{ℕ, _+_, _-_, _*_, _^_, _≤_, _<_}
+use native.Mathlib.Nat.{pow-suc}
+use native.Mathlib.Omega.{arith}
+use lib.Pow.{pow-mono}
 use borrow.Author.Needs.{needs}
-use Rattle.numbering.specs.declared.Side.the-variants.{Left, Right}
-use Rattle.numbering.specs.Point.{at}
-use Rattle.parents.proofs.Accepted.{Steps}
-use Rattle.neighbours.proofs.Coded.{Chosen, can-step, has-code, code-is}
+use Rattle.neighbours.specs.Subspaces.{codeFrom}
+use Rattle.neighbours.proofs.Beside.{sized, before-small, beyond-small, digit-small, beyondOf, left-code, right-code}
 use Rattle.neighbours.proofs.codes.Statement.{statement}
 use Rattle.neighbours.proofs.codes.Tie as tie
 
-point-at-requires : tie.Need-point-at-requires
-point-at-requires c κs = search needs
+sub-position : tie.Need-sub-position
+sub-position c = c .before .pre .1
 
--- the shape, the axis and the number
-chosen : (c : tie.Start) → Chosen (c .args .axes) (c .args .level) (c .args .t) (c .args .number)
-chosen c = record { high = c .pre .0; top = c .pre .1; axis = c .pre .2; below = c .pre .3 }
+low-bits-requires : tie.Need-low-bits-requires
+low-bits-requires c κs = omega (arith, sized (c .before .pre .0) .bits)
 
--- the point of the number can be stepped along the axis
-steps : (c : tie.After-point-at) → Steps (c .before .args .t) (at (c .point-at .result .levels)) (at (c .point-at .result .indices))
-steps c = can-step (chosen (c .before)) (c .point-at .ensures)
+cast-rest : tie.Need-cast-rest
+cast-rest c = search needs
 
-parent-on-requires : tie.Need-parent-on-requires
-parent-on-requires c κs = let s = steps c in (s .place, s .small, s .odd, s .below)
+shr-rest : tie.Need-shr-rest
+shr-rest c = omega (arith, sized (c .before .before .before .pre .0) .bits)
+
+low-bits-requires-2 : tie.Need-low-bits-requires-2
+low-bits-requires-2 c κs = omega (arith, sized (c .before .before .before .pre .0) .bits)
+
+abbrev v-own : tie.After-low-bits2 → ℕ
+v-own c = c .before .before .before .before .args .v .own
+
+-- the digit of the axis has at most 8 bits
+digit-fits : (c : tie.After-low-bits2) → (c .low-bits2 .result < 2 ^ v-own c) × (2 ^ v-own c ≤ 2 ^ 8)
+digit-fits c =
+    let start = c .before .before .before .before in (
+      omega (arith, c .low-bits2 .ensures, digit-small (start .pre .0) _ (start .pre .1) (start .pre .2)),
+      pow-mono {i = v-own c} {j = 8} (omega (arith, sized (start .pre .0) .bits)),
+    )
+
+cast-digit : tie.Need-cast-digit
+cast-digit c = omega (arith, digit-fits c)
+
+cast-beyond : tie.Need-cast-beyond
+cast-beyond c = search needs
+
+shr-beyond : tie.Need-shr-beyond
+shr-beyond c = omega (arith, sized (c .before .before .before .before .before .pre .0) .bits)
+
+mul-code : tie.Need-mul-code
+mul-code c = omega (arith, digit-fits (c .before))
 
 code-requires : tie.Need-code-requires
-code-requires c κs = has-code (chosen (c .before .before)) (c .before .point-at .ensures) _ (c .parent-on .ensures)
+code-requires c κs =
+    let start = c .before .before .before .before .before in
+    let v = start .pre .0 in (
+      sized v,
+      omega (arith, c .before .before .before .low-bits .ensures, before-small v _ (start .pre .1) (start .pre .2)),
+      beyond-small v _ (start .pre .1) (start .pre .2),
+      omega arith,
+      omega (arith, digit-fits (c .before), pow-suc 2 (v-own (c .before))),
+    )
 
-parent-on-requires-2 : tie.Need-parent-on-requires-2
-parent-on-requires-2 c κs = let s = steps (c .before .before) in (s .place, s .small, s .odd, s .below)
+mul-code-2 : tie.Need-mul-code-2
+mul-code-2 c = omega (arith, digit-fits (c .before .before))
+
+add-code : tie.Need-add-code
+add-code c = omega (arith, digit-fits (c .before .before))
 
 code-requires-2 : tie.Need-code-requires-2
 code-requires-2 c κs =
-    has-code (chosen (c .before .before .before .before)) (c .before .before .before .point-at .ensures) _ (c .parent-on2 .ensures)
+    let start = c .before .before .before .before .before .before in
+    let v = start .pre .0 in (
+      sized v,
+      omega (arith, c .before .before .before .before .low-bits .ensures, before-small v _ (start .pre .1) (start .pre .2)),
+      beyond-small v _ (start .pre .1) (start .pre .2),
+      omega arith,
+      omega (arith, digit-fits (c .before .before), pow-suc 2 (v-own (c .before .before))),
+    )
 
 returns : tie.Need-returns
 returns c =
-    let known = chosen (c .before .before .before .before .before) in
-    let made = c .before .before .before .before .point-at .ensures in (
-      c .before .before .code .ensures ∙ code-is known made Left (c .before .before .before .parent-on .ensures),
-      c .code2 .ensures ∙ code-is known made Right (c .before .parent-on2 .ensures),
+    let start = c .before .before .before .before .before .before .before in
+    let a = start .args in
+    let v = start .pre .0 in
+    let before = c .before .before .before .before .before .low-bits .ensures in
+    let digit = c .before .before .before .low-bits2 .ensures in (
+      c .before .code .ensures
+      ∙ ap₂ (λ (x y : ℕ). codeFrom (a .v) x (beyondOf (a .v) (a .number - a .v .start)) (2 * y)) before digit
+      ∙ left-code v _ (start .pre .1) (start .pre .2),
+      c .code2 .ensures
+      ∙ ap₂ (λ (x y : ℕ). codeFrom (a .v) x (beyondOf (a .v) (a .number - a .v .start)) (2 * y + 2)) before digit
+      ∙ right-code v _ (start .pre .1) (start .pre .2),
     )
 
 pub codes-spec : {M : Type 1} → statement M
 codes-spec =
     tie.close
     (tie.spec
-    point-at-requires
-    parent-on-requires
+    sub-position
+    low-bits-requires
+    cast-rest
+    shr-rest
+    low-bits-requires-2
+    cast-digit
+    cast-beyond
+    shr-beyond
+    mul-code
     code-requires
-    parent-on-requires-2
+    mul-code-2
+    add-code
     code-requires-2
     returns)

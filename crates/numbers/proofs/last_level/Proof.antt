@@ -13,10 +13,10 @@ use Rattle.numbers.proofs.last_level.Statement.{statement}
 use Rattle.numbers.proofs.last_level.Tie as tie
 
 abbrev Inv-loop : tie.InvT-loop
-Inv-loop axes sum rank level₀ rest₀ level rest = Searched (ending axes sum) sum rank level rest
+Inv-loop rows axes sum rank level₀ rest₀ level rest = Searched (ending axes sum) sum rank level rest
 
 abbrev μ-loop : tie.MeasureT-loop
-μ-loop axes sum rank level₀ rest₀ level rest = sum - level
+μ-loop rows axes sum rank level₀ rest₀ level rest = sum - level
 
 loop-holds : tie.Need-loop-holds Inv-loop μ-loop
 loop-holds c = searched-starts _ _ _ (rank-inside _ _ _ (search needs))

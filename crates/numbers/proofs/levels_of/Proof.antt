@@ -8,10 +8,10 @@ use Rattle.numbers.proofs.levels_of.Statement.{statement}
 use Rattle.numbers.proofs.levels_of.Tie as tie
 
 abbrev Inv-loop : tie.InvT-loop
-Inv-loop axes sum rank levels₀ k₀ left₀ rest₀ levels k left rest = Unranked axes sum rank levels k left rest
+Inv-loop rows axes sum rank levels₀ k₀ left₀ rest₀ levels k left rest = Unranked axes sum rank levels k left rest
 
 abbrev μ-loop : tie.MeasureT-loop
-μ-loop axes sum rank levels₀ k₀ left₀ rest₀ levels k left rest = k
+μ-loop rows axes sum rank levels₀ k₀ left₀ rest₀ levels k left rest = k
 
 loop-holds : tie.Need-loop-holds Inv-loop μ-loop
 loop-holds c = unranked-starts _ _ _ (search needs) (search needs)
@@ -20,7 +20,8 @@ sub-k : tie.Need-sub-k Inv-loop μ-loop
 sub-k c = search needs
 
 last-level-requires : tie.Need-last-level-requires Inv-loop μ-loop
-last-level-requires c κs = (omega arith, omega arith, omega arith, unranked-below (c .before .loop .inv) (c .loop-test .taken))
+last-level-requires c κs =
+    (search needs, omega arith, omega arith, omega arith, unranked-below (c .before .loop .inv) (c .loop-test .taken))
 
 cast-levels : tie.Need-cast-levels Inv-loop μ-loop
 cast-levels c = search needs

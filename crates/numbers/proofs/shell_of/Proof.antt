@@ -13,10 +13,10 @@ use Rattle.numbers.proofs.shell_of.Statement.{statement}
 use Rattle.numbers.proofs.shell_of.Tie as tie
 
 abbrev Inv-loop : tie.InvT-loop
-Inv-loop axes level number sum₀ rest₀ sum rest = Searched (shell axes) level number sum rest
+Inv-loop rows axes level number sum₀ rest₀ sum rest = Searched (shell axes) level number sum rest
 
 abbrev μ-loop : tie.MeasureT-loop
-μ-loop axes level number sum₀ rest₀ sum rest = level - sum
+μ-loop rows axes level number sum₀ rest₀ sum rest = level - sum
 
 loop-holds : tie.Need-loop-holds Inv-loop μ-loop
 loop-holds c = searched-starts _ _ _ (number-inside _ _ _ (search needs))

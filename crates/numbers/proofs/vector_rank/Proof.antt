@@ -10,10 +10,10 @@ use Rattle.numbers.proofs.vector_rank.Statement.{statement}
 use Rattle.numbers.proofs.vector_rank.Tie as tie
 
 abbrev Inv-loop : tie.InvT-loop
-Inv-loop axes levels rank₀ sum₀ t₀ rank sum t = Ranked (at levels) axes t rank sum
+Inv-loop rows axes levels rank₀ sum₀ t₀ rank sum t = Ranked (at levels) axes t rank sum
 
 abbrev μ-loop : tie.MeasureT-loop
-μ-loop axes levels rank₀ sum₀ t₀ rank sum t = axes - t
+μ-loop rows axes levels rank₀ sum₀ t₀ rank sum t = axes - t
 
 loop-holds : tie.Need-loop-holds Inv-loop μ-loop
 loop-holds c = ranked-starts _ _
@@ -34,7 +34,9 @@ add-row : tie.Need-add-row Inv-loop μ-loop
 add-row c = search needs
 
 vector-count-requires : tie.Need-vector-count-requires Inv-loop μ-loop
-vector-count-requires c κs = omega (arith, summed-fits (c .before .before .loop .inv .sums) (c .before .loop-test .taken))
+vector-count-requires c κs =
+    let fits = summed-fits (c .before .before .loop .inv .sums) (c .before .loop-test .taken) in
+    (search needs, omega arith, omega arith, omega (arith, fits))
 
 add-rank : tie.Need-add-rank Inv-loop μ-loop
 add-rank c =
@@ -44,7 +46,9 @@ add-rank c =
     omega (arith, fits)
 
 vector-count-requires-2 : tie.Need-vector-count-requires-2 Inv-loop μ-loop
-vector-count-requires-2 c κs = omega (arith, summed-so-far (c .before .before .before .loop .inv .sums))
+vector-count-requires-2 c κs =
+    let fits = summed-so-far (c .before .before .before .loop .inv .sums) in
+    (search needs, omega arith, omega arith, omega (arith, fits))
 
 sub-rank : tie.Need-sub-rank Inv-loop μ-loop
 sub-rank c =

@@ -19,7 +19,7 @@ use Rattle.turns.proofs.moves.Tie as tie
 -- what was read are the values of the parents
 parents : (c : tie.After-value2) →
     let a = c .before .before .before .args in
-    AtParents (a .line .axes) (a .line .level) (a .line .place) (a .table .now) (a .p)
+    AtParents (a .v .line .axes) (a .v .line .level) (a .v .line .place) (a .table .now) (a .p)
     (toZ w64 (ofZ w64 (c .before .value .result))) (toZ w64 (ofZ w64 (c .value2 .result)))
 parents c =
     let at = valueAt (c .before .before .before .args .table .now) in
@@ -39,10 +39,10 @@ point c =
 
 -- what stands at any code is within the limit
 small : (c : tie.Start) (code : ℕ) → inLimit (valueAt (c .args .table .now) code) ≡ true
-small c = code-limited (c .args .table .now) (c .pre .1)
+small c = code-limited (c .args .table .now) (c .pre .2)
 
 codes-requires : tie.Need-codes-requires
-codes-requires c κs = (c .pre .0 .few, c .pre .0 .low, c .pre .0 .place, c .pre .2)
+codes-requires c κs = (c .pre .0, c .pre .3, c .pre .4)
 
 value-requires : tie.Need-value-requires
 value-requires c κs = search needs

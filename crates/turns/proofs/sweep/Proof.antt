@@ -1,14 +1,8 @@
--- `turns::sweep` meets its contract: each turn of the loop is one step down of the sweep.
+-- `turns::sweep` meets its contract: each turn of the loop sweeps the points of one level vector, whose parents are as they were.
 -- Assumes nothing.
-use mathlib.Core.Path.{_≡_, ap, _∙_}
-use Prim.Native.Nat.{_-_}
 use native.Mathlib.Omega.{arith}
 use borrow.Author.Needs.{needs}
-use mir.Syntax.{w64}
-use mir.Val.{toZ, ofZ}
-use Rattle.hierarchy.specs.Turns.{valueAt}
-use Rattle.turns.proofs.Sweeping.{SweptDown, swept-starts, swept-ends, swept-steps, all-limited}
-use Rattle.turns.proofs.AtPoint.{AtParents, given-is}
+use Rattle.turns.proofs.Sweeping.{SweptDown, swept-starts, swept-ends, rest-limited, swept-block}
 use Rattle.turns.proofs.sweep.Statement.{statement}
 use Rattle.turns.proofs.sweep.Tie as tie
 
@@ -21,66 +15,35 @@ abbrev μ-loop : tie.MeasureT-loop
 loop-holds : tie.Need-loop-holds Inv-loop μ-loop
 loop-holds c = swept-starts _ _ _ _ _ (c .pre)
 
-value-requires : tie.Need-value-requires Inv-loop μ-loop
-value-requires c κs = search needs
+sub-subspace-of : tie.Need-sub-subspace-of Inv-loop μ-loop
+sub-subspace-of c = search needs
 
-sub-p : tie.Need-sub-p Inv-loop μ-loop
-sub-p c = omega arith
+subspace-of-requires : tie.Need-subspace-of-requires Inv-loop μ-loop
+subspace-of-requires c κs =
+    let s = c .before .loop .inv in
+    (s .axis .few, s .axis .low, s .axis .place, omega (arith, s .below, s .inside, c .loop-test .taken))
 
-codes-requires : tie.Need-codes-requires Inv-loop μ-loop
-codes-requires c κs =
+sweep-subspace-requires : tie.Need-sweep-subspace-requires Inv-loop μ-loop
+sweep-subspace-requires c κs =
     let s = c .before .before .before .loop .inv in
-    (s .axis .few, s .axis .low, s .axis .place, omega (arith, s .below, s .inside))
-
-value-requires-2 : tie.Need-value-requires-2 Inv-loop μ-loop
-value-requires-2 c κs = search needs
-
-value-requires-3 : tie.Need-value-requires-3 Inv-loop μ-loop
-value-requires-3 c κs = search needs
-
--- What the calls read.
-here : (c : tie.After-value3 Inv-loop μ-loop) → let start = c .before .before .before .before .before .before .before .before in
-    toZ w64 (ofZ w64 (c .before .before .before .before .before .value .result)) ≡ valueAt (start .loop .table) (start .loop .p)
-here c =
-    let v = c .before .before .before .before .before .value in
-    given-is (v .result) _ (record { sfits = v .ok }) (v .ensures)
-
-parents : (c : tie.After-value3 Inv-loop μ-loop) → let start = c .before .before .before .before .before .before .before .before in
-    AtParents (start .before .args .line .axes) (start .before .args .line .level) (start .before .args .line .place) (start .loop .table) (start .loop .p - 1)
-    (toZ w64 (ofZ w64 (c .before .before .value2 .result))) (toZ w64 (ofZ w64 (c .value3 .result)))
-parents c =
-    let codes = c .before .before .before .before .codes .ensures in
-    record {
-      left =
-          given-is (c .before .before .value2 .result) _ (record { sfits = c .before .before .value2 .ok })
-          (c .before .before .value2 .ensures ∙ ap (valueAt _) (codes .0));
-      right = given-is (c .value3 .result) _ (record { sfits = c .value3 .ok }) (c .value3 .ensures ∙ ap (valueAt _) (codes .1));
-    }
-
-less-half-requires : tie.Need-less-half-requires Inv-loop μ-loop
-less-half-requires c κs =
-    let start = c .before .before .before .before .before .before .before .before in
-    all-limited _ _ _ _ _ _ _ _ (start .loop .inv) (omega arith) _ _ _ (here c) (parents c)
-
-mul-t18 : tie.Need-mul-t18 Inv-loop μ-loop
-mul-t18 c =
-    let start = c .before .before .before .before .before .before .before .before .before in
-    let s = start .loop .inv in
-    omega (arith, s .below, s .inside, s .axis .long, start .before .good .1 .0 .1)
-
-slice-set-from-table : tie.Need-slice-set-from-table Inv-loop μ-loop
-slice-set-from-table c =
-    let s = c .before .before .before .before .before .before .before .before .before .loop .inv in
-    omega (arith, s .below, s .inside, s .long)
+    let v = c .before .subspace-of .ensures in (
+      v .0,
+      rw (v .1) (record { few = s .axis .few; low = s .axis .low; place = s .axis .place; long = s .long }),
+      rest-limited _ _ _ _ _ _ _ s,
+      omega (arith, v .2),
+      omega (arith, v .3),
+    )
 
 loop-less : tie.Need-loop-less Inv-loop μ-loop
-loop-less c = omega arith
+loop-less c =
+    let v = c .before .before .before .subspace-of .ensures in
+    omega (arith, v .2, c .before .before .before .before .loop-test .taken)
 
 loop-again : tie.Need-loop-again Inv-loop μ-loop
 loop-again c =
-    let start = c .before .before .before .before .before .before .before .before .before in
-    swept-steps _ _ _ _ _ _ _ _ (start .loop .inv) (omega arith) _ _ _ (here (c .before)) (parents (c .before)) _
-    (given-is (c .less-half .result) _ (record { sfits = c .less-half .ok }) (c .less-half .ensures))
+    let v = c .before .before .before .subspace-of .ensures in
+    swept-block _ _ _ _ _ _ _ (c .before .before .before .before .before .loop .inv) _ (omega (arith, v .2)) _
+    (rw (v .1) at (c .before .sweep-subspace .ensures))
 
 same-length : tie.Need-same-length Inv-loop μ-loop
 same-length c = omega (arith, c .before .loop .inv .long, c .before .loop .inv .axis .long)
@@ -95,14 +58,9 @@ sweep-spec =
     Inv-loop
     μ-loop
     loop-holds
-    value-requires
-    sub-p
-    codes-requires
-    value-requires-2
-    value-requires-3
-    less-half-requires
-    mul-t18
-    slice-set-from-table
+    sub-subspace-of
+    subspace-of-requires
+    sweep-subspace-requires
     loop-less
     loop-again
     same-length

@@ -1,0 +1,160 @@
+-- The steps back of points of one level vector, as the loop of `fill_subspace` makes them: each value becomes itself plus half of its parents' sum. The
+-- parents stand before the points from which the loop starts, so what is read there is what stood at the start.
+-- Assumes nothing.
+use mathlib.Core.Path.{_≡_, refl, ap, ap₂, sym, _∙_}
+use mathlib.Core.Bool.{true, false}
+use mathlib.Core.List.{List}
+use Prim.Native.Nat.{ℕ, suc, _≤_, _<_}
+use native.Mathlib.Omega.{arith}
+use lib.IntN.{ℤ, _+ℤ_}
+use lib.ListN.{length, set, length-set}
+use Rattle.naturals.proofs.Cases.{eq-or-not, le-or-lt}
+use Rattle.integers.specs.Half.{half, isEven, inLimit}
+use Rattle.numbering.specs.declared.Side.{Side}
+use Rattle.numbering.specs.declared.Side.the-variants.{Left, Right}
+use Rattle.numbering.specs.Count.{points}
+use Rattle.hierarchy.specs.Turns.{valueAt, sumOn}
+use Rattle.hierarchy.specs.Work.{put, mixed}
+use Rattle.hierarchy.proofs.Work.{put-same, put-other}
+use Rattle.hierarchy.proofs.Sweeps.{mixed-low, mixed-high, value-set, list-of-values}
+use Rattle.zero_border.specs.ZeroBorder.{neighbour}
+use Rattle.turns.specs.Steps.{OnAxis, Limited, between, raised, raisesOn, FilledBetween}
+use Rattle.turns.proofs.AtPoint.{AtParents}
+use Rattle.turns.proofs.Accepting.{code-limited}
+
+-- ---- what stands between two numbers
+
+module _ (lo hi : ℕ) (f g : ℕ → ℤ) where
+  pub between-low : (q : ℕ) → q ≤ lo → between lo hi f g q ≡ g q
+  unfolding between
+  between-low q h = mixed-low lo g (mixed hi f g) q h
+
+  pub between-inside : (q : ℕ) → lo < q → q ≤ hi → between lo hi f g q ≡ f q
+  unfolding between
+  between-inside q from to = mixed-high lo g (mixed hi f g) q from ∙ mixed-low hi f g q to
+
+  pub between-high : (q : ℕ) → lo < q → hi < q → between lo hi f g q ≡ g q
+  unfolding between
+  between-high q from past = mixed-high lo g (mixed hi f g) q from ∙ mixed-high hi f g q past
+
+  -- Nothing lies between a number and itself.
+  pub between-none : hi ≤ lo → (q : ℕ) → g q ≡ between lo hi f g q
+  between-none none q = le-or-lt q lo (λ low. sym (between-low q low)) (λ high. sym (between-high q high (omega arith)))
+
+-- ---- the loop
+
+module _ (d n t lo hi : ℕ) (xs : List ℤ) where
+  pub record Raising (ys : List ℤ) (p : ℕ) : Type 0 where
+    pub axis : OnAxis d n t xs
+    pub limited : Limited xs (length xs)
+    pub inside : hi ≤ points d n
+    pub from : lo ≤ p
+    pub to : p ≤ hi
+    pub long : length ys ≡ points d n
+    pub held : (q : ℕ) → valueAt ys q ≡ between lo p (raised d n t xs) (valueAt xs) q
+    pub passed : (q : ℕ) → lo ≤ q → q < p → raisesOn d n t xs q ≡ true
+
+  pub raising-starts : OnAxis d n t xs → Limited xs (length xs) → hi ≤ points d n → lo ≤ hi → Raising xs lo
+  raising-starts axis limited inside to =
+      record {
+        axis = axis;
+        limited = limited;
+        inside = inside;
+        from = omega arith;
+        to = to;
+        long = axis .long;
+        held = between-none lo lo (raised d n t xs) (valueAt xs) (omega arith);
+        passed = λ q from to. absurd (omega arith);
+      }
+
+  pub raising-ends : (ys : List ℤ) (p : ℕ) → Raising ys p → (p < hi → raisesOn d n t xs p ≡ false) → FilledBetween d n t lo hi xs p ys
+  raising-ends ys p s stop =
+      record {
+        from = s .from;
+        to = s .to;
+        holds = list-of-values (points d n) ys (between lo p (raised d n t xs) (valueAt xs)) (s .long) (s .held);
+        passed = s .passed;
+        stopped = stop;
+      }
+
+  -- One turn of the loop, at point number p.
+  module _ (ys : List ℤ) (p : ℕ) (s : Raising ys p) (more : p < hi) (before : (b : Side) → neighbour d n t b (suc p) ≤ lo)
+      (a b : ℤ) (parents : AtParents d n t ys p a b) where
+    left-held : a ≡ valueAt xs (neighbour d n t Left (suc p))
+    left-held = parents .left ∙ s .held _ ∙ between-low lo p (raised d n t xs) (valueAt xs) _ (before Left)
+
+    right-held : b ≡ valueAt xs (neighbour d n t Right (suc p))
+    right-held = parents .right ∙ s .held _ ∙ between-low lo p (raised d n t xs) (valueAt xs) _ (before Right)
+
+    pub parents-limited : (inLimit a ≡ true) × (inLimit b ≡ true)
+    parents-limited = (
+      ap inLimit left-held ∙ code-limited xs (s .limited) _,
+      ap inLimit right-held ∙ code-limited xs (s .limited) _,
+    )
+
+    sum-held : a +ℤ b ≡ sumOn (neighbour d n) t (valueAt xs) (suc p)
+    unfolding sumOn
+    sum-held = ap₂ _+ℤ_ left-held right-held
+
+    pub odd-stops : isEven (a +ℤ b) ≡ false → raisesOn d n t xs p ≡ false
+    unfolding raisesOn
+    odd-stops odd = rw (← sum-held, odd)
+
+    module _ (v : ℤ) (here : v ≡ valueAt ys (suc p)) where
+      here-held : v ≡ valueAt xs (suc p)
+      here-held =
+          here ∙ s .held (suc p) ∙ between-high lo p (raised d n t xs) (valueAt xs) (suc p) (omega (arith, s .from)) (omega arith)
+
+      pub all-limited : (inLimit v ≡ true) × (inLimit a ≡ true) × (inLimit b ≡ true)
+      all-limited = (ap inLimit here-held ∙ code-limited xs (s .limited) _, parents-limited .0, parents-limited .1)
+
+      module _ (w : ℤ) (made : w ≡ v +ℤ half (a +ℤ b)) where
+        raised-is : w ≡ raised d n t xs (suc p)
+        unfolding raised
+        raised-is = made ∙ ap₂ (λ (x y : ℤ). x +ℤ half y) here-held sum-held
+
+        pub large-stops : isEven (a +ℤ b) ≡ true → inLimit w ≡ false → raisesOn d n t xs p ≡ false
+        unfolding raisesOn
+        large-stops even large = rw (← sum-held, even, ← raised-is, large)
+
+        passes : isEven (a +ℤ b) ≡ true → inLimit w ≡ true → raisesOn d n t xs p ≡ true
+        unfolding raisesOn
+        passes even small = rw (← sum-held, even, ← raised-is, small)
+
+        next-held : (q : ℕ) → put (valueAt ys) (suc p) w q ≡ between lo (suc p) (raised d n t xs) (valueAt xs) q
+        next-held q =
+            eq-or-not q (suc p)
+            (λ e.
+            rw e
+            (put-same (valueAt ys) (suc p) w
+            ∙ raised-is
+            ∙ sym (between-inside lo (suc p) (raised d n t xs) (valueAt xs) (suc p) (omega (arith, s .from)) (omega arith))))
+            (λ ne.
+            put-other (valueAt ys) (suc p) w q ne
+            ∙ s .held q
+            ∙ le-or-lt q lo
+            (λ low.
+            between-low lo p (raised d n t xs) (valueAt xs) q low ∙ sym (between-low lo (suc p) (raised d n t xs) (valueAt xs) q low))
+            (λ high.
+            le-or-lt q p
+            (λ done.
+            between-inside lo p (raised d n t xs) (valueAt xs) q high done
+            ∙ sym (between-inside lo (suc p) (raised d n t xs) (valueAt xs) q high (omega arith)))
+            (λ later.
+            between-high lo p (raised d n t xs) (valueAt xs) q high later
+            ∙ sym (between-high lo (suc p) (raised d n t xs) (valueAt xs) q high (omega arith)))))
+
+        pub raising-steps : isEven (a +ℤ b) ≡ true → inLimit w ≡ true → Raising (set ys p w) (suc p)
+        raising-steps even small =
+            record {
+              axis = s .axis;
+              limited = s .limited;
+              inside = s .inside;
+              from = omega (arith, s .from);
+              to = more;
+              long = length-set ys p w ∙ s .long;
+              held = λ q. ap (λ (f : ℕ → ℤ). f q) (value-set ys p w (omega (arith, s .long, s .inside))) ∙ next-held q;
+              passed =
+                  λ q from to.
+                  eq-or-not q p (λ e. rw e (passes even small)) (λ ne. s .passed q from (omega arith));
+            }
