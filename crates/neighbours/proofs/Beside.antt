@@ -22,7 +22,7 @@ use Rattle.numbering.proofs.Position.{position-low}
 use Rattle.numbering.proofs.Numbering.{points-is, start-mono, number-in-shell}
 use Rattle.numbering.proofs.Named.{Named}
 use Rattle.numbering.proofs.Subspaces.{first-is, number-from-first, indicesTo, indices-in, block-point, block-position, block-below, block-levels, block-indices}
-use Rattle.numbering.proofs.Parents.{Inside, inside, level-falls, update-other, update-sum, parent-border, parent-inner, parent-is-point, parent-sum}
+use Rattle.numbering.proofs.Parents.{Inside, inside, level-falls, update-other, update-sum, level-zero-border, parent-border, parent-inner, parent-is-point, parent-sum}
 use Rattle.numbering.proofs.ParentPlaces.{moved-position}
 use Rattle.shapes.proofs.Totals.{start-small}
 use Rattle.zero_border.specs.ZeroBorder.{codeOf, neighbour}
@@ -238,6 +238,18 @@ module _ {v : Subspace} (s : Seen v) (p : ℕ) (from : v .start ≤ p) (to : p <
           first-is (v .line .axes) (s .levels),
           s .start,
         ))
+
+  -- At level 0 of the axis both are the border.
+  pub flat : v .own ≡ 0 → (b : Side) → neighbour (v .line .axes) (v .line .level) (v .line .place) b (suc p) ≡ 0
+  flat e b =
+      let zero : s .levels (v .line .place) ≡ 0 = sym (s .own) ∙ e in
+      beside b
+      ∙ ap (codeOf (v .line .axes))
+      (parent-border (v .line .place) b (s .levels) _
+      (ap (λ (l : ℕ). isBorder l (top b)) zero
+      ∙ level-zero-border b _ (named .point .odd (v .line .place) (s .axis))
+      (omega (arith, named .point .below (v .line .place) (s .axis), ap (λ (l : ℕ). 2 ^ suc l) zero))))
+      ∙ code-border (v .line .axes)
 
   -- The codes of both parents.
   pub left-code :

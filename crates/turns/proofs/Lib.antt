@@ -3,6 +3,7 @@ pub mod Accepting
 pub mod AtPoint
 pub mod Sweeping
 pub mod Raising
+pub mod Flat
 pub mod Filling
 pub mod Former
 pub mod Answering

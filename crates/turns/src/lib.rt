@@ -75,7 +75,8 @@ fn subspace_moves(v: Subspace, table: &[i64], from: u64) -> bool
     true
 }
 
-// The forward turn is accepted. No sum is formed of values that were not tested.
+// The forward turn is accepted. No sum is formed of values that were not tested. Points of level 0 on the axis have the border on both sides: they do
+// not move, here and below.
 fn is_accepted(line: Line, table: &[i64]) -> bool
     requires { ⌜ OnAxis (line .axes) (line .level) (line .place) (now table) ⌝ }
     ensures { λ r. ⌜ r ≡ accepted (neighbour (line .axes) (line .level)) (points (line .axes) (line .level)) (line .place) (valueAt (now (table .entry))) ⌝ }
@@ -86,8 +87,10 @@ fn is_accepted(line: Line, table: &[i64]) -> bool
     let mut p: u64 = 0;
     while p < table.len() as u64 {
         let v = neighbours::subspace_of(line, p);
-        if !subspace_moves(v, table, p) {
-            return false;
+        if 0 < v.own {
+            if !subspace_moves(v, table, p) {
+                return false;
+            }
         }
         p = v.end;
     }
@@ -119,7 +122,9 @@ fn sweep(line: Line, table: &mut [i64], count: u64)
     let mut p = count;
     while 0 < p {
         let v = neighbours::subspace_of(line, p - 1);
-        sweep_subspace(v, table, p);
+        if 0 < v.own {
+            sweep_subspace(v, table, p);
+        }
         p = v.start;
     }
 }
@@ -156,9 +161,11 @@ fn fill(line: Line, table: &mut [i64]) -> u64
     let mut p: u64 = 0;
     while p < table.len() as u64 {
         let v = neighbours::subspace_of(line, p);
-        let filled = fill_subspace(v, table, p);
-        if filled < v.end {
-            return filled;
+        if 0 < v.own {
+            let filled = fill_subspace(v, table, p);
+            if filled < v.end {
+                return filled;
+            }
         }
         p = v.end;
     }

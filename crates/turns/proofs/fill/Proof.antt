@@ -9,7 +9,8 @@ use lib.ListN.{length}
 use Rattle.numbering.specs.declared.Side.{Side}
 use Rattle.numbering.specs.Count.{points}
 use Rattle.zero_border.specs.ZeroBorder.{neighbour}
-use Rattle.neighbours.proofs.Beside.{end-inside, parent-before}
+use Rattle.neighbours.proofs.Beside.{end-inside, parent-before, flat}
+use Rattle.turns.proofs.Flat.{filled-flat}
 use Rattle.turns.proofs.Filling.{FilledUp, filled-starts, filled-ends, all-limited, filled-block, block-stops}
 use Rattle.turns.proofs.fill.Statement.{statement}
 use Rattle.turns.proofs.fill.Tie as tie
@@ -46,11 +47,12 @@ before c q from to b =
 
 fill-subspace-requires : tie.Need-fill-subspace-requires Inv-loop μ-loop
 fill-subspace-requires c κs =
-    let s = c .before .before .before .loop .inv in
-    let v = c .before .subspace-of .ensures in (
+    let known = c .before .before .before in
+    let s = known .before .before .loop .inv in
+    let v = known .subspace-of .ensures in (
       v .0,
       rw (v .1) (record { few = s .axis .few; low = s .axis .low; place = s .axis .place; long = s .long }),
-      all-limited _ _ _ _ _ _ s _ (inside (c .before)) (before (c .before)),
+      all-limited _ _ _ _ _ _ s _ (inside known) (before known),
       v .2,
       omega (arith, v .3),
     )
@@ -60,23 +62,42 @@ same-length c = search needs
 
 returns : tie.Need-returns Inv-loop μ-loop
 returns c =
-    let known = c .before .before .before .before .before in
+    let known = c .before .before .before .before .before .before .before in
     let s = known .before .before .loop .inv in
     let done = rw (known .subspace-of .ensures .1) at (c .before .before .before .fill-subspace .ensures) in
     filled-ends _ _ _ _ _ _
     (filled-block _ _ _ _ _ _ s _ (inside known) (before known) _ _ done)
-    (λ more. block-stops _ _ _ _ _ _ s _ (inside known) (before known) _ _ done (c .if1 .taken))
+    (λ more. block-stops _ _ _ _ _ _ s _ (inside known) (before known) _ _ done (c .if2 .taken))
+
+-- The number from which the loop goes on.
+higher : (c : tie.After-subspace-of Inv-loop μ-loop) → length (c .before .before .before .args .table .now) - c .subspace-of .result .end < length (c .before .before .before .args .table .now) - c .before .before .loop .p
+higher c =
+    let s = c .before .before .loop .inv in
+    omega (arith, c .subspace-of .ensures .3, inside c, s .axis .long, s .long, c .before .loop-test .taken)
 
 loop-less : tie.Need-loop-less Inv-loop μ-loop
-loop-less c = search needs
+loop-less c = higher (c .before .before .before .before .before .before .before)
 
 loop-again : tie.Need-loop-again Inv-loop μ-loop
 loop-again c =
-    let known = c .before .before .before .before .before in
+    let known = c .before .before .before .before .before .before .before in
     let s = known .before .before .loop .inv in
     let done = rw (known .subspace-of .ensures .1) at (c .before .before .before .fill-subspace .ensures) in
-    let all : c .before .before .before .fill-subspace .result ≡ known .subspace-of .result .end = omega (arith, done .to, c .if1 .left) in
+    let all : c .before .before .before .fill-subspace .result ≡ known .subspace-of .result .end = omega (arith, done .to, c .if2 .left) in
     rw (sym all) (filled-block _ _ _ _ _ _ s _ (inside known) (before known) _ _ done)
+
+loop-less-2 : tie.Need-loop-less-2 Inv-loop μ-loop
+loop-less-2 c = higher (c .before .before)
+
+loop-again-2 : tie.Need-loop-again-2 Inv-loop μ-loop
+loop-again-2 c =
+    let known = c .before .before in
+    let v = known .subspace-of .ensures in
+    let s = known .before .before .loop .inv in
+    filled-block _ _ _ _ _ _ s _ (inside known) (before known) _ _
+    (filled-flat _ _ _ _ _ _ (s .long)
+    (λ q from to b. rw (v .1) at (flat (v .0) q (omega (arith, v .2)) to (omega (arith, c .if1 .left)) b))
+    (omega (arith, v .3)) (inside known) (all-limited _ _ _ _ _ _ s _ (inside known) (before known)))
 
 same-length-2 : tie.Need-same-length-2 Inv-loop μ-loop
 same-length-2 c = c .before .loop .inv .long ∙ sym (c .before .loop .inv .axis .long)
@@ -97,5 +118,7 @@ fill-spec =
     returns
     loop-less
     loop-again
+    loop-less-2
+    loop-again-2
     same-length-2
     returns-2)

@@ -1,7 +1,11 @@
--- `turns::sweep` meets its contract: each turn of the loop sweeps the points of one level vector, whose parents are as they were.
+-- `turns::sweep` meets its contract: each turn of the loop sweeps the points of one level vector, whose parents are as they were;
+-- those of level 0 on the axis do not move.
 -- Assumes nothing.
+use Prim.Native.Nat.{_<_}
 use native.Mathlib.Omega.{arith}
 use borrow.Author.Needs.{needs}
+use Rattle.neighbours.proofs.Beside.{flat}
+use Rattle.turns.proofs.Flat.{swept-flat}
 use Rattle.turns.proofs.Sweeping.{SweptDown, swept-starts, swept-ends, rest-limited, swept-block}
 use Rattle.turns.proofs.sweep.Statement.{statement}
 use Rattle.turns.proofs.sweep.Tie as tie
@@ -25,8 +29,8 @@ subspace-of-requires c κs =
 
 sweep-subspace-requires : tie.Need-sweep-subspace-requires Inv-loop μ-loop
 sweep-subspace-requires c κs =
-    let s = c .before .before .before .loop .inv in
-    let v = c .before .subspace-of .ensures in (
+    let s = c .before .before .before .before .before .loop .inv in
+    let v = c .before .before .before .subspace-of .ensures in (
       v .0,
       rw (v .1) (record { few = s .axis .few; low = s .axis .low; place = s .axis .place; long = s .long }),
       rest-limited _ _ _ _ _ _ _ s,
@@ -34,16 +38,31 @@ sweep-subspace-requires c κs =
       omega (arith, v .3),
     )
 
+-- The number from which the loop goes on.
+lower : (c : tie.After-subspace-of Inv-loop μ-loop) → c .subspace-of .result .start < c .before .before .loop .p
+lower c = omega (arith, c .subspace-of .ensures .2, c .before .loop-test .taken)
+
 loop-less : tie.Need-loop-less Inv-loop μ-loop
-loop-less c =
-    let v = c .before .before .before .subspace-of .ensures in
-    omega (arith, v .2, c .before .before .before .before .loop-test .taken)
+loop-less c = lower (c .before .before .before .before .before)
 
 loop-again : tie.Need-loop-again Inv-loop μ-loop
 loop-again c =
-    let v = c .before .before .before .subspace-of .ensures in
-    swept-block _ _ _ _ _ _ _ (c .before .before .before .before .before .loop .inv) _ (omega (arith, v .2)) _
-    (rw (v .1) at (c .before .sweep-subspace .ensures))
+    let known = c .before .before .before .before .before in
+    swept-block _ _ _ _ _ _ _ (known .before .before .loop .inv) _ (omega (arith, lower known)) _
+    (rw (known .subspace-of .ensures .1) at (c .before .sweep-subspace .ensures))
+
+loop-less-2 : tie.Need-loop-less-2 Inv-loop μ-loop
+loop-less-2 c = lower (c .before .before)
+
+loop-again-2 : tie.Need-loop-again-2 Inv-loop μ-loop
+loop-again-2 c =
+    let known = c .before .before in
+    let v = known .subspace-of .ensures in
+    let s = known .before .before .loop .inv in
+    swept-block _ _ _ _ _ _ _ s _ (omega (arith, lower known)) _
+    (rw (v .1) at
+    (swept-flat _ _ _ (known .subspace-of .result .start) (known .before .before .loop .p) (known .before .before .loop .table) (rw (v .1) (s .long))
+    (λ q from to. flat (v .0) q from (omega (arith, v .3)) (omega (arith, c .if1 .left)))))
 
 same-length : tie.Need-same-length Inv-loop μ-loop
 same-length c = omega (arith, c .before .loop .inv .long, c .before .loop .inv .axis .long)
@@ -63,5 +82,7 @@ sweep-spec =
     sweep-subspace-requires
     loop-less
     loop-again
+    loop-less-2
+    loop-again-2
     same-length
     returns)
