@@ -16,8 +16,8 @@ use Rattle.hierarchy.specs.Turns.{valueAt, sumOn, forward}
 use Rattle.hierarchy.proofs.Values.{value-zero}
 use Rattle.hierarchy.proofs.Sweeps.{list-of-values}
 use Rattle.zero_border.specs.ZeroBorder.{neighbour}
-use Rattle.turns.specs.Steps.{Limited, movesOn, sweptBetween, between, raised, raisesOn, FilledBetween}
-use Rattle.turns.proofs.Raising.{between-low, between-inside, between-high}
+use Rattle.turns.specs.Steps.{Limited, movesOn, between, LoweredBetween, raised, raisesOn, RaisedBetween}
+use Rattle.turns.proofs.Between.{between-low, between-inside, between-high}
 
 half-zero : half (pos 0) ≡ pos 0
 unfolding half
@@ -60,18 +60,25 @@ module _ (d n t lo hi : ℕ) (xs : List ℤ) (long : length xs ≡ points d n) (
           (λ inside. sym (between-inside lo hi f (valueAt xs) (suc q) high inside ∙ same q (omega arith) (omega arith)))
           (λ past. sym (between-high lo hi f (valueAt xs) (suc q) high past))
 
-  pub swept-flat : xs ≡ sweptBetween d n t lo hi xs
-  unfolding sweptBetween
-  swept-flat =
-      list-of-values (points d n) xs _ long
-      (still (forward (neighbour d n) t (valueAt xs)) (λ p from to. forward-still d n t xs p (none p from to)))
+  module _ (le : lo ≤ hi) (inside : hi ≤ points d n) (limited : Limited xs (length xs)) where
+    pub lowered-flat : LoweredBetween d n t lo hi xs lo xs
+    lowered-flat =
+        record {
+          from = omega arith;
+          to = le;
+          holds =
+              list-of-values (points d n) xs _ long
+              (still (forward (neighbour d n) t (valueAt xs)) (λ p from to. forward-still d n t xs p (none p from to)));
+          passed = λ p from to. moves-still d n t xs p (none p from to) (limited p (omega arith));
+          stopped = λ less. absurd (omega arith);
+        }
 
-  pub filled-flat : lo ≤ hi → hi ≤ points d n → Limited xs (length xs) → FilledBetween d n t lo hi xs hi xs
-  filled-flat le inside limited =
-      record {
-        from = le;
-        to = omega arith;
-        holds = list-of-values (points d n) xs _ long (still (raised d n t xs) (λ p from to. raised-still d n t xs p (none p from to)));
-        passed = λ p from to. raises-still d n t xs p (none p from to) (limited p (omega arith));
-        stopped = λ less. absurd (omega arith);
-      }
+    pub raised-flat : RaisedBetween d n t lo hi xs hi xs
+    raised-flat =
+        record {
+          from = le;
+          to = omega arith;
+          holds = list-of-values (points d n) xs _ long (still (raised d n t xs) (λ p from to. raised-still d n t xs p (none p from to)));
+          passed = λ p from to. raises-still d n t xs p (none p from to) (limited p (omega arith));
+          stopped = λ less. absurd (omega arith);
+        }

@@ -1,43 +1,39 @@
--- The table that a forward turn takes to the present one: turned forward it is the present one, so it is not accepted where the present one has a value
--- past the limit. A table filled to its end holds it, and is accepted; one filled only so far shows a point that is not accepted, and the forward
--- steps of the points that were reached give back the present table.
+-- The back turn by steps back. The table that a forward turn takes to the present one, turned forward, is the present one, so it is not accepted where the
+-- present one has a value past the limit. The points that the steps back reach hold it. Where they come to the end, the table is that one and it is
+-- accepted; where they stop, a point shows that it is not, and the forward steps of the points that were reached give back the present table.
 -- Assumes nothing.
-use mathlib.Core.Path.{_≡_, refl, ap, ap₂, sym, _∙_, fun-ext}
-use mathlib.Core.Bool.{true, false, _&&_, false≢true}
-use mathlib.Core.List.{List, [], _∷_, _++_}
-use Prim.Native.Nat.{ℕ, zero, suc, _≤_, _<_}
+use mathlib.Core.Path.{_≡_, refl, ap, ap₂, sym, _∙_}
+use mathlib.Core.Bool.{Bool, true, false, _&&_, false≢true, true≢false}
+use mathlib.Core.List.{List}
+use Prim.Native.Nat.{ℕ, zero, suc, _-_, _≤_, _<_}
 use native.Mathlib.Omega.{arith}
-use lib.IntN.{ℤ, pos}
+use lib.IntN.{ℤ, pos, _+ℤ_, _-ℤ_, +ℤ-negℤ-cancel}
 use lib.ListN.{length}
 use Rattle.naturals.specs.Test.{all}
-use Rattle.naturals.proofs.Cases.{true-or-false}
+use Rattle.naturals.proofs.Cases.{eq-or-not, le-or-lt, true-or-false}
 use Rattle.naturals.proofs.Tests.{and-right, all-at, all-from, all-fails}
-use Rattle.integers.specs.Half.{isEven, inLimit}
+use Rattle.integers.specs.Half.{half, isEven, inLimit}
 use Rattle.numbering.specs.Count.{points}
-use Rattle.hierarchy.specs.Turns.{valueAt, valuesOf, sumOn, forward, acceptedAt, accepted}
-use Rattle.hierarchy.specs.Work.{mixed}
+use Rattle.hierarchy.specs.Turns.{valueAt, valuesOf, sumOn, forward, acceptedAt, accepted, backward}
 use Rattle.hierarchy.proofs.Inverse.{backward-zero, forward-past, forward-of-back}
-use Rattle.hierarchy.proofs.Values.{value-zero, value-past, values-length, value-of-values, values-of-value}
+use Rattle.hierarchy.proofs.Values.{value-zero, value-past, value-of-values, values-of-value}
 use Rattle.hierarchy.proofs.Sweeps as sweeps
+use Rattle.hierarchy.proofs.Sweeps.{list-of-values}
 use Rattle.zero_border.specs.ZeroBorder.{neighbour, depth}
-use Rattle.zero_border.proofs.Instance.{zero-border}
-use Rattle.turns.specs.Steps.{OnAxis, Limited, allLimited, sweptTo, former, Filled}
+use Rattle.zero_border.proofs.Instance.{zero-border, depth-le}
+use Rattle.turns.specs.Steps.{OnAxis, Limited, allLimited, movesOn, between, LoweredBetween, raised, raisesOn, RaisedFrom}
 use Rattle.turns.proofs.Accepting.{limited-passes}
 use Rattle.turns.proofs.AtPoint.{earlier}
-use Rattle.turns.proofs.Filling.{shallow, accepted-limited}
+use Rattle.turns.proofs.Between.{between-inside, between-high}
+use Rattle.turns.proofs.Turned.{values-same, sum-before}
 
--- Where all points hold the one table, the list is that one's.
-pub all-mixed : (k : ℕ) (f g : ℕ → ℤ) (m : ℕ) → m ≤ k → valuesOf m (mixed k f g) ≡ valuesOf m f
-unfolding valuesOf
-all-mixed k f g zero h = refl
-all-mixed k f g (suc m) h =
-    ap₂ (λ (xs : List ℤ) (v : ℤ). xs ++ (v ∷ [])) (all-mixed k f g m (omega arith)) (sweeps.mixed-low k f g (suc m) h)
+-- The table that a forward turn takes to this one.
+abbrev former : ℕ → ℕ → ℕ → List ℤ → ℕ → ℤ
+former d n t xs = backward (neighbour d n) (suc n) t (valueAt xs)
 
--- A whole table swept is the turned one.
-pub all-swept : (d n t : ℕ) (xs : List ℤ) (k : ℕ) → points d n ≤ k →
-    sweptTo d n t k xs ≡ valuesOf (points d n) (forward (neighbour d n) t (valueAt xs))
-unfolding sweptTo
-all-swept d n t xs k h = all-mixed k (forward (neighbour d n) t (valueAt xs)) (valueAt xs) (points d n) h
+-- No code lies deeper than the steps back go.
+shallow : (d n t p : ℕ) → depth d n t p < suc n
+shallow d n t p = omega (arith, depth-le d n t p)
 
 -- The value that an accepted point has after the turn is within the limit.
 after-limited : (d n t : ℕ) (f : ℕ → ℤ) (p : ℕ) → acceptedAt (neighbour d n) t f p ≡ true → inLimit (forward (neighbour d n) t f (suc p)) ≡ true
@@ -85,49 +81,115 @@ module _ (d n t : ℕ) (xs : List ℤ) (axis : OnAxis d n t xs) where
       (all-at (acceptedAt (neighbour d n) t (former d n t xs)) (points d n) yes p (omega (arith, axis .long)))))))
       (λ no. no))
 
-  module _ (k : ℕ) (ys : List ℤ) (filled : Filled d n t xs k ys) where
-    pub filled-length : length ys ≡ points d n
-    filled-length = ap length (filled .holds) ∙ values-length (points d n) (mixed k (former d n t xs) (valueAt xs))
+  module _ (limited : Limited xs (length xs)) (k : ℕ) (ys : List ℤ) (way : RaisedFrom d n t 0 xs k ys) where
+    pub raised-limited : Limited ys (length ys)
+    raised-limited q h =
+        le-or-lt (suc q) k
+        (λ done. way .up .small q (omega arith) done)
+        (λ later. ap inLimit (way .up .rest (suc q) later) ∙ limited q (omega (arith, way .up .long, axis .long)))
 
-    filled-at : (p : ℕ) → valueAt ys p ≡ mixed k (former d n t xs) (valueAt xs) p
-    filled-at p = ap (λ (f : ℕ → ℤ). f p) (ap valueAt (filled .holds) ∙ as-function)
-      where
-        as-function : valueAt (valuesOf (points d n) (mixed k (former d n t xs) (valueAt xs))) ≡ mixed k (former d n t xs) (valueAt xs)
-        as-function =
-            value-of-values (points d n) (mixed k (former d n t xs) (valueAt xs))
-            (sweeps.mixed-low k (former d n t xs) (valueAt xs) 0 (omega arith) ∙ former-zero)
-            (λ p h. sweeps.mixed-high k (former d n t xs) (valueAt xs) p (omega (arith, filled .within)) ∙ past-zero p h)
+    -- The points that were reached hold the former table, each by those before it.
+    reached-to : (m q : ℕ) → q < m → q ≤ k → valueAt ys q ≡ former d n t xs q
+    reached-to zero q h to = absurd (omega arith)
+    reached-to (suc m) zero h to = value-zero ys ∙ sym former-zero
+    reached-to (suc m) (suc q) h to =
+        way .up .made (suc q) (omega arith) to
+        ∙ ap (λ (w : ℤ). valueAt xs (suc q) +ℤ half w)
+        (sum-before d n t (axis .low) (valueAt ys) (former d n t xs) (suc q) (value-zero ys ∙ sym former-zero)
+        (λ u below. reached-to m u (omega arith) (omega arith)))
+        ∙ sym
+        (sweeps.result-at (points d n) (neighbour d n) (depth d n) (zero-border d n (axis .low)) t (earlier d n t (axis .low))
+        (suc n) (shallow d n t) (valueAt xs) (value-zero xs) (suc q))
 
-    -- The points that were reached can be turned forward again,
-    pub reached-limited : Limited ys k
-    reached-limited p h =
-        ap inLimit (filled-at (suc p) ∙ sweeps.mixed-low k (former d n t xs) (valueAt xs) (suc p) h)
-        ∙ accepted-limited d n t (former d n t xs) p (filled .passed p h)
+    reached : (q : ℕ) → q ≤ k → valueAt ys q ≡ former d n t xs q
+    reached q h = reached-to (suc q) q (omega arith) h
 
-    -- and that gives back the table.
-    pub given-back : sweptTo d n t k ys ≡ xs
-    unfolding sweptTo
-    given-back =
-        ap (valuesOf (points d n))
-        (fun-ext
-        (sweeps.undone (points d n) (neighbour d n) (depth d n) (zero-border d n (axis .low)) t (earlier d n t (axis .low)) (suc n)
-        (shallow d n t) (valueAt xs) (value-zero xs) k (valueAt ys) filled-at))
-        ∙ values-of-value (points d n) xs (axis .long)
+    sum-reached : (q : ℕ) → q ≤ suc k → sumOn (neighbour d n) t (valueAt ys) q ≡ sumOn (neighbour d n) t (former d n t xs) q
+    sum-reached q h =
+        sum-before d n t (axis .low) (valueAt ys) (former d n t xs) q (value-zero ys ∙ sym former-zero) (λ u below. reached u (omega arith))
+
+    turned-limited : (p : ℕ) → p < points d n → inLimit (forward (neighbour d n) t (former d n t xs) (suc p)) ≡ true
+    turned-limited p h = ap inLimit (forward-former (suc p)) ∙ limited p (omega (arith, axis .long))
+
+    accepted-at : (p : ℕ) → p < k → acceptedAt (neighbour d n) t (former d n t xs) p ≡ true
+    unfolding acceptedAt
+    accepted-at p h =
+        rw (
+          turned-limited p (omega (arith, way .up .within)),
+          sym (ap isEven (sum-reached (suc p) (omega arith))) ∙ way .up .even p (omega arith) h,
+          sym (ap inLimit (reached (suc p) h)) ∙ way .up .small p (omega arith) h,
+        )
 
     -- A point that stopped the way up is not accepted.
+    raised-former : raised d n t ys (suc k) ≡ former d n t xs (suc k)
+    unfolding raised
+    raised-former =
+        ap₂ (λ (v w : ℤ). v +ℤ half w) (way .up .rest (suc k) (omega arith)) (sum-reached (suc k) (omega arith))
+        ∙ sym
+        (sweeps.result-at (points d n) (neighbour d n) (depth d n) (zero-border d n (axis .low)) t (earlier d n t (axis .low))
+        (suc n) (shallow d n t) (valueAt xs) (value-zero xs) (suc k))
+
+    stopped-at : k < points d n → acceptedAt (neighbour d n) t (former d n t xs) k ≡ false
+    unfolding acceptedAt raisesOn
+    stopped-at h =
+        rw (turned-limited k h)
+        (exchanged (inLimit (former d n t xs (suc k))) (isEven (sumOn (neighbour d n) t (former d n t xs) (suc k)))
+        (ap₂ (λ (w v : ℤ). isEven w && inLimit v) (sym (sum-reached (suc k) (omega arith))) (sym raised-former) ∙ way .stopped h))
+      where
+        exchanged : (a b : Bool) → b && a ≡ false → a && b && true ≡ false
+        exchanged true true e = e
+        exchanged true false e = refl
+        exchanged false true e = refl
+        exchanged false false e = refl
+
     pub stopped-refuses : k < points d n →
         accepted (neighbour d n) (points d n) t (valueAt (valuesOf (points d n) (former d n t xs))) ≡ false
     unfolding accepted
-    stopped-refuses h =
-        rw former-holds (all-fails (acceptedAt (neighbour d n) t (former d n t xs)) (points d n) k h (filled .stopped h))
+    stopped-refuses h = rw former-holds (all-fails (acceptedAt (neighbour d n) t (former d n t xs)) (points d n) k h (stopped-at h))
 
     -- At the end of the way the table is the former one, and it is accepted.
     pub end-holds : points d n ≤ k → ys ≡ valuesOf (points d n) (former d n t xs)
-    end-holds h = filled .holds ∙ all-mixed k (former d n t xs) (valueAt xs) (points d n) h
+    end-holds h =
+        list-of-values (points d n) ys (valueAt ys) (way .up .long) (λ q. refl)
+        ∙ values-same (points d n) (valueAt ys) (former d n t xs) (λ p below. reached (suc p) (omega arith))
 
     pub end-accepted : points d n ≤ k →
         accepted (neighbour d n) (points d n) t (valueAt (valuesOf (points d n) (former d n t xs))) ≡ true
     unfolding accepted
     end-accepted h =
         rw former-holds
-        (all-from (acceptedAt (neighbour d n) t (former d n t xs)) (points d n) (λ p below. filled .passed p (omega arith)))
+        (all-from (acceptedAt (neighbour d n) t (former d n t xs)) (points d n) (λ p below. accepted-at p (omega arith)))
+
+    -- The steps down of the points that were reached are all accepted and give back the table.
+    module _ (r : ℕ) (zs : List ℤ) (low : LoweredBetween d n t 0 k ys r zs) where
+      taken-back : (q : ℕ) → 0 < q → q ≤ k → forward (neighbour d n) t (valueAt ys) q ≡ valueAt xs q
+      unfolding forward
+      taken-back q from to =
+          ap (λ (v : ℤ). v -ℤ half (sumOn (neighbour d n) t (valueAt ys) q)) (way .up .made q from to)
+          ∙ +ℤ-negℤ-cancel (valueAt xs q) (half (sumOn (neighbour d n) t (valueAt ys) q))
+
+      moves-back : (p : ℕ) → p < k → movesOn d n t ys p ≡ true
+      unfolding movesOn
+      moves-back p h =
+          rw (way .up .even p (omega arith) h, taken-back (suc p) (omega arith) h, limited p (omega (arith, axis .long, way .up .within)))
+
+      to-first : r ≡ 0
+      to-first =
+          eq-or-not r 0 (λ e. e)
+          (λ ne. absurd (true≢false (sym (moves-back (r - 1) (omega (arith, low .to))) ∙ low .stopped (omega arith))))
+
+      pub given-back : zs ≡ xs
+      given-back =
+          low .holds
+          ∙ values-same (points d n) _ (valueAt xs) each
+          ∙ values-of-value (points d n) xs (axis .long)
+        where
+          each : (p : ℕ) → p < points d n → between r k (forward (neighbour d n) t (valueAt ys)) (valueAt ys) (suc p) ≡ valueAt xs (suc p)
+          each p h =
+              le-or-lt (suc p) k
+              (λ done.
+              between-inside r k (forward (neighbour d n) t (valueAt ys)) (valueAt ys) (suc p) (omega (arith, to-first)) done
+              ∙ taken-back (suc p) (omega arith) done)
+              (λ later.
+              between-high r k (forward (neighbour d n) t (valueAt ys)) (valueAt ys) (suc p) (omega (arith, to-first)) later
+              ∙ way .up .rest (suc p) later)

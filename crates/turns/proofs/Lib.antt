@@ -1,10 +1,12 @@
 pub mod Checking
 pub mod Accepting
 pub mod AtPoint
-pub mod Sweeping
+pub mod Between
+pub mod Lowering
 pub mod Raising
+pub mod Rising
 pub mod Flat
-pub mod Filling
+pub mod Turned
 pub mod Former
 pub mod Answering
 pub mod Undoing

@@ -1,4 +1,4 @@
--- The steps back of points of one level vector, as the loop of `fill_subspace` makes them: each value becomes itself plus half of its parents' sum. The
+-- The steps back of points of one level vector, as the loop of `raise_subspace` makes them: each value becomes itself plus half of its parents' sum. The
 -- parents stand before the points from which the loop starts, so what is read there is what stood at the start.
 -- Assumes nothing.
 use mathlib.Core.Path.{_≡_, refl, ap, ap₂, sym, _∙_}
@@ -14,34 +14,14 @@ use Rattle.numbering.specs.declared.Side.{Side}
 use Rattle.numbering.specs.declared.Side.the-variants.{Left, Right}
 use Rattle.numbering.specs.Count.{points}
 use Rattle.hierarchy.specs.Turns.{valueAt, sumOn}
-use Rattle.hierarchy.specs.Work.{put, mixed}
+use Rattle.hierarchy.specs.Work.{put}
 use Rattle.hierarchy.proofs.Work.{put-same, put-other}
-use Rattle.hierarchy.proofs.Sweeps.{mixed-low, mixed-high, value-set, list-of-values}
+use Rattle.hierarchy.proofs.Sweeps.{value-set, list-of-values}
 use Rattle.zero_border.specs.ZeroBorder.{neighbour}
-use Rattle.turns.specs.Steps.{OnAxis, Limited, between, raised, raisesOn, FilledBetween}
+use Rattle.turns.specs.Steps.{OnAxis, Limited, between, raised, raisesOn, RaisedBetween}
 use Rattle.turns.proofs.AtPoint.{AtParents}
 use Rattle.turns.proofs.Accepting.{code-limited}
-
--- ---- what stands between two numbers
-
-module _ (lo hi : ℕ) (f g : ℕ → ℤ) where
-  pub between-low : (q : ℕ) → q ≤ lo → between lo hi f g q ≡ g q
-  unfolding between
-  between-low q h = mixed-low lo g (mixed hi f g) q h
-
-  pub between-inside : (q : ℕ) → lo < q → q ≤ hi → between lo hi f g q ≡ f q
-  unfolding between
-  between-inside q from to = mixed-high lo g (mixed hi f g) q from ∙ mixed-low hi f g q to
-
-  pub between-high : (q : ℕ) → lo < q → hi < q → between lo hi f g q ≡ g q
-  unfolding between
-  between-high q from past = mixed-high lo g (mixed hi f g) q from ∙ mixed-high hi f g q past
-
-  -- Nothing lies between a number and itself.
-  pub between-none : hi ≤ lo → (q : ℕ) → g q ≡ between lo hi f g q
-  between-none none q = le-or-lt q lo (λ low. sym (between-low q low)) (λ high. sym (between-high q high (omega arith)))
-
--- ---- the loop
+use Rattle.turns.proofs.Between.{between-low, between-inside, between-high, between-none}
 
 module _ (d n t lo hi : ℕ) (xs : List ℤ) where
   pub record Raising (ys : List ℤ) (p : ℕ) : Type 0 where
@@ -67,7 +47,7 @@ module _ (d n t lo hi : ℕ) (xs : List ℤ) where
         passed = λ q from to. absurd (omega arith);
       }
 
-  pub raising-ends : (ys : List ℤ) (p : ℕ) → Raising ys p → (p < hi → raisesOn d n t xs p ≡ false) → FilledBetween d n t lo hi xs p ys
+  pub raising-ends : (ys : List ℤ) (p : ℕ) → Raising ys p → (p < hi → raisesOn d n t xs p ≡ false) → RaisedBetween d n t lo hi xs p ys
   raising-ends ys p s stop =
       record {
         from = s .from;

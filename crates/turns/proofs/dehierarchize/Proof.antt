@@ -1,5 +1,5 @@
 -- `turns::dehierarchize` meets its contract: the checks that refuse answer in their order. Where the way up stops, the former table is not accepted and the
--- sweep of the points reached gives back the table; where it comes to the end, the table is the former one, and it is accepted.
+-- steps down of the points reached give back the table; where it comes to the end, the table is the former one, and it is accepted.
 -- Assumes nothing.
 use mathlib.Core.Path.{_≡_, ap, ap₂, sym, _∙_}
 use mathlib.Core.Bool.{true}
@@ -13,13 +13,13 @@ use Rattle.refusals.specs.declared.Verdict.the-variants.{Passed}
 use Rattle.numbering.specs.Count.{points}
 use Rattle.states.specs.States.{has}
 use Rattle.states.specs.declared.Answer.the-variants.{Done, Refused}
-use Rattle.turns.specs.Steps.{OnAxis, Filled}
+use Rattle.turns.specs.Steps.{OnAxis, Limited, RaisedFrom}
 use Rattle.states.specs.After.{after}
 use Rattle.turns.specs.Turns.{formerTable, isAccepted, checkTurn}
 use Rattle.turns.proofs.Accepting.{passed-limited}
 use Rattle.turns.proofs.Answering.{on-axis, back-unchecked, back-not-forward, back-refused, back-done}
 use Rattle.turns.proofs.Checking.{MayTurn, place-of, turn-passed}
-use Rattle.turns.proofs.Former.{past-limit-refuses, filled-length, reached-limited, given-back, stopped-refuses, end-holds, end-accepted}
+use Rattle.turns.proofs.Former.{past-limit-refuses, raised-limited, given-back, stopped-refuses, end-holds, end-accepted}
 use Rattle.turns.proofs.dehierarchize.Statement.{statement}
 use Rattle.turns.proofs.dehierarchize.Tie as tie
 
@@ -39,27 +39,24 @@ axis : (c : tie.After-enum-told) →
     let a = c .before .before .before .args in OnAxis (a .state .shape .axes) (a .state .shape .level) (a .axis - 1) (a .table .now)
 axis c = on-axis (may c)
 
+-- all values are within the limit
+limited : (c : tie.Else2) → let a = c .before .before .before .before .before .before .before .before .before .args in Limited (a .table .now) (length (a .table .now))
+limited c = passed-limited _ (sym (c .before .all-in-limit .ensures) ∙ not-false _ (c .if2 .left))
+
 -- what the way up left
-filled : (c : tie.After-table) →
-    let a = c .before .before .before .before .before .before .before .before .before .before .before .before .args in
-    Filled (a .state .shape .axes) (a .state .shape .level) (a .axis - 1) (a .table .now) (c .before .fill .result) (c .before .fill .last .1 .0)
-filled c = c .before .fill .ensures
+abbrev told-at : tie.After-table → tie.After-enum-told
+told-at c = c .before .before .before .before .before .before .before .before .before
 
-long : (c : tie.After-table) →
-    let a = c .before .before .before .before .before .before .before .before .before .before .before .before .args in
-    length (c .before .fill .last .1 .0) ≡ points (a .state .shape .axes) (a .state .shape .level)
-long c =
-    let told = c .before .before .before .before .before .before .before .before .before in
-    filled-length _ _ _ _ (axis told) _ _ (filled c)
+way : (c : tie.After-table) →
+    let a = told-at c .before .before .before .args in
+    RaisedFrom (a .state .shape .axes) (a .state .shape .level) (a .axis - 1) 0 (a .table .now) (c .before .raise .result) (c .before .raise .last .1 .0)
+way c = c .before .raise .ensures
 
--- the sweep gave back the table
-kept-table : (c : tie.After-sweep) →
-    let a = c .before .before .before .before .before .before .before .before .before .before .before .before .before .before .before .args in
-    c .sweep .last .1 .0 ≡ a .table .now
+-- the steps down gave back the table
+kept-table : (c : tie.After-lower) → let a = told-at (c .before .before .before) .before .before .before .args in c .lower .last .1 .0 ≡ a .table .now
 kept-table c =
     let up = c .before .before .before in
-    let told = up .before .before .before .before .before .before .before .before .before in
-    c .sweep .ensures ∙ given-back _ _ _ _ (axis told) _ _ (filled up)
+    given-back _ _ _ _ (axis (told-at up)) (limited (up .before .before .before)) _ _ (way up) _ _ (c .lower .ensures)
 
 check-turn-requires : tie.Need-check-turn-requires
 check-turn-requires c κs = search needs
@@ -105,20 +102,16 @@ returns-3 c =
     (back-refused (a .state) (a .table .now) (a .axis) (passed told) (set other)
     (past-limit-refuses _ _ _ _ (axis told) (sym (c .before .all-in-limit .ensures) ∙ not-true _ (c .if2 .taken))))
 
-fill-requires : tie.Need-fill-requires
-fill-requires c κs =
-    let tested = c .before .before in
-    let told = tested .before .before .before .before .before in
-    (axis told, passed-limited _ (sym (tested .all-in-limit .ensures) ∙ not-false _ (c .before .if2 .left)))
+raise-requires : tie.Need-raise-requires
+raise-requires c κs = (axis (c .before .before .before .before .before .before .before), limited (c .before), omega arith)
 
-sweep-requires : tie.Need-sweep-requires
-sweep-requires c κs =
+lower-requires : tie.Need-lower-requires
+lower-requires c κs =
     let up = c .before .before in
-    let told = up .before .before .before .before .before .before .before .before .before in
-    let on = axis told in (
-      record { few = on .few; low = on .low; place = on .place; long = long up },
-      reached-limited _ _ _ _ on _ _ (filled up),
-      filled up .within,
+    let on = axis (told-at up) in (
+      record { few = on .few; low = on .low; place = on .place; long = way up .up .long },
+      raised-limited _ _ _ _ on (limited (up .before .before .before)) _ _ (way up),
+      way up .up .within,
     )
 
 same-length-2 : tie.Need-same-length-2
@@ -133,7 +126,7 @@ returns-4 c =
     let a = told .before .before .before .args in
     rw
     (back-refused (a .state) (a .table .now) (a .axis) (passed told) (set other)
-    (stopped-refuses _ _ _ _ (axis told) _ _ (filled up) (omega (arith, long up, c .before .before .before .if3 .taken))))
+    (stopped-refuses _ _ _ _ (axis told) (limited (up .before .before .before)) _ _ (way up) (omega (arith, way up .up .long, c .before .before .before .if3 .taken))))
     (ap (after (Refused Contents)) (kept-table (c .before)))
 
 without-axis-requires : tie.Need-without-axis-requires
@@ -147,9 +140,9 @@ same-length-3 c = search needs
 
 -- the way up came to the end
 at-end : (c : tie.Else3) →
-    let a = c .before .before .before .before .before .before .before .before .before .before .before .before .before .args in
-    points (a .state .shape .axes) (a .state .shape .level) ≤ c .before .before .fill .result
-at-end c = omega (arith, long (c .before), c .if3 .left)
+    let a = told-at (c .before) .before .before .before .args in
+    points (a .state .shape .axes) (a .state .shape .level) ≤ c .before .before .raise .result
+at-end c = omega (arith, way (c .before) .up .long, c .if3 .left)
 
 returns-5 : tie.Need-returns-5
 unfolding isAccepted formerTable
@@ -160,8 +153,8 @@ returns-5 c =
     let a = told .before .before .before .args in
     rw
     (back-done (a .state) (a .table .now) (a .axis) (passed told) (set other)
-    (end-accepted _ _ _ _ (axis told) _ _ (filled up) (at-end (c .before))))
-    (ap₂ after (ap Done (c .without-axis .ensures)) (end-holds _ _ _ _ (axis told) _ _ (filled up) (at-end (c .before))))
+    (end-accepted _ _ _ _ (axis told) (limited (up .before .before .before)) _ _ (way up) (at-end (c .before))))
+    (ap₂ after (ap Done (c .without-axis .ensures)) (end-holds _ _ _ _ (axis told) (limited (up .before .before .before)) _ _ (way up) (at-end (c .before))))
 
 pub dehierarchize-spec : {M : Type 1} → statement M
 dehierarchize-spec =
@@ -177,8 +170,8 @@ dehierarchize-spec =
     all-in-limit-requires
     same-length
     returns-3
-    fill-requires
-    sweep-requires
+    raise-requires
+    lower-requires
     same-length-2
     returns-4
     without-axis-requires

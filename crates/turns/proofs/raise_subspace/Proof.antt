@@ -1,4 +1,4 @@
--- `turns::fill_subspace` meets its contract: each turn of the loop is one step back, at a point that is accepted, and the loop stops at a point that is
+-- `turns::raise_subspace` meets its contract: each turn of the loop is one step back, at a point that is accepted, and the loop stops at a point that is
 -- not.
 -- Assumes nothing.
 use mathlib.Core.Path.{_≡_, ap, sym, _∙_}
@@ -18,8 +18,8 @@ use Rattle.zero_border.specs.ZeroBorder.{neighbour}
 use Rattle.neighbours.proofs.Beside.{end-inside, parent-before}
 use Rattle.turns.proofs.AtPoint.{AtParents, given-is}
 use Rattle.turns.proofs.Raising.{Raising, raising-starts, raising-ends, parents-limited, odd-stops, all-limited, large-stops, raising-steps}
-use Rattle.turns.proofs.fill_subspace.Statement.{statement}
-use Rattle.turns.proofs.fill_subspace.Tie as tie
+use Rattle.turns.proofs.raise_subspace.Statement.{statement}
+use Rattle.turns.proofs.raise_subspace.Tie as tie
 
 abbrev Inv-loop : tie.InvT-loop
 Inv-loop v table₀ from p₀ table p = Raising (v .line .axes) (v .line .level) (v .line .place) from (v .end) table₀ table p
@@ -177,8 +177,8 @@ same-length-3 c = c .before .before .loop .inv .long ∙ sym (c .before .before 
 returns-3 : tie.Need-returns-3 Inv-loop μ-loop
 returns-3 c = raising-ends _ _ _ _ _ _ _ _ (c .before .before .loop .inv) (λ less. absurd (omega (arith, c .if1 .left)))
 
-pub fill-subspace-spec : {M : Type 1} → statement M
-fill-subspace-spec =
+pub raise-subspace-spec : {M : Type 1} → statement M
+raise-subspace-spec =
     tie.close
     (tie.spec
     Inv-loop
