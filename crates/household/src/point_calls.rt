@@ -87,16 +87,10 @@ pub extern "C" fn numolefays_successor(
 ) -> u32
     ensures { λ r. ⌜ returned r (now (place .exit)) (now («next_levels» .exit), now («next_indices» .exit), now (end .exit)) ≡ ofSuccessor (now («next_levels» .entry), now («next_indices» .entry), now (end .entry)) (successorOf (shapeOf axes level) (now (levels .entry)) (now (indices .entry))) ⌝ }
 {
-    let located = successor::successor(crate::answers::shape_of(axes, level), levels, indices);
-    let outcome = located.outcome;
-    match outcome {
+    let shape = crate::answers::shape_of(axes, level);
+    match successor::successor_into(shape, levels, indices, next_levels, next_indices) {
         Outcome::Refused(r) => crate::answers::refuse(r, place),
         Outcome::Found => {
-            let point = located.point;
-            let point_levels = point.levels;
-            let point_indices = point.indices;
-            *next_levels = point_levels;
-            *next_indices = point_indices;
             *end = 0;
             crate::answers::succeed(place)
         }

@@ -3,3 +3,5 @@ pub mod Levels
 pub mod Reached
 pub mod Onward
 pub mod Padded
+pub mod Last
+pub mod Written

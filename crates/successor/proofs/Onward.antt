@@ -1,5 +1,5 @@
--- The four ways on from a point: the next position on its levels, the first position on the next levels of its sum, the first point of the next
--- level sum, and the end. Each but the last is a point of the shape whose number is one higher.
+-- The three ways on from a point: the next position on its levels, the first position on the next levels of its sum, and the first point of the next
+-- level sum. Each is a point of the shape whose number is one higher.
 -- Assumes nothing.
 use mathlib.Core.Bool.{Bool, true, false}
 use mathlib.Core.List.{List, [], _∷_}
@@ -8,19 +8,17 @@ use Prim.Native.Nat.{ℕ, zero, suc, _-_, _*_, _^_, _≤_, _<_}
 use native.Mathlib.Nat.{pow-suc, mul-suc}
 use native.Mathlib.Omega.{arith}
 use lib.ListN.{length, replicate}
-use lib.Pow.{pow-pos}
+use lib.Pow.{pow-pos, pow-mono}
 use Rattle.naturals.specs.Sum.{sumTo}
 use Rattle.naturals.proofs.Sums.{term-le}
 use Rattle.numbering.specs.Count.{start}
-use Rattle.numbering.specs.Point.{at}
+use Rattle.numbering.specs.Point.{at, IsPoint}
 use Rattle.numbering.specs.Number.{number, rank}
-use Rattle.numbering.proofs.Numbering.{number-is, points-is}
+use Rattle.numbering.proofs.Numbering.{number-is}
 use Rattle.numbering.proofs.Succession.{first-position, sum-first, rank-first, number-last, number-first}
-use Rattle.points.specs.declared.Outcome.the-variants.{End}
-use Rattle.points.specs.Points.{nowhere}
 use Rattle.successor.specs.Steps.{PointIn, StepsIndices, StepsLevels, reached}
 use Rattle.successor.specs.Successor.{after}
-use Rattle.successor.proofs.Reached.{reaches, ended}
+use Rattle.successor.proofs.Reached.{reaches}
 
 -- The levels of the first point of the level sum v.
 abbrev pub first : ℕ → List ℕ
@@ -37,6 +35,13 @@ first-zeros v (suc t) h = zeros-at 7 t
 
 pub last-level : {d n : ℕ} {ls is : List ℕ} → PointIn d n ls is → 1 ≤ d → at ls (d - 1) ≤ n
 last-level {d} {ls = ls} p low = omega (arith, term-le (at ls) d (d - 1) (omega arith), p .point .sum)
+
+pub last-index : {d n : ℕ} {ls is : List ℕ} → PointIn d n ls is → 1 ≤ d → n ≤ 8 → at is (d - 1) < 512
+last-index {d} {ls = ls} p low small =
+    omega (arith, p .point .below (d - 1) (omega arith), pow-mono {i = suc (at ls (d - 1))} {j = 9} (omega (arith, last-level p low)))
+
+pub small-point : {d n : ℕ} {ls is : List ℕ} → PointIn d n ls is → n ≤ 8 → IsPoint d 8 (at ls) (at is)
+small-point p small = record { sum = omega (arith, p .point .sum); odd = p .point .odd; below = p .point .below }
 
 module _ {d n : ℕ} {ls is js : List ℕ} {past : Bool} (p : PointIn d n ls is) (turned : StepsIndices d ls is past js) where
   pub next-index : past ≡ false → reached ls js ≡ after d n (number d (at ls) (at is))
@@ -85,11 +90,6 @@ module _ {d n : ℕ} {ls is js : List ℕ} {past : Bool} (p : PointIn d n ls is)
   module _ {top : Bool} {ms : List ℕ} (low : 1 ≤ d) (e : past ≡ true) (raised : StepsLevels d ls top ms) (f : top ≡ true) where
     last-of-sum : suc (number d (at ls) (at is)) ≡ start d (suc (sumTo (at ls) d))
     last-of-sum = number-last d (at ls) (at is) (raised .last f) (turned .last e)
-
-    pub next-end : n < suc (at ls (d - 1)) → nowhere End ≡ after d n (number d (at ls) (at is))
-    next-end over =
-        let all : sumTo (at ls) d ≡ n = omega (arith, raised .alone f, p .point .sum) in
-        ended d n _ (omega (arith, last-of-sum, points-is d n, ap (λ (s : ℕ). start d (suc s)) all))
 
     pub next-sum : (v : ℕ) → v ≡ suc (at ls (d - 1)) → v ≤ n → reached (first v) js ≡ after d n (number d (at ls) (at is))
     next-sum v up fits =
