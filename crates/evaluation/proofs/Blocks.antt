@@ -3,19 +3,16 @@
 -- Assumes nothing.
 use mathlib.Core.Path.{_≡_, refl, ap, ap₂, sym, _∙_}
 use mathlib.Core.Logic.{⊎-elim}
-use Prim.Native.Nat.{ℕ, zero, suc, _+_, _*_, _/_, _%_, _^_, _≤_, _<_}
+use Prim.Native.Nat.{ℕ, zero, suc, _+_, _*_, _/_, _^_, _≤_, _<_}
 use native.Mathlib.Nat.{eq-zero-or-pos}
 use native.Mathlib.Omega.{arith}
-use lib.Dec.{ltb}
-use borrow.Author.Tests.{lt-ltb, le-ltb}
 use Rattle.naturals.specs.Sum.{sumTo}
-use Rattle.naturals.specs.Test.{if_then_else_}
 use Rattle.naturals.proofs.Cases.{le-or-lt}
 use Rattle.naturals.proofs.Sums.{sumTo-cong}
 use Rattle.numbering.specs.Count.{points}
 use Rattle.numbering.specs.Point.{IsPoint}
 use Rattle.numbering.specs.Number.{digit, position, firstOf}
-use Rattle.numbering.specs.Inverse.{levelAt, indexOf, indexAt}
+use Rattle.numbering.specs.Inverse.{indexOf}
 use Rattle.numbering.proofs.Position.{position-lt, position-cong, position-of-index, index-of-position, index-odd, index-below}
 use Rattle.numbering.proofs.Subspaces.{indicesTo, indices-in, block-levels, block-indices}
 use Rattle.surfaces.specs.Weights.{unit, weight, weightOn, joint}

@@ -1,8 +1,8 @@
 -- A turn in one table, by number. Forward goes down: when a point is turned, its parents, whose numbers are smaller, hold what they held, so the
--- step is ready and the theorem on orders of work says what the table then holds. Back goes up: the parents then hold the result already.
--- A back turn that stops half-way is undone by the forward steps of the points that it had reached.
+-- step is ready and the theorem on orders of work says what the table then holds. Back, the result at a point is its value plus half the sum of the result at
+-- its parents.
 -- Assumes nothing.
-use mathlib.Core.Path.{_≡_, refl, ap, ap₂, sym, _∙_, fun-ext}
+use mathlib.Core.Path.{_≡_, refl, ap, sym, _∙_, fun-ext}
 use mathlib.Core.Logic.{inl, inr}
 use mathlib.Core.List.{List, [], _∷_}
 use Prim.Native.Nat.{ℕ, zero, suc, _≤_, _<_}
@@ -21,7 +21,7 @@ use Rattle.integers.specs.Half.{half}
 use Rattle.hierarchy.specs.Grid.{Neighbours, Grid}
 use Rattle.hierarchy.specs.Turns.{valueAt, valuesOf, sumOn, forward, backward}
 use Rattle.hierarchy.specs.Work.{put, Item, worked, Ready, allWorked, countsAfter, Legal, mixed}
-use Rattle.hierarchy.proofs.Inverse.{forward-is, forward-zero, backward-zero, forward-of-back}
+use Rattle.hierarchy.proofs.Inverse.{forward-is, forward-zero, forward-of-back}
 use Rattle.hierarchy.proofs.Values.{value-zero, value-suc, values-of-value}
 use Rattle.hierarchy.proofs.Work.{put-same, put-other, Stages, Holds, step-holds, order-of-work}
 
@@ -179,15 +179,7 @@ module _ (m : ℕ) (nb : Neighbours) (depth : ℕ → ℕ → ℕ) (grid : Grid 
       (as-held f from (suc k) g le s) p
       ∙ ap (λ (j : ℕ). turns f j p) (done-put from k le p))
 
-  pub sweep-ends : (f : ℕ → ℤ) (from : ℕ) (g : ℕ → ℤ) → f 0 ≡ pos 0 → Sweeping f from 0 g → (p : ℕ) → g p ≡ mixed from (forward nb t f) f p
-  sweep-ends f from g z s zero =
-      s .low 0 (omega arith) ∙ z ∙ sym (mixed-low from (forward nb t f) f 0 (omega arith) ∙ forward-zero m nb depth grid t f z)
-  sweep-ends f from g z s (suc p) =
-      le-or-lt (suc p) from
-      (λ le. s .turned (suc p) (omega arith) le ∙ sym (mixed-low from (forward nb t f) f (suc p) le))
-      (λ gt. s .high (suc p) gt ∙ sym (mixed-high from (forward nb t f) f (suc p) gt))
-
-  -- ---- back, from point number 0 up
+  -- ---- back
 
   module _ (k : ℕ) (shallow : (p : ℕ) → depth t p < k) (x : ℕ → ℤ) (z : x 0 ≡ pos 0) where
     -- The result at a point is its value plus half the sum of the result at its parents.
@@ -198,55 +190,3 @@ module _ (m : ℕ) (nb : Neighbours) (depth : ℕ → ℕ → ℕ) (grid : Grid 
         (ap (λ (v : ℤ). v +ℤ half (backward nb k t x (nb t Left p) +ℤ backward nb k t x (nb t Right p)))
         (sym (forward-of-back m nb depth grid t k x z p (shallow p)) ∙ forward-is m nb depth grid t (backward nb k t x) p)
         ∙ -ℤ-+ℤ-cancel (backward nb k t x p) (half (backward nb k t x (nb t Left p) +ℤ backward nb k t x (nb t Right p))))
-
-    -- Part of the way up, the parents of the next point hold the result.
-    pub parents-filled : (j : ℕ) (g : ℕ → ℤ) → ((p : ℕ) → g p ≡ mixed j (backward nb k t x) x p) →
-        sumOn nb t g (suc j) ≡ sumOn nb t (backward nb k t x) (suc j)
-    unfolding sumOn
-    parents-filled j g holds = ap₂ _+ℤ_ (filled Left) (filled Right)
-      where
-        filled : (b : Side) → g (nb t b (suc j)) ≡ backward nb k t x (nb t b (suc j))
-        filled b =
-            holds (nb t b (suc j))
-            ∙ mixed-low j (backward nb k t x) x (nb t b (suc j))
-            (eq-or-not (nb t b (suc j)) 0 (λ e. omega arith) (λ ne. omega (arith, earlier b (suc j) ne)))
-
-    pub fill-starts : (p : ℕ) → x p ≡ mixed 0 (backward nb k t x) x p
-    fill-starts zero = z ∙ sym (mixed-low 0 (backward nb k t x) x 0 (omega arith) ∙ backward-zero m nb depth grid t k x z)
-    fill-starts (suc p) = sym (mixed-high 0 (backward nb k t x) x (suc p) (omega arith))
-
-    pub fill-steps : (j : ℕ) (g : ℕ → ℤ) → ((p : ℕ) → g p ≡ mixed j (backward nb k t x) x p) →
-        (p : ℕ) → put g (suc j) (g (suc j) +ℤ half (sumOn nb t g (suc j))) p ≡ mixed (suc j) (backward nb k t x) x p
-    fill-steps j g holds p =
-        eq-or-not p (suc j)
-        (λ e.
-        rw e
-        (put-same g (suc j) _
-        ∙ ap₂ (λ (v w : ℤ). v +ℤ half w) (holds (suc j) ∙ mixed-high j (backward nb k t x) x (suc j) (omega arith)) (parents-filled j g holds)
-        ∙ sym (result-at (suc j))
-        ∙ sym (mixed-low (suc j) (backward nb k t x) x (suc j) (omega arith))))
-        (λ ne.
-        put-other g (suc j) _ p ne
-        ∙ holds p
-        ∙ le-or-lt p j
-        (λ low. mixed-low j (backward nb k t x) x p low ∙ sym (mixed-low (suc j) (backward nb k t x) x p (omega arith)))
-        (λ high. mixed-high j (backward nb k t x) x p high ∙ sym (mixed-high (suc j) (backward nb k t x) x p (omega arith))))
-
-    -- The forward steps of the points that were reached give back what stood.
-    pub undone : (j : ℕ) (g : ℕ → ℤ) → ((p : ℕ) → g p ≡ mixed j (backward nb k t x) x p) → (p : ℕ) → mixed j (forward nb t g) g p ≡ x p
-    undone j g holds p =
-        le-or-lt p j
-        (λ low.
-        mixed-low j (forward nb t g) g p low
-        ∙ forward-is m nb depth grid t g p
-        ∙ ap₂ (λ (v w : ℤ). v -ℤ half w) (reached p low) (ap₂ _+ℤ_ (at-parent-reached low Left) (at-parent-reached low Right))
-        ∙ sym (forward-is m nb depth grid t (backward nb k t x) p)
-        ∙ forward-of-back m nb depth grid t k x z p (shallow p))
-        (λ high. mixed-high j (forward nb t g) g p high ∙ holds p ∙ mixed-high j (backward nb k t x) x p high)
-      where
-        reached : (q : ℕ) → q ≤ j → g q ≡ backward nb k t x q
-        reached q le = holds q ∙ mixed-low j (backward nb k t x) x q le
-
-        at-parent-reached : p ≤ j → (b : Side) → g (nb t b p) ≡ backward nb k t x (nb t b p)
-        at-parent-reached low b =
-            reached (nb t b p) (eq-or-not (nb t b p) 0 (λ e. omega arith) (λ ne. omega (arith, earlier b p ne)))

@@ -2,7 +2,7 @@
 -- among the points of its own level vector at the same digits, by the law of where a parent stands. It stands before the whole level vector, since
 -- its level sum is smaller.
 -- Assumes nothing.
-use mathlib.Core.Path.{_≡_, refl, ap, ap₂, sym, _∙_}
+use mathlib.Core.Path.{_≡_, ap, ap₂, sym, _∙_}
 use mathlib.Core.Bool.{true, false}
 use Prim.Native.Nat.{ℕ, suc, _+_, _-_, _*_, _/_, _%_, _^_, _≤_, _<_}
 use native.Mathlib.Nat.{div-div-eq-div-mul, div-le-self, mod-le, mod-lt}
@@ -14,15 +14,15 @@ use Rattle.naturals.proofs.Sums.{sumTo-suc, sumTo-mono, term-le}
 use Rattle.numbering.specs.declared.Side.{Side}
 use Rattle.numbering.specs.declared.Side.the-variants.{Left, Right}
 use Rattle.numbering.specs.Count.{start, points}
-use Rattle.numbering.specs.Point.{at, IsPoint}
-use Rattle.numbering.specs.Number.{rank, position, firstOf, number}
+use Rattle.numbering.specs.Point.{at}
+use Rattle.numbering.specs.Number.{position, firstOf, number}
 use Rattle.numbering.specs.Inverse.{levelAt, indexOf, indexAt}
-use Rattle.numbering.specs.Parent.{numerator, isBorder, parentLevel, parentIndex, update, border, inner, parent}
+use Rattle.numbering.specs.Parent.{numerator, isBorder, parentLevel, parentIndex, update, border, parent}
 use Rattle.numbering.proofs.Position.{position-low}
 use Rattle.numbering.proofs.Numbering.{points-is, start-mono, number-in-shell}
 use Rattle.numbering.proofs.Named.{Named}
 use Rattle.numbering.proofs.Subspaces.{first-is, number-from-first, indicesTo, indices-in, block-point, block-position, block-below, block-levels, block-indices}
-use Rattle.numbering.proofs.Parents.{Inside, inside, level-falls, update-other, update-sum, level-zero-border, parent-border, parent-inner, parent-is-point, parent-sum}
+use Rattle.numbering.proofs.Parents.{inside, level-falls, update-other, update-sum, level-zero-border, parent-border, parent-inner, parent-is-point, parent-sum}
 use Rattle.numbering.proofs.ParentPlaces.{moved-position}
 use Rattle.shapes.proofs.Totals.{start-small}
 use Rattle.zero_border.specs.ZeroBorder.{codeOf, neighbour}
@@ -70,7 +70,7 @@ sized {v} s =
     small m h =
         let l : ℕ → ℕ = update (s .levels) (v .line .place) m in
         let low : sumTo l (v .line .axes) ≤ v .line .level
-            = omega (arith, update-sum (s .levels) (v .line .place) m (v .line .axes) (s .axis), s .own, s .sum) in
+        = omega (arith, update-sum (s .levels) (v .line .place) m (v .line .axes) (s .axis), s .own, s .sum) in
         omega (
           arith,
           s .coarser .first m h,

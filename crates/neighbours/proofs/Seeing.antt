@@ -1,8 +1,8 @@
 -- The level vector that a point number lies in, as `subspace_of` puts it together: the number lies as far behind the first as its position says.
 -- Assumes nothing.
 use mathlib.Core.List.{List}
-use mathlib.Core.Path.{_≡_, ap, ap₂, sym, _∙_}
-use Prim.Native.Nat.{ℕ, suc, _+_, _-_, _*_, _%_, _^_, _≤_, _<_}
+use mathlib.Core.Path.{_≡_, ap, sym, _∙_}
+use Prim.Native.Nat.{ℕ, _+_, _-_, _*_, _%_, _^_, _≤_, _<_}
 use native.Mathlib.Nat.{mod-lt, mod-eq-of-lt, one-mul}
 use native.Mathlib.Omega.{arith}
 use lib.Pow.{pow-pos, pow-mono}

@@ -2,7 +2,7 @@
 -- parent has other levels and indices on that axis alone. So a parent's number needs the first numbers of its level vector and no search.
 -- Assumes nothing.
 use mathlib.Core.Path.{_≡_, refl, ap, ap₂, sym, _∙_}
-use Prim.Native.Nat.{ℕ, zero, suc, _+_, _-_, _*_, _/_, _%_, _^_, _≤_, _<_}
+use Prim.Native.Nat.{ℕ, zero, suc, _+_, _-_, _*_, _/_, _^_, _<_}
 use native.Mathlib.Nat.{add-zero, add-suc, mul-assoc, add-mul}
 use native.Mathlib.Omega.{arith}
 use lib.Pow.{high}

@@ -8,6 +8,7 @@ use Prim.Native.Nat.{ℕ, zero, suc, _<_}
 use native.Mathlib.Omega.{arith}
 use lib.IntN.{ℤ}
 use lib.ListN.{length}
+use Rattle.naturals.specs.Test.{all}
 use Rattle.naturals.proofs.Cases.{le-or-lt, true-or-false}
 use Rattle.naturals.proofs.Tests.{and-left, all-at, all-from, all-fails}
 use Rattle.integers.specs.Half.{inLimit}
@@ -15,7 +16,8 @@ use Rattle.numbering.specs.Count.{points}
 use Rattle.hierarchy.specs.Turns.{valueAt, acceptedAt, accepted}
 use Rattle.hierarchy.proofs.Values.{value-zero, value-past}
 use Rattle.zero_border.specs.ZeroBorder.{neighbour}
-use Rattle.turns.specs.Steps.{Limited, limitAt, allLimited, movesOn}
+use Rattle.tables.specs.Tables.{contentAt}
+use Rattle.turns.specs.Steps.{Limited, movesOn}
 use Rattle.turns.proofs.AtPoint.{zero-in-limit}
 
 -- ---- values within the limit
@@ -28,17 +30,13 @@ code-limited xs limited (suc p) =
     (λ past. ap inLimit (value-past xs (suc p) (omega arith)) ∙ zero-in-limit)
     (λ inside. limited p inside)
 
-pub limited-passes : (xs : List ℤ) → Limited xs (length xs) → allLimited xs ≡ true
-unfolding allLimited limitAt
-limited-passes xs limited = all-from (limitAt xs) (length xs) limited
+pub limited-passes : (xs : List ℤ) → Limited xs (length xs) → all (contentAt xs) (length xs) ≡ true
+unfolding contentAt
+limited-passes xs limited = all-from (contentAt xs) (length xs) limited
 
-pub limited-fails : (xs : List ℤ) (p : ℕ) → p < length xs → inLimit (valueAt xs (suc p)) ≡ false → allLimited xs ≡ false
-unfolding allLimited limitAt
-limited-fails xs p h e = all-fails (limitAt xs) (length xs) p h e
-
-pub passed-limited : (xs : List ℤ) → allLimited xs ≡ true → Limited xs (length xs)
-unfolding allLimited limitAt
-passed-limited xs e = all-at (limitAt xs) (length xs) e
+pub passed-limited : (xs : List ℤ) → all (contentAt xs) (length xs) ≡ true → Limited xs (length xs)
+unfolding contentAt
+passed-limited xs e = all-at (contentAt xs) (length xs) e
 
 -- ---- all points
 
@@ -57,7 +55,7 @@ module _ (d n t : ℕ) (xs : List ℤ) (long : length xs ≡ points d n) where
       and-left (inLimit (valueAt xs (suc p))) (movesOn d n t xs p)
       (sym (parts p) ∙ all-at (acceptedAt (neighbour d n) t (valueAt xs)) (points d n) e p (omega arith))
 
-  pub limit-refuses : allLimited xs ≡ false → accepted (neighbour d n) (points d n) t (valueAt xs) ≡ false
+  pub limit-refuses : all (contentAt xs) (length xs) ≡ false → accepted (neighbour d n) (points d n) t (valueAt xs) ≡ false
   limit-refuses e =
       true-or-false (accepted (neighbour d n) (points d n) t (valueAt xs))
       (λ yes. absurd (false≢true (sym e ∙ limited-passes xs (accepted-limited yes))))

@@ -21,7 +21,8 @@ use Rattle.hierarchy.proofs.Sweeps as sweeps
 use Rattle.hierarchy.proofs.Sweeps.{list-of-values}
 use Rattle.zero_border.specs.ZeroBorder.{neighbour, depth}
 use Rattle.zero_border.proofs.Instance.{zero-border, depth-le}
-use Rattle.turns.specs.Steps.{OnAxis, Limited, allLimited, movesOn, between, LoweredBetween, raised, raisesOn, RaisedFrom}
+use Rattle.tables.specs.Tables.{contentAt}
+use Rattle.turns.specs.Steps.{OnAxis, Limited, movesOn, between, LoweredBetween, raised, raisesOn, RaisedFrom}
 use Rattle.turns.proofs.Accepting.{limited-passes}
 use Rattle.turns.proofs.AtPoint.{earlier}
 use Rattle.turns.proofs.Between.{between-inside, between-high}
@@ -64,7 +65,7 @@ module _ (d n t : ℕ) (xs : List ℤ) (axis : OnAxis d n t xs) where
   former-holds = value-of-values (points d n) (former d n t xs) former-zero former-past
 
   -- A value past the limit is that of no accepted turn.
-  pub past-limit-refuses : allLimited xs ≡ false →
+  pub past-limit-refuses : all (contentAt xs) (length xs) ≡ false →
       accepted (neighbour d n) (points d n) t (valueAt (valuesOf (points d n) (former d n t xs))) ≡ false
   unfolding accepted
   past-limit-refuses e =

@@ -1,7 +1,7 @@
 -- The steps back of points of one level vector, as the loop of `raise_subspace` makes them: each value becomes itself plus half of its parents' sum. The
 -- parents stand before the points from which the loop starts, so what is read there is what stood at the start.
 -- Assumes nothing.
-use mathlib.Core.Path.{_≡_, refl, ap, ap₂, sym, _∙_}
+use mathlib.Core.Path.{_≡_, ap, ap₂, sym, _∙_}
 use mathlib.Core.Bool.{true, false}
 use mathlib.Core.List.{List}
 use Prim.Native.Nat.{ℕ, suc, _≤_, _<_}

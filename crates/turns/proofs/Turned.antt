@@ -6,7 +6,7 @@ use mathlib.Core.Bool.{true, false, true≢false}
 use mathlib.Core.List.{List, [], _∷_, _++_}
 use Prim.Native.Nat.{ℕ, zero, suc, _-_, _≤_, _<_}
 use native.Mathlib.Omega.{arith}
-use lib.IntN.{ℤ, pos, _+ℤ_, _-ℤ_, -ℤ-+ℤ-cancel}
+use lib.IntN.{ℤ, _+ℤ_, _-ℤ_, -ℤ-+ℤ-cancel}
 use lib.ListN.{length}
 use Rattle.naturals.proofs.Cases.{eq-or-not, le-or-lt}
 use Rattle.naturals.proofs.Tests.{and-left}
@@ -21,7 +21,7 @@ use Rattle.zero_border.specs.ZeroBorder.{neighbour}
 use Rattle.turns.specs.Steps.{OnAxis, Limited, movesOn, between, LoweredBetween, raised, raisesOn, RaisedFrom}
 use Rattle.turns.proofs.AtPoint.{earlier}
 use Rattle.turns.proofs.Accepting.{all-accepted, point-refuses}
-use Rattle.turns.proofs.Between.{between-low, between-inside, between-high, between-held}
+use Rattle.turns.proofs.Between.{between-low, between-inside, between-held}
 use Rattle.turns.proofs.Lowering.{moved-limited}
 
 -- Lists of tables that agree at the first m points are equal.

@@ -6,7 +6,6 @@ use mathlib.Core.Path.{_≡_}
 use Prim.Native.Nat.{ℕ, suc, _-_, _≤_, _<_}
 use lib.IntN.{ℤ, _+ℤ_}
 use lib.ListN.{length}
-use Rattle.naturals.specs.Test.{all}
 use Rattle.integers.specs.Half.{half, isEven, inLimit}
 use Rattle.numbering.specs.Count.{points}
 use Rattle.hierarchy.specs.Turns.{valueAt, valuesOf, sumOn, forward}
@@ -23,12 +22,6 @@ pub record OnAxis (d n t : ℕ) (xs : List ℤ) : Type 0 where
 -- The first k values are within the content limit.
 abbrev pub Limited : List ℤ → ℕ → Type 0
 Limited xs k = (p : ℕ) → p < k → inLimit (valueAt xs (suc p)) ≡ true
-
-unfoldable pub limitAt : List ℤ → ℕ → Bool
-limitAt xs p = inLimit (valueAt xs (suc p))
-
-unfoldable pub allLimited : List ℤ → Bool
-allLimited xs = all (limitAt xs) (length xs)
 
 -- At point p the sum is even and the value after the turn within the limit.
 unfoldable pub movesOn : ℕ → ℕ → ℕ → List ℤ → ℕ → Bool

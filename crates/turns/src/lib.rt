@@ -13,7 +13,7 @@ ghost use Rattle.hierarchy.specs.Turns.{valueAt};
 ghost use Rattle.neighbours.specs.Subspaces.{Seen};
 ghost use Rattle.states.specs.After.{after};
 ghost use Rattle.turns.specs.Turns.{checkTurn, forwardTurn, backTurn};
-ghost use Rattle.turns.specs.Steps.{OnAxis, allLimited, Limited, LoweredBetween, RaisedBetween, RaisedFrom};
+ghost use Rattle.turns.specs.Steps.{OnAxis, Limited, LoweredBetween, RaisedBetween, RaisedFrom};
 
 // What stands at a code: 0 at the border.
 fn value(table: &[i64], code: u64) -> i64
@@ -27,20 +27,6 @@ fn value(table: &[i64], code: u64) -> i64
         return 0;
     }
     table[p]
-}
-
-// All values are within the content limit.
-fn all_in_limit(table: &[i64]) -> bool
-    ensures { λ r. ⌜ r ≡ allLimited (now (table .entry)) ⌝ }
-{
-    let mut p: usize = 0;
-    while p < table.len() {
-        if !integers::in_limit(table[p]) {
-            return false;
-        }
-        p += 1;
-    }
-    true
 }
 
 // The forward steps of the points of a level vector below number `count`, from the last down, as long as they are accepted: the number down to which
@@ -158,9 +144,9 @@ pub fn hierarchize(state: State, table: &mut [i64], axis: u32) -> Answer
     let line = Line {
         axes: shape.axes,
         level: shape.level,
-        place: place,
+        place: place, // turned forward
     };
-    if !all_in_limit(table) {
+    if !tables::all_in_limit(table) {
         return Answer::Refused(Refusal::Contents);
     }
     let count = table.len() as u64;
@@ -187,9 +173,9 @@ pub fn dehierarchize(state: State, table: &mut [i64], axis: u32) -> Answer
     let line = Line {
         axes: shape.axes,
         level: shape.level,
-        place: place,
+        place: place, // turned back
     };
-    if !all_in_limit(table) {
+    if !tables::all_in_limit(table) {
         return Answer::Refused(Refusal::Contents);
     }
     let raised = raise(line, table, 0);

@@ -65,7 +65,7 @@ loop-again : tie.Need-loop-again Inv-loop μ-loop
 loop-again c =
     let start = c .before .before .before .before in (
       coarsened-steps _ _ _ (start .pre .0) (start .pre .1) (start .pre .2) _ _ _ (c .before .before .before .loop .inv .0)
-      (c .before .before .loop-test .taken) _ (c .first-of .ensures),
+          (c .before .before .loop-test .taken) _ (c .first-of .ensures),
       search needs,
     )
 

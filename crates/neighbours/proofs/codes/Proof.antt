@@ -85,11 +85,11 @@ returns c =
     let before = c .before .before .before .before .before .low-bits .ensures in
     let digit = c .before .before .before .low-bits2 .ensures in (
       c .before .code .ensures
-      ∙ ap₂ (λ (x y : ℕ). codeFrom (a .v) x (beyondOf (a .v) (a .number - a .v .start)) (2 * y)) before digit
-      ∙ left-code v _ (start .pre .1) (start .pre .2),
+          ∙ ap₂ (λ (x y : ℕ). codeFrom (a .v) x (beyondOf (a .v) (a .number - a .v .start)) (2 * y)) before digit
+          ∙ left-code v _ (start .pre .1) (start .pre .2),
       c .code2 .ensures
-      ∙ ap₂ (λ (x y : ℕ). codeFrom (a .v) x (beyondOf (a .v) (a .number - a .v .start)) (2 * y + 2)) before digit
-      ∙ right-code v _ (start .pre .1) (start .pre .2),
+          ∙ ap₂ (λ (x y : ℕ). codeFrom (a .v) x (beyondOf (a .v) (a .number - a .v .start)) (2 * y + 2)) before digit
+          ∙ right-code v _ (start .pre .1) (start .pre .2),
     )
 
 pub codes-spec : {M : Type 1} → statement M

@@ -84,7 +84,7 @@ returns c =
     let known = c .before .before .before .before in
     let start = known .before .before .before .before in
     let view = seen _ _ _ _ (start .pre .0) (start .pre .1) (start .pre .2) (start .pre .3) _ _ _ (got known .1) (got known .0) (got known .2)
-        _ _ (c .level-sum .ensures) (c .before .before .before .coarser .ensures) in
+    _ _ (c .level-sum .ensures) (c .before .before .before .coarser .ensures) in
     (view .0, refl, view .1, view .2)
 
 pub subspace-of-spec : {M : Type 1} → statement M

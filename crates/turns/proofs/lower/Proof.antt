@@ -6,7 +6,7 @@ use Prim.Native.Nat.{_≤_, _<_}
 use native.Mathlib.Omega.{arith}
 use borrow.Author.Needs.{needs}
 use Rattle.numbering.specs.Count.{points}
-use Rattle.neighbours.proofs.Beside.{end-inside, flat}
+use Rattle.neighbours.proofs.Beside.{flat}
 use Rattle.turns.proofs.Flat.{lowered-flat}
 use Rattle.turns.proofs.Lowering.{Lowering, lowering-starts, lowering-ends, all-limited, lowering-block, block-stops}
 use Rattle.turns.proofs.lower.Statement.{statement}

@@ -151,7 +151,7 @@ loop-again c =
     let seen = c .before .before .before in
     let read = read-at seen in (
       lowering-steps _ _ _ _ _ _ _ (loop-at read .loop .inv .0) _ (next read) _ _ (parents read) _ (here seen) _
-      (lowered-is (c .before .before)) (even seen) (sym (c .before .in-limit .ensures) ∙ not-false _ (c .if3 .left)),
+          (lowered-is (c .before .before)) (even seen) (sym (c .before .in-limit .ensures) ∙ not-false _ (c .if3 .left)),
       omega (arith, more read),
     )
 

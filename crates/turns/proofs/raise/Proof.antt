@@ -42,7 +42,7 @@ before c q from to b =
     let v = c .subspace-of .ensures in
     let line = c .before .before .before .args .line in
     let first : neighbour (line .axes) (line .level) (line .place) b (suc q) ≤ c .subspace-of .result .start
-        = rw (v .1) at (parent-before (v .0) q (omega (arith, v .2)) to b) in
+    = rw (v .1) at (parent-before (v .0) q (omega (arith, v .2)) to b) in
     omega (arith, first, v .2)
 
 raise-subspace-requires : tie.Need-raise-subspace-requires Inv-loop μ-loop
