@@ -70,8 +70,8 @@ pub fn subspace_of(line: Line, number: u64) -> Subspace
 
 // The code of the parent at a numerator, from what the axes before and beyond add to the position.
 fn code(v: Subspace, before: u64, beyond: u64, numerator: u32) -> u64
-    requires { ⌜ Sized (v) × (before < 2 ^ 8) × (beyond < 2 ^ 8) × (numerator % 2 ≡ 0) × (numerator ≤ 2 ^ suc (v .own)) ⌝ }
-    ensures { λ r. ⌜ r ≡ codeFrom (v) before beyond numerator ⌝ }
+    requires { ⌜ Sized v × (before < 2 ^ 8) × (beyond < 2 ^ 8) × (numerator % 2 ≡ 0) × (numerator ≤ 2 ^ suc (v .own)) ⌝ }
+    ensures { λ r. ⌜ r ≡ codeFrom v before beyond numerator ⌝ }
 {
     if numerator == 0 {
         return 0;
@@ -88,7 +88,7 @@ fn code(v: Subspace, before: u64, beyond: u64, numerator: u32) -> u64
 
 // The codes of the parents of point number `number` of a level vector: no search, the digits of its position shifted.
 pub fn codes(v: Subspace, number: u64) -> CodePair
-    requires { ⌜ Seen (v) × (v .start ≤ number) × (number < v .end) ⌝ }
+    requires { ⌜ Seen v × (v .start ≤ number) × (number < v .end) ⌝ }
     ensures { λ r. ⌜ (r .left ≡ neighbour (v .line .axes) (v .line .level) (v .line .place) Left (suc number)) × (r .right ≡ neighbour (v .line .axes) (v .line .level) (v .line .place) Right (suc number)) ⌝ }
 {
     let position = number - v.start;
