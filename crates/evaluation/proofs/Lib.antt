@@ -6,4 +6,3 @@ pub mod Walking
 pub mod Stepping
 pub mod Tabulating
 pub mod Taking
-pub mod Following

@@ -23,7 +23,8 @@ use Rattle.shapes.proofs.Totals.{start-small}
 use Rattle.states.proofs.Bits.{one-shifted}
 use Rattle.surfaces.specs.Weights.{unit}
 use Rattle.surfaces.specs.Surface.{jointAt}
-use Rattle.evaluation.specs.Steps.{Tabulated, jointOf, positionOf, NextVector, Evaluable}
+use Rattle.vectors.specs.Vectors.{NextVector}
+use Rattle.evaluation.specs.Steps.{Tabulated, jointOf, positionOf, Evaluable}
 use Rattle.evaluation.proofs.Blocks.{takenAt, taken-joint}
 use Rattle.evaluation.proofs.Reading.{position-taken, joint-taken}
 use Rattle.evaluation.proofs.Walking.{highTerm, lowTerm, weight-small, Walked, sum-low, taken-here, next-within, walked-steps}

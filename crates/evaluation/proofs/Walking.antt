@@ -41,7 +41,7 @@ use Rattle.surfaces.specs.Weights.{unit}
 use Rattle.surfaces.specs.Surface.{jointAt, rounded, estimateAt}
 use Rattle.surfaces.proofs.Cells.{joint-le}
 use Rattle.surfaces.proofs.Unit.{unit-pos}
-use Rattle.evaluation.specs.Steps.{VectorIn, vectorsBefore, NextVector}
+use Rattle.vectors.specs.Vectors.{VectorIn, vectorsBefore, NextVector}
 use Rattle.evaluation.proofs.Blocks.{takenAt, taken-below, block-zero}
 use Rattle.evaluation.proofs.Parts.{high-size, low-size}
 

@@ -10,9 +10,8 @@ use lib.ListN.{length}
 use Rattle.naturals.specs.Sum.{sumTo}
 use Rattle.naturals.specs.Test.{if_then_else_}
 use Rattle.integers.specs.Half.{inLimit}
-use Rattle.numbering.specs.Count.{vectors, points}
+use Rattle.numbering.specs.Count.{points}
 use Rattle.numbering.specs.Point.{at}
-use Rattle.numbering.specs.Number.{rank, firstOf}
 use Rattle.hierarchy.specs.Turns.{valueAt}
 use Rattle.surfaces.specs.Weights.{unit, weight}
 
@@ -58,22 +57,6 @@ pub record Bounded (d : ℕ) (weights cells : List ℕ) : Type 0 where
   pub long-cells : length cells ≡ 72
   pub weight : (t l : ℕ) → t < d → l < 9 → at weights (entry t l) ≤ unit
   pub cell : (t l : ℕ) → t < d → l < 9 → at cells (entry t l) < 2 ^ l
-
--- A level vector of d axes in a list of eight places, those past axis d zero, with its sum.
-pub record VectorIn (d sum : ℕ) (ls : List ℕ) : Type 0 where
-  pub long : length ls ≡ 8
-  pub total : sumTo (at ls) d ≡ sum
-  pub rest : (t : ℕ) → d ≤ t → at ls t ≡ 0
-
--- How many level vectors come before it.
-unfoldable pub vectorsBefore : ℕ → (ℕ → ℕ) → ℕ
-vectorsBefore d l = sumTo (vectors d) (sumTo l d) + rank l d
-
--- The level vector after another: its first point comes after the last point of the other.
-pub record NextVector (d sum : ℕ) (ls : List ℕ) (sum' : ℕ) (ls' : List ℕ) : Type 0 where
-  pub vector : VectorIn d sum' ls'
-  pub first : firstOf d (at ls') ≡ firstOf d (at ls) + 2 ^ sum
-  pub count : vectorsBefore d (at ls') ≡ suc (vectorsBefore d (at ls))
 
 -- A coordinate for each of at most eight axes.
 pub record Listed (d : ℕ) (cs : List ℕ) : Type 0 where

@@ -10,7 +10,7 @@ ghost use Rattle.numbering.specs.Point.{at};
 ghost use Rattle.hierarchy.specs.Turns.{valueAt};
 ghost use Rattle.surfaces.specs.Weights.{unit, isCoordinate, distance, weight};
 ghost use Rattle.surfaces.specs.Surface.{estimateAt};
-ghost use Rattle.evaluation.specs.Steps.{cellOf, Tabulated, jointOf, positionOf, Bounded, VectorIn, NextVector, Listed, Evaluable};
+ghost use Rattle.evaluation.specs.Steps.{cellOf, Tabulated, jointOf, positionOf, Bounded, Listed, Evaluable};
 
 // The unit of coordinates and weights is 2 to this.
 const BITS: u32 = 16;
@@ -117,32 +117,6 @@ fn taken(axes: usize, levels: [u32; 8], weights: &[u64; 72], cells: &[u64; 72]) 
     }
 }
 
-// A level vector and its sum.
-struct Vector {
-    sum: u32,
-    levels: [u32; 8],
-}
-
-// The next level vector, of the same sum or the first of the next.
-fn next_vector(axes: usize, sum: u32, levels: [u32; 8]) -> Vector
-    requires { ⌜ (1 ≤ axes) × (axes ≤ 8) × (sum ≤ 8) × VectorIn axes sum levels ⌝ }
-    ensures { λ r. ⌜ NextVector axes sum levels (r .sum) (r .levels) ⌝ }
-{
-    let step = successor::next_levels(axes, levels);
-    if !step.past {
-        let numbers = step.numbers;
-        return Vector {
-            sum: sum,
-            levels: numbers,
-        };
-    }
-    let more = sum + 1;
-    Vector {
-        sum: more,
-        levels: [more, 0, 0, 0, 0, 0, 0, 0],
-    }
-}
-
 // A coefficient is its high part times the unit, plus its low part. The sums of the parts times weights fit 64 bits each.
 fn add_high(high: i64, c: i64, joint: u64) -> i64
     requires { ⌜ (natAbs high ≤ 2 ^ 62) × (inLimit c ≡ true) × (joint ≤ unit) ⌝ }
@@ -186,7 +160,7 @@ pub fn evaluate(axes: u32, level: u32, table: &[i64], coordinates: &[u32]) -> i6
         high = add_high(high, c, point.joint);
         low = add_low(low, c, point.joint);
         first += 1 << sum;
-        let next = next_vector(count, sum, levels);
+        let next = vectors::next_vector(count, sum, levels);
         sum = next.sum;
         levels = next.levels;
     }

@@ -4,6 +4,7 @@
 -- Assumes nothing.
 use mathlib.Core.Path.{_≡_, ap, ap₂, sym, _∙_}
 use mathlib.Core.Bool.{true, false}
+use mathlib.Core.List.{List}
 use Prim.Native.Nat.{ℕ, suc, _+_, _-_, _*_, _/_, _%_, _^_, _≤_, _<_}
 use native.Mathlib.Nat.{div-div-eq-div-mul, div-le-self, mod-le, mod-lt}
 use native.Mathlib.Omega.{arith}
@@ -28,18 +29,18 @@ use Rattle.shapes.proofs.Totals.{start-small}
 use Rattle.zero_border.specs.ZeroBorder.{codeOf, neighbour}
 use Rattle.zero_border.proofs.Instance.{code-border, code-inner, neighbour-at}
 use Rattle.neighbours.specs.declared.Subspace.{Subspace}
-use Rattle.neighbours.specs.Subspaces.{Seen, Sized, codeFrom}
+use Rattle.neighbours.specs.Subspaces.{Coarser, Seen, Sized, codeFrom}
 
 -- The two cases of a code.
-pub code-at-border : (v : Subspace) (before beyond m : ℕ) → isBorder (v .own) m ≡ true → codeFrom v before beyond m ≡ 0
+pub code-at-border : (v : Subspace) (starts : List ℕ) (before beyond m : ℕ) → isBorder (v .own) m ≡ true → codeFrom v starts before beyond m ≡ 0
 unfolding codeFrom
-code-at-border v before beyond m e = rw e
+code-at-border v starts before beyond m e = rw e
 
-pub code-inside : (v : Subspace) (before beyond m : ℕ) → isBorder (v .own) m ≡ false →
-    codeFrom v before beyond m
-    ≡ suc (at (v .coarser) (parentLevel (v .own) m) + before + (parentIndex m - 1) / 2 * 2 ^ v .low + beyond * 2 ^ (v .low + parentLevel (v .own) m))
+pub code-inside : (v : Subspace) (starts : List ℕ) (before beyond m : ℕ) → isBorder (v .own) m ≡ false →
+    codeFrom v starts before beyond m
+    ≡ suc (at starts (parentLevel (v .own) m) + before + (parentIndex m - 1) / 2 * 2 ^ v .low + beyond * 2 ^ (v .low + parentLevel (v .own) m))
 unfolding codeFrom
-code-inside v before beyond m e = rw e
+code-inside v starts before beyond m e = rw e
 
 -- The digit of the axis in a position, and the number that the axes beyond it add.
 abbrev pub ownDigit : Subspace → ℕ → ℕ
@@ -49,33 +50,33 @@ abbrev pub beyondOf : Subspace → ℕ → ℕ
 beyondOf v q = q / 2 ^ v .low / 2 ^ v .own
 
 -- The numbers of a level vector are small.
-pub sized : {v : Subspace} → Seen v → Sized v
-sized {v} s =
+pub sized : {v : Subspace} {starts : List ℕ} → Seen v → Coarser v (v .own) starts → Sized v starts
+sized {v} {starts} s held =
     record {
       bits =
           omega (
             arith,
             s .low,
             s .own,
-            sumTo-suc (s .levels) (v .line .place),
-            sumTo-mono (s .levels) (suc (v .line .place)) (v .line .axes) (s .axis),
+            sumTo-suc (at (v .levels)) (v .line .place),
+            sumTo-mono (at (v .levels)) (suc (v .line .place)) (v .line .axes) (s .axis),
             s .sum,
             s .top,
           );
-      long = s .coarser .long;
+      long = held .long;
       small = small;
     }
   where
-    small : (m : ℕ) → m < v .own → at (v .coarser) m < 2 ^ 32
+    small : (m : ℕ) → m < v .own → at starts m < 2 ^ 32
     small m h =
-        let l : ℕ → ℕ = update (s .levels) (v .line .place) m in
+        let l : ℕ → ℕ = update (at (v .levels)) (v .line .place) m in
         let low : sumTo l (v .line .axes) ≤ v .line .level
-        = omega (arith, update-sum (s .levels) (v .line .place) m (v .line .axes) (s .axis), s .own, s .sum) in
+        = omega (arith, update-sum (at (v .levels)) (v .line .place) m (v .line .axes) (s .axis), s .own, s .sum) in
         omega (
           arith,
-          s .coarser .first m h,
+          held .first m h,
           block-below (v .line .axes) (v .line .level) l
-              (λ u past. update-other (s .levels) (v .line .place) m u (λ same. omega (arith, s .axis)) ∙ s .rest u past)
+              (λ u past. update-other (at (v .levels)) (v .line .place) m u (λ same. omega (arith, s .axis)) ∙ s .rest u past)
               low 0 (pow-pos (sumTo l (v .line .axes))),
           points-is (v .line .axes) (v .line .level),
           start-small (v .line .axes) (omega (arith, s .axis)) (s .few) (suc (v .line .level)) (omega (arith, s .top)),
@@ -84,33 +85,33 @@ sized {v} s =
 -- It ends within the table.
 pub end-inside : {v : Subspace} → Seen v → v .end ≤ points (v .line .axes) (v .line .level)
 end-inside {v} s =
-    let size : ℕ = 2 ^ sumTo (s .levels) (v .line .axes) in
-    let some : 0 < size = pow-pos (sumTo (s .levels) (v .line .axes)) in
+    let size : ℕ = 2 ^ sumTo (at (v .levels)) (v .line .axes) in
+    let some : 0 < size = pow-pos (sumTo (at (v .levels)) (v .line .axes)) in
     omega (
       arith,
       s .end,
       some,
-      block-below (v .line .axes) (v .line .level) (s .levels) (s .rest) (s .sum) (size - 1) (omega (arith, some)),
+      block-below (v .line .axes) (v .line .level) (at (v .levels)) (s .rest) (s .sum) (size - 1) (omega (arith, some)),
     )
 
 -- Point number p of a level vector.
 module _ {v : Subspace} (s : Seen v) (p : ℕ) (from : v .start ≤ p) (to : p < v .end) where
-  inside-vector : p - v .start < 2 ^ sumTo (s .levels) (v .line .axes)
+  inside-vector : p - v .start < 2 ^ sumTo (at (v .levels)) (v .line .axes)
   inside-vector = omega (arith, s .start, s .end)
 
-  number-is : firstOf (v .line .axes) (s .levels) + (p - v .start) ≡ p
+  number-is : firstOf (v .line .axes) (at (v .levels)) + (p - v .start) ≡ p
   number-is = omega (arith, s .start)
 
-  named : Named (v .line .axes) (v .line .level) (s .levels) (indicesTo (v .line .axes) (s .levels) (p - v .start))
-  named = block-point (v .line .axes) (v .line .level) (s .levels) (s .rest) (s .sum) (p - v .start) inside-vector
+  named : Named (v .line .axes) (v .line .level) (at (v .levels)) (indicesTo (v .line .axes) (at (v .levels)) (p - v .start))
+  named = block-point (v .line .axes) (v .line .level) (at (v .levels)) (s .rest) (s .sum) (p - v .start) inside-vector
 
   pub below : p < points (v .line .axes) (v .line .level)
   below =
-      omega (arith, number-is, block-below (v .line .axes) (v .line .level) (s .levels) (s .rest) (s .sum) (p - v .start) inside-vector)
+      omega (arith, number-is, block-below (v .line .axes) (v .line .level) (at (v .levels)) (s .rest) (s .sum) (p - v .start) inside-vector)
 
   -- Its digits are small.
   position-small : p - v .start < 2 ^ 8
-  position-small = omega (arith, inside-vector, pow-mono {i = sumTo (s .levels) (v .line .axes)} {j = 8} (omega (arith, s .sum, s .top)))
+  position-small = omega (arith, inside-vector, pow-mono {i = sumTo (at (v .levels)) (v .line .axes)} {j = 8} (omega (arith, s .sum, s .top)))
 
   pub before-small : (p - v .start) % 2 ^ v .low < 2 ^ 8
   before-small = omega (arith, position-small, mod-le (p - v .start) (2 ^ v .low))
@@ -122,76 +123,76 @@ module _ {v : Subspace} (s : Seen v) (p : ℕ) (from : v .start ≤ p) (to : p <
   pub digit-small : ownDigit v (p - v .start) < 2 ^ v .own
   digit-small = mod-lt ((p - v .start) / 2 ^ v .low) (pow-pos (v .own))
 
-  levels-are : levelAt (v .line .axes) (v .line .level) p ≡ s .levels
+  levels-are : levelAt (v .line .axes) (v .line .level) p ≡ at (v .levels)
   levels-are =
       ap (levelAt (v .line .axes) (v .line .level)) (sym number-is)
-      ∙ block-levels (v .line .axes) (v .line .level) (s .levels) (s .rest) (s .sum) (p - v .start) inside-vector
+      ∙ block-levels (v .line .axes) (v .line .level) (at (v .levels)) (s .rest) (s .sum) (p - v .start) inside-vector
 
-  indices-are : indexAt (v .line .axes) (v .line .level) p ≡ indicesTo (v .line .axes) (s .levels) (p - v .start)
+  indices-are : indexAt (v .line .axes) (v .line .level) p ≡ indicesTo (v .line .axes) (at (v .levels)) (p - v .start)
   indices-are =
       ap (indexAt (v .line .axes) (v .line .level)) (sym number-is)
-      ∙ block-indices (v .line .axes) (v .line .level) (s .levels) (s .rest) (s .sum) (p - v .start) inside-vector
+      ∙ block-indices (v .line .axes) (v .line .level) (at (v .levels)) (s .rest) (s .sum) (p - v .start) inside-vector
 
-  index-is : indicesTo (v .line .axes) (s .levels) (p - v .start) (v .line .place) ≡ 2 * ownDigit v (p - v .start) + 1
+  index-is : indicesTo (v .line .axes) (at (v .levels)) (p - v .start) (v .line .place) ≡ 2 * ownDigit v (p - v .start) + 1
   unfolding indexOf
   index-is =
-      indices-in (v .line .axes) (s .levels) (p - v .start) (v .line .place) (s .axis)
+      indices-in (v .line .axes) (at (v .levels)) (p - v .start) (v .line .place) (s .axis)
       ∙ ap₂ (λ (a b : ℕ). 2 * ((p - v .start) / 2 ^ a % 2 ^ b) + 1) (sym (s .low)) (sym (s .own))
 
   -- What the axes before and beyond add to its position.
-  before-is : position (s .levels) (indicesTo (v .line .axes) (s .levels) (p - v .start)) (v .line .place) ≡ (p - v .start) % 2 ^ v .low
+  before-is : position (at (v .levels)) (indicesTo (v .line .axes) (at (v .levels)) (p - v .start)) (v .line .place) ≡ (p - v .start) % 2 ^ v .low
   before-is =
       sym (position-low (named .point) (v .line .place) (v .line .axes) (omega (arith, s .axis)) (omega arith))
       ∙ ap₂ (λ (q a : ℕ). q % 2 ^ a)
-      (block-position (v .line .axes) (v .line .level) (s .levels) (s .rest) (s .sum) (p - v .start) inside-vector) (sym (s .low))
+      (block-position (v .line .axes) (v .line .level) (at (v .levels)) (s .rest) (s .sum) (p - v .start) inside-vector) (sym (s .low))
 
-  through : sumTo (s .levels) (suc (v .line .place)) ≡ v .low + v .own
-  through = omega (arith, sumTo-suc (s .levels) (v .line .place), s .low, s .own)
+  through : sumTo (at (v .levels)) (suc (v .line .place)) ≡ v .low + v .own
+  through = omega (arith, sumTo-suc (at (v .levels)) (v .line .place), s .low, s .own)
 
   beyond-is :
-      position (s .levels) (indicesTo (v .line .axes) (s .levels) (p - v .start)) (v .line .axes) / 2 ^ sumTo (s .levels) (suc (v .line .place))
+      position (at (v .levels)) (indicesTo (v .line .axes) (at (v .levels)) (p - v .start)) (v .line .axes) / 2 ^ sumTo (at (v .levels)) (suc (v .line .place))
       ≡ beyondOf v (p - v .start)
   beyond-is =
       ap₂ (λ (q a : ℕ). q / 2 ^ a)
-      (block-position (v .line .axes) (v .line .level) (s .levels) (s .rest) (s .sum) (p - v .start) inside-vector) through
+      (block-position (v .line .axes) (v .line .level) (at (v .levels)) (s .rest) (s .sum) (p - v .start) inside-vector) through
       ∙ ap (λ (x : ℕ). (p - v .start) / x) (pow-add 2 (v .low) (v .own))
       ∙ sym (div-div-eq-div-mul (p - v .start) (2 ^ v .low) (2 ^ v .own))
 
   module _ (b : Side) where
     abbrev top : ℕ
-    top = numerator b (indicesTo (v .line .axes) (s .levels) (p - v .start) (v .line .place))
+    top = numerator b (indicesTo (v .line .axes) (at (v .levels)) (p - v .start) (v .line .place))
 
     beside :
         neighbour (v .line .axes) (v .line .level) (v .line .place) b (suc p)
-        ≡ codeOf (v .line .axes) (parent (v .line .place) b (s .levels) (indicesTo (v .line .axes) (s .levels) (p - v .start)))
+        ≡ codeOf (v .line .axes) (parent (v .line .place) b (at (v .levels)) (indicesTo (v .line .axes) (at (v .levels)) (p - v .start)))
     beside =
         neighbour-at (v .line .axes) (v .line .level) (s .top) (v .line .place) b p below (s .axis)
         ∙ ap₂ (λ (l i : ℕ → ℕ). codeOf (v .line .axes) (parent (v .line .place) b l i)) levels-are indices-are
 
-    module _ (e : isBorder (s .levels (v .line .place)) top ≡ false) where
+    module _ (e : isBorder (at (v .levels) (v .line .place)) top ≡ false) where
       falls : parentLevel (v .own) top < v .own
       falls =
           rw (s .own)
-          (level-falls (s .levels (v .line .place)) top
-          (omega (arith, term-le (s .levels) (v .line .axes) (v .line .place) (s .axis), s .sum, s .top))
-          (inside b (s .levels (v .line .place)) _ (named .point .odd (v .line .place) (s .axis)) (named .point .below (v .line .place) (s .axis)) e))
+          (level-falls (at (v .levels) (v .line .place)) top
+          (omega (arith, term-le (at (v .levels)) (v .line .axes) (v .line .place) (s .axis), s .sum, s .top))
+          (inside b (at (v .levels) (v .line .place)) _ (named .point .odd (v .line .place) (s .axis)) (named .point .below (v .line .place) (s .axis)) e))
 
-      moved-number :
+      moved-number : (starts : List ℕ) → Coarser v (v .own) starts →
           number (v .line .axes)
-          (update (s .levels) (v .line .place) (parentLevel (v .own) top))
-          (update (indicesTo (v .line .axes) (s .levels) (p - v .start)) (v .line .place) (parentIndex top))
-          ≡ at (v .coarser) (parentLevel (v .own) top)
+          (update (at (v .levels)) (v .line .place) (parentLevel (v .own) top))
+          (update (indicesTo (v .line .axes) (at (v .levels)) (p - v .start)) (v .line .place) (parentIndex top))
+          ≡ at starts (parentLevel (v .own) top)
           + (p - v .start) % 2 ^ v .low
           + (parentIndex top - 1) / 2 * 2 ^ v .low
           + beyondOf v (p - v .start) * 2 ^ (v .low + parentLevel (v .own) top)
-      moved-number =
+      moved-number starts held =
           let k : ℕ = parentLevel (v .own) top in
-          let i : ℕ → ℕ = indicesTo (v .line .axes) (s .levels) (p - v .start) in
+          let i : ℕ → ℕ = indicesTo (v .line .axes) (at (v .levels)) (p - v .start) in
           omega (
             arith,
-            number-from-first (v .line .axes) (update (s .levels) (v .line .place) k) (update i (v .line .place) (parentIndex top)),
-            s .coarser .first k falls,
-            moved-position (s .levels) i (v .line .place) k (parentIndex top) (named .point) (s .axis),
+            number-from-first (v .line .axes) (update (at (v .levels)) (v .line .place) k) (update i (v .line .place) (parentIndex top)),
+            held .first k falls,
+            moved-position (at (v .levels)) i (v .line .place) k (parentIndex top) (named .point) (s .axis),
             before-is,
             ap (λ (a : ℕ). (parentIndex top - 1) / 2 * 2 ^ a) (s .low),
             ap₂ (λ (q a : ℕ). q * 2 ^ (a + k)) beyond-is (sym (s .low)),
@@ -201,63 +202,63 @@ module _ {v : Subspace} (s : Seen v) (p : ℕ) (from : v .start ≤ p) (to : p <
           neighbour (v .line .axes) (v .line .level) (v .line .place) b (suc p)
           ≡ suc
           (number (v .line .axes)
-          (update (s .levels) (v .line .place) (parentLevel (v .own) top))
-          (update (indicesTo (v .line .axes) (s .levels) (p - v .start)) (v .line .place) (parentIndex top)))
+          (update (at (v .levels)) (v .line .place) (parentLevel (v .own) top))
+          (update (indicesTo (v .line .axes) (at (v .levels)) (p - v .start)) (v .line .place) (parentIndex top)))
       beside-inner =
           beside
-          ∙ ap (codeOf (v .line .axes)) (parent-inner (v .line .place) b (s .levels) _ e)
+          ∙ ap (codeOf (v .line .axes)) (parent-inner (v .line .place) b (at (v .levels)) _ e)
           ∙ code-inner (v .line .axes) _ _
           ∙ rw (s .own)
 
-    code-beside :
-        codeFrom v ((p - v .start) % 2 ^ v .low) (beyondOf v (p - v .start)) top
+    code-beside : (starts : List ℕ) → Coarser v (v .own) starts →
+        codeFrom v starts ((p - v .start) % 2 ^ v .low) (beyondOf v (p - v .start)) top
         ≡ neighbour (v .line .axes) (v .line .level) (v .line .place) b (suc p)
-    code-beside =
-        true-or-false (isBorder (s .levels (v .line .place)) top)
+    code-beside starts held =
+        true-or-false (isBorder (at (v .levels) (v .line .place)) top)
         (λ e.
-        code-at-border v _ _ top (ap (λ (o : ℕ). isBorder o top) (s .own) ∙ e)
-        ∙ sym (beside ∙ ap (codeOf (v .line .axes)) (parent-border (v .line .place) b (s .levels) _ e) ∙ code-border (v .line .axes)))
+        code-at-border v starts _ _ top (ap (λ (o : ℕ). isBorder o top) (s .own) ∙ e)
+        ∙ sym (beside ∙ ap (codeOf (v .line .axes)) (parent-border (v .line .place) b (at (v .levels)) _ e) ∙ code-border (v .line .axes)))
         (λ e.
-        code-inside v _ _ top (ap (λ (o : ℕ). isBorder o top) (s .own) ∙ e)
-        ∙ ap suc (sym (moved-number e))
+        code-inside v starts _ _ top (ap (λ (o : ℕ). isBorder o top) (s .own) ∙ e)
+        ∙ ap suc (sym (moved-number e starts held))
         ∙ sym (beside-inner e))
 
     -- It stands before the level vector.
     pub parent-before : neighbour (v .line .axes) (v .line .level) (v .line .place) b (suc p) ≤ v .start
     parent-before =
-        true-or-false (isBorder (s .levels (v .line .place)) top)
+        true-or-false (isBorder (at (v .levels) (v .line .place)) top)
         (λ e.
-        omega (arith, beside ∙ ap (codeOf (v .line .axes)) (parent-border (v .line .place) b (s .levels) _ e) ∙ code-border (v .line .axes)))
+        omega (arith, beside ∙ ap (codeOf (v .line .axes)) (parent-border (v .line .place) b (at (v .levels)) _ e) ∙ code-border (v .line .axes)))
         (λ e.
         omega (
           arith,
           beside-inner e,
-          ap (λ (o : ℕ). number (v .line .axes) (update (s .levels) (v .line .place) (parentLevel o top)) (update (indicesTo (v .line .axes) (s .levels) (p - v .start)) (v .line .place) (parentIndex top))) (s .own),
+          ap (λ (o : ℕ). number (v .line .axes) (update (at (v .levels)) (v .line .place) (parentLevel o top)) (update (indicesTo (v .line .axes) (at (v .levels)) (p - v .start)) (v .line .place) (parentIndex top))) (s .own),
           number-in-shell (parent-is-point (named .point) (s .top) (v .line .place) (s .axis) b e),
           start-mono (v .line .axes) _ _ (parent-sum (named .point) (s .top) (v .line .place) (s .axis) b e),
-          first-is (v .line .axes) (s .levels),
+          first-is (v .line .axes) (at (v .levels)),
           s .start,
         ))
 
   -- At level 0 of the axis both are the border.
   pub flat : v .own ≡ 0 → (b : Side) → neighbour (v .line .axes) (v .line .level) (v .line .place) b (suc p) ≡ 0
   flat e b =
-      let zero : s .levels (v .line .place) ≡ 0 = sym (s .own) ∙ e in
+      let zero : at (v .levels) (v .line .place) ≡ 0 = sym (s .own) ∙ e in
       beside b
       ∙ ap (codeOf (v .line .axes))
-      (parent-border (v .line .place) b (s .levels) _
+      (parent-border (v .line .place) b (at (v .levels)) _
       (ap (λ (l : ℕ). isBorder l (top b)) zero
       ∙ level-zero-border b _ (named .point .odd (v .line .place) (s .axis))
       (omega (arith, named .point .below (v .line .place) (s .axis), ap (λ (l : ℕ). 2 ^ suc l) zero))))
       ∙ code-border (v .line .axes)
 
   -- The codes of both parents.
-  pub left-code :
-      codeFrom v ((p - v .start) % 2 ^ v .low) (beyondOf v (p - v .start)) (2 * ownDigit v (p - v .start))
+  pub left-code : (starts : List ℕ) → Coarser v (v .own) starts →
+      codeFrom v starts ((p - v .start) % 2 ^ v .low) (beyondOf v (p - v .start)) (2 * ownDigit v (p - v .start))
       ≡ neighbour (v .line .axes) (v .line .level) (v .line .place) Left (suc p)
-  left-code = ap (codeFrom v _ _) (omega (arith, index-is)) ∙ code-beside Left
+  left-code starts held = ap (codeFrom v starts _ _) (omega (arith, index-is)) ∙ code-beside Left starts held
 
-  pub right-code :
-      codeFrom v ((p - v .start) % 2 ^ v .low) (beyondOf v (p - v .start)) (2 * ownDigit v (p - v .start) + 2)
+  pub right-code : (starts : List ℕ) → Coarser v (v .own) starts →
+      codeFrom v starts ((p - v .start) % 2 ^ v .low) (beyondOf v (p - v .start)) (2 * ownDigit v (p - v .start) + 2)
       ≡ neighbour (v .line .axes) (v .line .level) (v .line .place) Right (suc p)
-  right-code = ap (codeFrom v _ _) (omega (arith, index-is)) ∙ code-beside Right
+  right-code starts held = ap (codeFrom v starts _ _) (omega (arith, index-is)) ∙ code-beside Right starts held

@@ -13,50 +13,68 @@ use Rattle.numbering.specs.Point.{at}
 use Rattle.numbering.specs.Number.{firstOf}
 use Rattle.numbering.specs.Parent.{update}
 use Rattle.numbering.proofs.Parents.{update-same, update-other, update-sum}
-use Rattle.neighbours.specs.Subspaces.{Coarser}
+use Rattle.neighbours.specs.declared.Subspace.{Subspace}
+use Rattle.neighbours.specs.Subspaces.{Seen, Coarser}
 
-module _ (d t : ℕ) (ls : List ℕ) where
-  pub record Coarsened (starts other : List ℕ) (m : ℕ) : Type 0 where
-    pub filled : Coarser d t (at ls) m starts
-    pub long : length other ≡ 8
-    pub same : (u : ℕ) → (u ≡ t → ⊥) → at other u ≡ at ls u
+pub record Coarsened (v : Subspace) (starts levels : List ℕ) (m : ℕ) : Type 0 where
+  pub filled : Coarser v m starts
+  pub long : length levels ≡ 8
+  pub same : (u : ℕ) → (u ≡ v .line .place → ⊥) → at levels u ≡ at (v .levels) u
 
-  pub coarsened-starts : length ls ≡ 8 → Coarsened (replicate 8 0) ls 0
-  coarsened-starts long =
+pub coarsened-ends : {v : Subspace} (starts levels : List ℕ) (m : ℕ) → Coarsened v starts levels m → v .own ≤ m → Coarser v (v .own) starts
+coarsened-ends starts levels m s done = record { long = s .filled .long; first = λ k h. s .filled .first k (omega arith) }
+
+module _ {v : Subspace} (seen : Seen v) where
+  pub coarsened-starts : Coarsened v (replicate 8 0) (v .levels) 0
+  coarsened-starts =
       record {
         filled = record { long = refl; first = λ m h. absurd (omega arith) };
-        long = long;
+        long = seen .long;
         same = λ u other. refl;
       }
 
-  module _ (few : d ≤ 8) (axis : t < d) (low : sumTo (at ls) d ≤ 8) (starts other : List ℕ) (m : ℕ)
-      (s : Coarsened starts other m) (more : m < at ls t) where
+  module _ (starts levels : List ℕ) (m : ℕ) (s : Coarsened v starts levels m) (more : m < v .own) where
     pub level-small : m < 8
-    level-small = omega (arith, term-le (at ls) d t axis)
+    level-small = omega (arith, seen .own, seen .sum, seen .top, term-le (at (v .levels)) (v .line .axes) (v .line .place) (seen .axis))
 
-    pub changed : at (set other t m) ≡ update (at ls) t m
+    pub place-inside : v .line .place < length levels
+    place-inside = omega (arith, s .long, seen .axis, seen .few)
+
+    changed : at (set levels (v .line .place) m) ≡ update (at (v .levels)) (v .line .place) m
     changed = fun-ext each
       where
-        each : (u : ℕ) → at (set other t m) u ≡ update (at ls) t m u
+        each : (u : ℕ) → at (set levels (v .line .place) m) u ≡ update (at (v .levels)) (v .line .place) m u
         each u =
-            eq-or-not u t
-            (λ e. rw e (getD-set-same other t m 0 (omega (arith, s .long)) ∙ sym (update-same (at ls) t m)))
-            (λ ne. getD-set-other other t u m 0 ne ∙ s .same u ne ∙ sym (update-other (at ls) t m u ne))
+            eq-or-not u (v .line .place)
+            (λ e. rw e (getD-set-same levels (v .line .place) m 0 place-inside ∙ sym (update-same (at (v .levels)) (v .line .place) m)))
+            (λ ne. getD-set-other levels (v .line .place) u m 0 ne ∙ s .same u ne ∙ sym (update-other (at (v .levels)) (v .line .place) m u ne))
 
-    pub changed-sum : sumTo (at (set other t m)) d ≤ 8
-    changed-sum = omega (arith, ap (λ (f : ℕ → ℕ). sumTo f d) changed, update-sum (at ls) t m d axis)
+    pub changed-sum : sumTo (at (set levels (v .line .place) m)) (v .line .axes) ≤ 8
+    changed-sum =
+        omega (
+          arith,
+          ap (λ (f : ℕ → ℕ). sumTo f (v .line .axes)) changed,
+          update-sum (at (v .levels)) (v .line .place) m (v .line .axes) (seen .axis),
+          seen .own,
+          seen .sum,
+          seen .top,
+        )
 
-    pub coarsened-steps : (r : ℕ) → r ≡ firstOf d (at (set other t m)) → Coarsened (set starts m r) (set other t m) (m + 1)
+    pub changed-length : length (set levels (v .line .place) m) ≡ 8
+    changed-length = length-set levels (v .line .place) m ∙ s .long
+
+    pub coarsened-steps : (r : ℕ) → r ≡ firstOf (v .line .axes) (at (set levels (v .line .place) m)) →
+        Coarsened v (set starts m r) (set levels (v .line .place) m) (m + 1)
     coarsened-steps r e =
         record {
           filled = record { long = length-set starts m r ∙ s .filled .long; first = first };
-          long = length-set other t m ∙ s .long;
-          same = λ u ne. getD-set-other other t u m 0 ne ∙ s .same u ne;
+          long = changed-length;
+          same = λ u ne. getD-set-other levels (v .line .place) u m 0 ne ∙ s .same u ne;
         }
       where
-        first : (k : ℕ) → k < m + 1 → at (set starts m r) k ≡ firstOf d (update (at ls) t k)
+        first : (k : ℕ) → k < m + 1 → at (set starts m r) k ≡ firstOf (v .line .axes) (update (at (v .levels)) (v .line .place) k)
         first k h =
             eq-or-not k m
             (λ same.
-            rw same (getD-set-same starts m r 0 (omega (arith, s .filled .long, level-small)) ∙ e ∙ ap (firstOf d) changed))
+            rw same (getD-set-same starts m r 0 (omega (arith, s .filled .long, level-small)) ∙ e ∙ ap (firstOf (v .line .axes)) changed))
             (λ ne. getD-set-other starts m k r 0 ne ∙ s .filled .first k (omega arith))

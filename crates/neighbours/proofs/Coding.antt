@@ -3,6 +3,7 @@
 -- Assumes nothing.
 use mathlib.Core.Path.{_≡_, ap, ap₂, sym, _∙_}
 use mathlib.Core.Bool.{false}
+use mathlib.Core.List.{List}
 use Prim.Native.Nat.{ℕ, suc, _+_, _-_, _*_, _/_, _%_, _^_, _≤_, _<_}
 use native.Mathlib.Nat.{mul-le-mul-left, mod-eq-of-lt}
 use native.Mathlib.Numerals.{add-one}
@@ -25,14 +26,14 @@ shift-small a b small few = omega (arith, mul-le-mul-left a (pow-mono {i = b} {j
 pub shift-exact : (a b : ℕ) → a < 2 ^ 8 → b ≤ 8 → a * 2 ^ b % 2 ^ 64 ≡ a * 2 ^ b
 shift-exact a b small few = mod-eq-of-lt (omega (arith, shift-small a b small few))
 
-module _ {v : Subspace} (sized : Sized v) (before beyond m : ℕ) where
-  pub at-zero : m ≡ 0 → 0 ≡ codeFrom v before beyond m
-  at-zero e = sym (code-at-border v before beyond m (ap (isBorder (v .own)) e ∙ border-low (v .own)))
+module _ {v : Subspace} {starts : List ℕ} (sized : Sized v starts) (before beyond m : ℕ) where
+  pub at-zero : m ≡ 0 → 0 ≡ codeFrom v starts before beyond m
+  at-zero e = sym (code-at-border v starts before beyond m (ap (isBorder (v .own)) e ∙ border-low (v .own)))
 
-  pub at-one : m ≡ 2 * 2 ^ v .own % 2 ^ 32 → 0 ≡ codeFrom v before beyond m
+  pub at-one : m ≡ 2 * 2 ^ v .own % 2 ^ 32 → 0 ≡ codeFrom v starts before beyond m
   at-one e =
       sym
-      (code-at-border v before beyond m
+      (code-at-border v starts before beyond m
       (ap (isBorder (v .own)) (e ∙ shifted (v .own) (omega (arith, sized .bits))) ∙ border-high (v .own)))
 
   module _ (even : m % 2 ≡ 0) (within : m ≤ 2 ^ suc (v .own)) (not-zero : m ≡ 0 → ⊥) (not-one : m ≡ 2 * 2 ^ v .own % 2 ^ 32 → ⊥) where
@@ -74,7 +75,7 @@ module _ {v : Subspace} (sized : Sized v) (before beyond m : ℕ) where
           pow-mono {i = suc (v .own - trailingZeros 32 m)} {j = 9} (omega (arith, sized .bits)),
         )
 
-    pub first-small : at (v .coarser) (v .own - trailingZeros 32 m) < 2 ^ 32
+    pub first-small : at starts (v .own - trailingZeros 32 m) < 2 ^ 32
     first-small = sized .small _ falls
 
     pub level-few : v .low + (v .own - trailingZeros 32 m) ≤ 8
@@ -82,7 +83,7 @@ module _ {v : Subspace} (sized : Sized v) (before beyond m : ℕ) where
 
     module _ (beyond-small : beyond < 2 ^ 8) where
       pub total-small : before < 2 ^ 8 →
-          at (v .coarser) (v .own - trailingZeros 32 m)
+          at starts (v .own - trailingZeros 32 m)
           + before
           + m / 2 ^ trailingZeros 32 m / 2 * 2 ^ v .low % 2 ^ 64
           + beyond * 2 ^ (v .low + (v .own - trailingZeros 32 m)) % 2 ^ 64
@@ -98,17 +99,17 @@ module _ {v : Subspace} (sized : Sized v) (before beyond m : ℕ) where
           )
 
       pub computed :
-          at (v .coarser) (v .own - trailingZeros 32 m)
+          at starts (v .own - trailingZeros 32 m)
           + before
           + m / 2 ^ trailingZeros 32 m / 2 * 2 ^ v .low % 2 ^ 64
           + beyond * 2 ^ (v .low + (v .own - trailingZeros 32 m)) % 2 ^ 64
           + 1
-          ≡ codeFrom v before beyond m
+          ≡ codeFrom v starts before beyond m
       unfolding parentLevel twos
       computed =
           add-one _
           ∙ ap suc
-          (ap₂ (λ (x y : ℕ). at (v .coarser) (v .own - trailingZeros 32 m) + before + x + y)
+          (ap₂ (λ (x y : ℕ). at starts (v .own - trailingZeros 32 m) + before + x + y)
           (shift-exact (m / 2 ^ trailingZeros 32 m / 2) (v .low) half-small (omega (arith, sized .bits)) ∙ ap (λ (h : ℕ). h * 2 ^ v .low) half-is)
           (shift-exact beyond (v .low + (v .own - trailingZeros 32 m)) beyond-small level-few))
-          ∙ sym (code-inside v before beyond m no-border)
+          ∙ sym (code-inside v starts before beyond m no-border)

@@ -6,6 +6,7 @@ pub mod Lowering
 pub mod Raising
 pub mod Rising
 pub mod Flat
+pub mod Standing
 pub mod Turned
 pub mod Former
 pub mod Answering

@@ -8,9 +8,12 @@ use lib.IntN.{ℤ, _+ℤ_}
 use lib.ListN.{length}
 use Rattle.integers.specs.Half.{half, isEven, inLimit}
 use Rattle.numbering.specs.Count.{points}
+use Rattle.numbering.specs.Point.{at}
+use Rattle.numbering.specs.Number.{firstOf}
 use Rattle.hierarchy.specs.Turns.{valueAt, valuesOf, sumOn, forward}
 use Rattle.hierarchy.specs.Work.{mixed}
 use Rattle.zero_border.specs.ZeroBorder.{neighbour}
+use Rattle.vectors.specs.Vectors.{VectorIn}
 
 -- Place t of a shape within the limits, and a table of its points.
 pub record OnAxis (d n t : ℕ) (xs : List ℤ) : Type 0 where
@@ -22,6 +25,12 @@ pub record OnAxis (d n t : ℕ) (xs : List ℤ) : Type 0 where
 -- The first k values are within the content limit.
 abbrev pub Limited : List ℤ → ℕ → Type 0
 Limited xs k = (p : ℕ) → p < k → inLimit (valueAt xs (suc p)) ≡ true
+
+-- A level vector of the shape with its sum and its first number.
+pub record VectorOf (d n sum : ℕ) (ls : List ℕ) (start : ℕ) : Type 0 where
+  pub vector : VectorIn d sum ls
+  pub low : sum ≤ n
+  pub first : start ≡ firstOf d (at ls)
 
 -- At point p the sum is even and the value after the turn within the limit.
 unfoldable pub movesOn : ℕ → ℕ → ℕ → List ℤ → ℕ → Bool

@@ -6,14 +6,14 @@ use refusals::Verdict;
 use states::Answer;
 use states::State;
 ghost use mathlib.Core.Path.{_≡_};
-ghost use Prim.Native.Nat.{_≤_};
+ghost use Prim.Native.Nat.{_+_, _^_, _≤_};
 ghost use lib.ListN.{length};
 ghost use Rattle.numbering.specs.Count.{points};
 ghost use Rattle.hierarchy.specs.Turns.{valueAt};
-ghost use Rattle.neighbours.specs.Subspaces.{Seen};
+ghost use Rattle.neighbours.specs.Subspaces.{Seen, Coarser};
 ghost use Rattle.states.specs.After.{after};
 ghost use Rattle.turns.specs.Turns.{checkTurn, forwardTurn, backTurn};
-ghost use Rattle.turns.specs.Steps.{OnAxis, Limited, LoweredBetween, RaisedBetween, RaisedFrom};
+ghost use Rattle.turns.specs.Steps.{OnAxis, Limited, VectorOf, LoweredBetween, RaisedBetween, RaisedFrom};
 
 // What stands at a code: 0 at the border.
 fn value(table: &[i64], code: u64) -> i64
@@ -31,13 +31,13 @@ fn value(table: &[i64], code: u64) -> i64
 
 // The forward steps of the points of a level vector below number `count`, from the last down, as long as they are accepted: the number down to which
 // they were. A point's parents have smaller numbers and have not moved yet.
-fn lower_subspace(v: Subspace, table: &mut [i64], count: u64) -> u64
-    requires { ⌜ Seen v × OnAxis (v .line .axes) (v .line .level) (v .line .place) (now table) × Limited (now table) (length (now table)) × (v .start ≤ count) × (count ≤ v .end) ⌝ }
+fn lower_subspace(v: Subspace, coarser: &[u64; 8], table: &mut [i64], count: u64) -> u64
+    requires { ⌜ Seen v × Coarser v (v .own) (now coarser) × OnAxis (v .line .axes) (v .line .level) (v .line .place) (now table) × Limited (now table) (length (now table)) × (v .start ≤ count) × (count ≤ v .end) ⌝ }
     ensures { λ r. ⌜ LoweredBetween (v .line .axes) (v .line .level) (v .line .place) (v .start) count (now (table .entry)) r (now (table .exit)) ⌝ }
 {
     let mut p = count;
     while v.start < p {
-        let codes = neighbours::codes(v, p - 1); // not moved yet
+        let codes = neighbours::codes(v, coarser, p - 1); // not moved yet
         let left = value(table, codes.left);
         let right = value(table, codes.right);
         if !integers::even_sum(left, right) {
@@ -54,34 +54,63 @@ fn lower_subspace(v: Subspace, table: &mut [i64], count: u64) -> u64
     p
 }
 
-// The forward steps of the first `count` points, from the last down, a level vector at a time, as long as they are accepted: how many are left. Points of
-// level 0 on the axis have the border on both sides and do not move, here and below.
+// The same for a level vector with its sum and first number. At level 0 on the axis the points have the border on both sides and do not move.
+fn lower_vector(
+    line: Line,
+    sum: u32,
+    levels: [u32; 8],
+    start: u64,
+    table: &mut [i64],
+    count: u64,
+) -> u64
+    requires { ⌜ OnAxis (line .axes) (line .level) (line .place) (now table) × Limited (now table) (length (now table)) × VectorOf (line .axes) (line .level) sum levels start × (start ≤ count) × (count ≤ start + 2 ^ sum) ⌝ }
+    ensures { λ r. ⌜ LoweredBetween (line .axes) (line .level) (line .place) start count (now (table .entry)) r (now (table .exit)) ⌝ }
+{
+    let v = neighbours::subspace_on(line, sum, levels, start);
+    if v.own == 0 {
+        return start;
+    }
+    let coarser = neighbours::coarser(v);
+    lower_subspace(v, &coarser, table, count)
+}
+
+// The forward steps of the first `count` points, from the last down, a level vector at a time, as long as they are accepted: how many are left.
 fn lower(line: Line, table: &mut [i64], count: u64) -> u64
     requires { ⌜ OnAxis (line .axes) (line .level) (line .place) (now table) × Limited (now table) (length (now table)) × (count ≤ points (line .axes) (line .level)) ⌝ }
     ensures { λ r. ⌜ LoweredBetween (line .axes) (line .level) (line .place) 0 count (now (table .entry)) r (now (table .exit)) ⌝ }
 {
-    let mut p = count;
-    while 0 < p {
-        let v = neighbours::subspace_of(line, p - 1);
-        if 0 < v.own {
-            let lowered = lower_subspace(v, table, p);
-            if v.start < lowered {
-                return lowered;
-            }
-        }
-        p = v.start;
+    if count == 0 {
+        return count;
     }
-    p
+    let last = numbers::vector_at(line.axes, line.level, count - 1);
+    let mut sum = last.sum;
+    let mut levels = last.levels;
+    let mut start = count - 1 - last.position;
+    let mut p = count;
+    loop {
+        let lowered = lower_vector(line, sum, levels, start, table, p);
+        if start < lowered {
+            return lowered;
+        }
+        p = start;
+        if p == 0 {
+            return p;
+        }
+        let before = vectors::previous_vector(line.axes as usize, sum, levels);
+        sum = before.sum;
+        levels = before.levels;
+        start = p - (1 << sum);
+    }
 }
 
 // The steps back of the points of a level vector from number `from` up, as long as they are accepted: the number of the first that was not, or the end.
-fn raise_subspace(v: Subspace, table: &mut [i64], from: u64) -> u64
-    requires { ⌜ Seen v × OnAxis (v .line .axes) (v .line .level) (v .line .place) (now table) × Limited (now table) (length (now table)) × (v .start ≤ from) × (from ≤ v .end) ⌝ }
+fn raise_subspace(v: Subspace, coarser: &[u64; 8], table: &mut [i64], from: u64) -> u64
+    requires { ⌜ Seen v × Coarser v (v .own) (now coarser) × OnAxis (v .line .axes) (v .line .level) (v .line .place) (now table) × Limited (now table) (length (now table)) × (v .start ≤ from) × (from ≤ v .end) ⌝ }
     ensures { λ r. ⌜ RaisedBetween (v .line .axes) (v .line .level) (v .line .place) from (v .end) (now (table .entry)) r (now (table .exit)) ⌝ }
 {
     let mut p = from;
     while p < v.end {
-        let codes = neighbours::codes(v, p); // raised already
+        let codes = neighbours::codes(v, coarser, p); // raised already
         let left = value(table, codes.left);
         let right = value(table, codes.right);
         if !integers::even_sum(left, right) {
@@ -98,22 +127,51 @@ fn raise_subspace(v: Subspace, table: &mut [i64], from: u64) -> u64
     p
 }
 
+// The same for a level vector with its sum and first number.
+fn raise_vector(
+    line: Line,
+    sum: u32,
+    levels: [u32; 8],
+    start: u64,
+    table: &mut [i64],
+    from: u64,
+) -> u64
+    requires { ⌜ OnAxis (line .axes) (line .level) (line .place) (now table) × Limited (now table) (length (now table)) × VectorOf (line .axes) (line .level) sum levels start × (start ≤ from) × (from ≤ start + 2 ^ sum) ⌝ }
+    ensures { λ r. ⌜ RaisedBetween (line .axes) (line .level) (line .place) from (start + 2 ^ sum) (now (table .entry)) r (now (table .exit)) ⌝ }
+{
+    let v = neighbours::subspace_on(line, sum, levels, start);
+    if v.own == 0 {
+        return v.end;
+    }
+    let coarser = neighbours::coarser(v);
+    raise_subspace(v, &coarser, table, from)
+}
+
 // The steps back of the points from number `from` up, a level vector at a time, as long as they are accepted: the number of the first that was not, or
 // the count of points. A point's parents have smaller numbers and are raised already.
 fn raise(line: Line, table: &mut [i64], from: u64) -> u64
     requires { ⌜ OnAxis (line .axes) (line .level) (line .place) (now table) × Limited (now table) (length (now table)) × (from ≤ points (line .axes) (line .level)) ⌝ }
     ensures { λ r. ⌜ RaisedFrom (line .axes) (line .level) (line .place) from (now (table .entry)) r (now (table .exit)) ⌝ }
 {
+    if table.len() as u64 <= from {
+        return from;
+    }
+    let first = numbers::vector_at(line.axes, line.level, from);
+    let mut sum = first.sum;
+    let mut levels = first.levels;
+    let mut start = from - first.position;
     let mut p = from;
     while p < table.len() as u64 {
-        let v = neighbours::subspace_of(line, p);
-        if 0 < v.own {
-            let raised = raise_subspace(v, table, p);
-            if raised < v.end {
-                return raised;
-            }
+        let end = start + (1 << sum);
+        let raised = raise_vector(line, sum, levels, start, table, p);
+        if raised < end {
+            return raised;
         }
-        p = v.end;
+        p = end;
+        start = end;
+        let next = vectors::next_vector(line.axes as usize, sum, levels);
+        sum = next.sum;
+        levels = next.levels;
     }
     p
 }

@@ -35,10 +35,10 @@ cast-half c =
 
 -- all sums are below 2^33
 small : (c : tie.After-result) → let start = c .before .before .before in
-    at (start .args .t1 .coarser) (start .args .t1 .own - trailingZeros 32 (start .args .numerator))
+    at (start .args .coarser .now) (start .args .v .own - trailingZeros 32 (start .args .numerator))
     + start .args .before
-    + start .args .numerator / 2 ^ trailingZeros 32 (start .args .numerator) / 2 * 2 ^ start .args .t1 .low % 2 ^ 64
-    + start .args .beyond * 2 ^ (start .args .t1 .low + (start .args .t1 .own - trailingZeros 32 (start .args .numerator))) % 2 ^ 64
+    + start .args .numerator / 2 ^ trailingZeros 32 (start .args .numerator) / 2 * 2 ^ start .args .v .low % 2 ^ 64
+    + start .args .beyond * 2 ^ (start .args .v .low + (start .args .v .own - trailingZeros 32 (start .args .numerator))) % 2 ^ 64
     < 2 ^ 33
 small c =
     let start = c .before .before .before in
@@ -67,7 +67,7 @@ shl-result : tie.Need-shl-result
 shl-result c = search needs
 
 add-result-2 : tie.Need-add-result-2
-add-result-2 c = omega (arith, small c)
+add-result-2 c = omega (arith, small (c .before))
 
 add-result-3 : tie.Need-add-result-3
 add-result-3 c = search needs
@@ -79,15 +79,16 @@ shl-result-2 : tie.Need-shl-result-2
 shl-result-2 c = search needs
 
 add-result-4 : tie.Need-add-result-4
-add-result-4 c = omega (arith, small c)
+add-result-4 c = omega (arith, small (c .before .before))
 
 add-result-5 : tie.Need-add-result-5
-add-result-5 c = omega (arith, small c)
+add-result-5 c = omega (arith, small (c .before .before))
 
 returns-3 : tie.Need-returns-3
 returns-3 c =
-    let start = c .before .before .before in
-    computed (start .pre .0) _ _ _ (start .pre .3) (start .pre .4) (c .before .before .if1 .left) (c .before .if2 .left) (start .pre .2)
+    let past = c .before .before .before in
+    let start = past .before .before in
+    computed (start .pre .0) _ _ _ (start .pre .3) (start .pre .4) (past .before .if1 .left) (past .if2 .left) (start .pre .2)
 
 pub code-spec : {M : Type 1} → statement M
 code-spec =

@@ -19,13 +19,13 @@ use Rattle.turns.proofs.lower_subspace.Statement.{statement}
 use Rattle.turns.proofs.lower_subspace.Tie as tie
 
 abbrev Inv-loop : tie.InvT-loop
-Inv-loop v table₀ count p₀ table p = Lowering (v .line .axes) (v .line .level) (v .line .place) table₀ count table p × (v .start ≤ p)
+Inv-loop v coarser table₀ count p₀ table p = Lowering (v .line .axes) (v .line .level) (v .line .place) table₀ count table p × (v .start ≤ p)
 
 abbrev μ-loop : tie.MeasureT-loop
-μ-loop v table₀ count p₀ table p = p
+μ-loop v coarser table₀ count p₀ table p = p
 
 loop-holds : tie.Need-loop-holds Inv-loop μ-loop
-loop-holds c = (lowering-starts _ _ _ _ _ (c .pre .1) (c .pre .2) (omega (arith, c .pre .4, end-inside (c .pre .0))), c .pre .3)
+loop-holds c = (lowering-starts _ _ _ _ _ (c .pre .2) (c .pre .3) (omega (arith, c .pre .5, end-inside (c .pre .0))), c .pre .4)
 
 sub-codes : tie.Need-sub-codes Inv-loop μ-loop
 sub-codes c = omega (arith, c .if1 .taken)
@@ -33,7 +33,7 @@ sub-codes c = omega (arith, c .if1 .taken)
 codes-requires : tie.Need-codes-requires Inv-loop μ-loop
 codes-requires c κs =
     let at = c .before .before in
-    (at .before .pre .0, omega (arith, c .if1 .taken), omega (arith, at .before .pre .4, at .loop .inv .0 .below, c .if1 .taken))
+    (at .before .pre .0, at .before .pre .1, omega (arith, c .if1 .taken), omega (arith, at .before .pre .5, at .loop .inv .0 .below, c .if1 .taken))
 
 value-requires : tie.Need-value-requires Inv-loop μ-loop
 value-requires c κs = search needs
@@ -135,7 +135,7 @@ mul-lowered : tie.Need-mul-lowered Inv-loop μ-loop
 mul-lowered c =
     let read = read-at (c .before .before .before) in
     let s = loop-at read .loop .inv .0 in
-    omega (arith, s .below, s .inside, s .axis .long, loop-at read .before .good .1 .0 .1)
+    omega (arith, s .below, s .inside, s .axis .long, loop-at read .before .good .1 .1 .0 .1)
 
 slice-set-from-lowered : tie.Need-slice-set-from-lowered Inv-loop μ-loop
 slice-set-from-lowered c =

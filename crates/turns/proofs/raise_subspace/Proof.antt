@@ -22,18 +22,18 @@ use Rattle.turns.proofs.raise_subspace.Statement.{statement}
 use Rattle.turns.proofs.raise_subspace.Tie as tie
 
 abbrev Inv-loop : tie.InvT-loop
-Inv-loop v table₀ from p₀ table p = Raising (v .line .axes) (v .line .level) (v .line .place) from (v .end) table₀ table p
+Inv-loop v coarser table₀ from p₀ table p = Raising (v .line .axes) (v .line .level) (v .line .place) from (v .end) table₀ table p
 
 abbrev μ-loop : tie.MeasureT-loop
-μ-loop v table₀ from p₀ table p = v .end - p
+μ-loop v coarser table₀ from p₀ table p = v .end - p
 
 loop-holds : tie.Need-loop-holds Inv-loop μ-loop
-loop-holds c = raising-starts _ _ _ _ _ _ (c .pre .1) (c .pre .2) (end-inside (c .pre .0)) (c .pre .4)
+loop-holds c = raising-starts _ _ _ _ _ _ (c .pre .2) (c .pre .3) (end-inside (c .pre .0)) (c .pre .5)
 
 codes-requires : tie.Need-codes-requires Inv-loop μ-loop
 codes-requires c κs =
     let at = c .before .before in
-    (at .before .pre .0, omega (arith, at .before .pre, at .loop .inv .from), c .if1 .taken)
+    (at .before .pre .0, at .before .pre .1, omega (arith, at .before .pre, at .loop .inv .from), c .if1 .taken)
 
 value-requires : tie.Need-value-requires Inv-loop μ-loop
 value-requires c κs = search needs
@@ -53,8 +53,8 @@ parents-before c b =
     let pre = loop-at c .before .pre in
     omega (
       arith,
-      pre .3,
-      parent-before (pre .0) (loop-at c .loop .p) (omega (arith, pre .3, loop-at c .loop .inv .from))
+      pre .4,
+      parent-before (pre .0) (loop-at c .loop .p) (omega (arith, pre .4, loop-at c .loop .inv .from))
           (c .before .before .before .before .before .if1 .taken) b,
     )
 
@@ -146,7 +146,7 @@ returns-2 c =
 mul-raised : tie.Need-mul-raised Inv-loop μ-loop
 mul-raised c =
     let read = read-at (c .before .before .before) in
-    omega (arith, more read, loop-at read .loop .inv .inside, loop-at read .loop .inv .axis .long, loop-at read .before .good .1 .0 .1)
+    omega (arith, more read, loop-at read .loop .inv .inside, loop-at read .loop .inv .axis .long, loop-at read .before .good .1 .1 .0 .1)
 
 slice-set-from-raised : tie.Need-slice-set-from-raised Inv-loop μ-loop
 slice-set-from-raised c =

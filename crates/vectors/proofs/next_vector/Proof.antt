@@ -1,10 +1,10 @@
--- `evaluation::next_vector` meets its contract: each return is one of the two ways on of `Following`.
+-- `vectors::next_vector` meets its contract: each return is one of the two ways on of `Following`.
 -- Assumes nothing.
 use borrow.Author.Needs.{needs}
 use borrow.Author.Tests.{not-true, not-false}
-use Rattle.evaluation.proofs.Following.{next-of-sum, first-of-next}
-use Rattle.evaluation.proofs.next_vector.Statement.{statement}
-use Rattle.evaluation.proofs.next_vector.Tie as tie
+use Rattle.vectors.proofs.Following.{next-of-sum, first-of-next}
+use Rattle.vectors.proofs.next_vector.Statement.{statement}
+use Rattle.vectors.proofs.next_vector.Tie as tie
 
 next-levels-requires : tie.Need-next-levels-requires
 next-levels-requires c κs = search needs

@@ -18,14 +18,14 @@ use Rattle.numbering.proofs.Subspaces.{first-is}
 use Rattle.numbering.proofs.Succession.{sum-first, rank-first}
 use Rattle.successor.specs.Steps.{StepsLevels}
 use Rattle.successor.proofs.Onward.{first, first-zeros}
-use Rattle.evaluation.specs.Steps.{VectorIn, NextVector, vectorsBefore}
+use Rattle.vectors.specs.Vectors.{VectorIn, NextVector, vectorsBefore}
 
 before-is : (d : ℕ) (l : ℕ → ℕ) → vectorsBefore d l ≡ sumTo (vectors d) (sumTo l d) + rank l d
 unfolding vectorsBefore
 before-is d l = refl
 
 module _ {d sum : ℕ} {ls : List ℕ} (here : VectorIn d sum ls) where
-  here-first : firstOf d (at ls) ≡ start d sum + 2 ^ sum * rank (at ls) d
+  pub here-first : firstOf d (at ls) ≡ start d sum + 2 ^ sum * rank (at ls) d
   here-first = first-is d (at ls) ∙ ap (λ (s : ℕ). start d s + 2 ^ s * rank (at ls) d) (here .total)
 
   here-before : vectorsBefore d (at ls) ≡ sumTo (vectors d) sum + rank (at ls) d
