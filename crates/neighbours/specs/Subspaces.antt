@@ -11,7 +11,8 @@ use Rattle.numbering.specs.Number.{firstOf}
 use Rattle.numbering.specs.Parent.{isBorder, parentLevel, parentIndex, update}
 use Rattle.neighbours.specs.declared.Subspace.{Subspace}
 
--- What is held of a level vector is true of it: it is one of the shape, with nothing past its axes.
+-- A level vector of the shape, with nothing past its axes, and its numbers are right: those of its points, its level sum before the axis and its level
+-- there.
 pub record Seen (v : Subspace) : Type 0 where
   pub few : v .line .axes ≤ 8
   pub top : v .line .level ≤ 8

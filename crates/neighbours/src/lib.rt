@@ -8,7 +8,7 @@ ghost use Rattle.numbering.specs.declared.Side.the-variants.{Left, Right};
 ghost use Rattle.zero_border.specs.ZeroBorder.{neighbour};
 ghost use Rattle.neighbours.specs.Subspaces.{Coarser, Seen, Sized, codeFrom};
 
-// An axis of a shape, by its place from 0.
+// A shape and the place of an axis in it, from 0: a turn works on the lines along that axis.
 pub struct Line {
     pub axes: u32,
     pub level: u32,

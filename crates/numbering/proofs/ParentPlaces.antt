@@ -1,5 +1,5 @@
--- Where a parent stands among the points of its level vector: the digits of the position on the other axes stay, only shifted past the axis, since its
--- parent has other levels and indices on that axis alone. So a parent's number needs the first numbers of its level vector and no search.
+-- Where a parent stands among the points of its level vector: the digits of the position on the other axes stay, those past the axis only shifted, since
+-- the parent has another level and index on that axis alone. So the number of a parent needs the first number of its level vector, and no search.
 -- Assumes nothing.
 use mathlib.Core.Path.{_≡_, refl, ap, ap₂, sym, _∙_}
 use Prim.Native.Nat.{ℕ, zero, suc, _+_, _-_, _*_, _/_, _^_, _<_}

@@ -116,7 +116,7 @@ struct Place {
     rest: u64,
 }
 
-// The level sum of a point number, and how many points of that sum come before it.
+// The level sum of a point number, and how many points of that sum come before it. The search ends by the top level, which the code does not read.
 fn shell_of(rows: &[[u16; 9]; 8], axes: u32, level: u32, number: u64) -> Place
     requires { ⌜ Binomials (now rows) × (1 ≤ axes) × (axes ≤ 8) × (level ≤ 8) × (number < points axes level) ⌝ }
     ensures { λ r. ⌜ Lies (shell axes) level number (r .block) (r .rest) ⌝ }

@@ -1,4 +1,4 @@
--- What a passed check of a shape tells: 1 to 8 axes and a top level of at most 8; and a shape so is passed. What a passed check of an axis tells.
+-- What a passed check of a shape tells: 1 to 8 axes and a top level of at most 8; and a shape so is passed. What a passed check of an axis tells. The checks are tests of just this.
 -- Assumes nothing.
 use mathlib.Core.Path.{_≡_}
 use mathlib.Core.Bool.{true, _&&_}

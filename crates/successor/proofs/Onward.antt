@@ -1,5 +1,5 @@
 -- The three ways on from a point: the next position on its levels, the first position on the next levels of its sum, and the first point of the next
--- level sum. Each is a point of the shape whose number is one higher.
+-- level sum. Each is a point of the shape whose number is one higher, since a number is made of level sum, rank and position.
 -- Assumes nothing.
 use mathlib.Core.Bool.{Bool, true, false}
 use mathlib.Core.List.{List, [], _∷_}

@@ -1,4 +1,4 @@
--- What the steps to the next point ask and answer: a point by value, its indices stepped, and its levels stepped.
+-- What the steps to the next point ask and answer: the indices stepped, the levels stepped, whether a point is the last, and what a call writes.
 -- Assumes nothing.
 use mathlib.Core.Bool.{Bool, true, false}
 use mathlib.Core.List.{List}
@@ -59,7 +59,7 @@ ifFound End new held = held
 ifFound Border new held = held
 ifFound (Refused r) new held = held
 
--- A call that writes what was located into two arrays: it answers the outcome r, and leaves xs and ys where it found ls and is.
+-- A call that writes what was located into two arrays, which held ls and is: it answers the outcome r, and the arrays then hold xs and ys.
 pub record Writes (l : Located) (ls is : List ℕ) (r : Outcome) (xs ys : List ℕ) : Type 0 where
   pub answers : r ≡ l .outcome
   pub levels : xs ≡ ifFound r (l .point .levels) ls

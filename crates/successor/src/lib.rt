@@ -114,32 +114,6 @@ fn next_into(
     Outcome::Found
 }
 
-// The successor of a point of this shape, by value.
-pub fn next(axes: u32, level: u32, p: Point) -> Located
-    requires { ⌜ (1 ≤ axes) × (axes ≤ 8) × (level ≤ 8) × PointIn axes level (p .levels) (p .indices) ⌝ }
-    ensures { λ r. ⌜ r ≡ after axes level (number axes (at (p .levels)) (at (p .indices))) ⌝ }
-{
-    let levels = p.levels;
-    let indices = p.indices;
-    let mut next_levels = [0; 8];
-    let mut next_indices = [0; 8];
-    let outcome = next_into(
-        axes,
-        level,
-        &levels,
-        &indices,
-        &mut next_levels,
-        &mut next_indices,
-    );
-    Located {
-        outcome: outcome,
-        point: Point {
-            levels: next_levels,
-            indices: next_indices,
-        },
-    }
-}
-
 // The successor of a point, into two arrays; they stay where there is none.
 pub fn successor_into(
     shape: Shape,

@@ -1,4 +1,5 @@
--- What a step of a turn reads at a point: a value that a call gave, and the values of the point's parents, which have smaller numbers.
+-- What a step of a turn reads at a point: a value that a call gave, and the values of the point's parents, which have smaller numbers
+-- since they are less deep on the axis.
 -- Assumes nothing.
 use mathlib.Core.Path.{_≡_, refl, _∙_}
 use mathlib.Core.Bool.{true}

@@ -1,4 +1,5 @@
--- Forward then back, and back then forward, give the table and the state that stood before, wherever the first turn was not refused.
+-- Forward then back, and back then forward, give the table and the state that stood before, wherever the first turn was not refused. True since
+-- on lists of values forward and back undo each other, and the bit of the axis is set by the one and cleared by the other.
 -- Assumes nothing.
 use mathlib.Core.Path.{_≡_, refl, ap, sym, _∙_}
 use mathlib.Core.Bool.{true, false, not}

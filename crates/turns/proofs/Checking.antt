@@ -1,4 +1,5 @@
--- What passed checks of a turn tell: a shape in range, no stray bit, a table of its points and an axis of it. And where all that holds they pass.
+-- What passed checks of a turn tell: a shape in range, no stray bit, a table of its points and an axis of it. And where all that holds they pass:
+-- each check is one test of these.
 -- Assumes nothing.
 use mathlib.Core.Path.{_≡_}
 use Prim.Native.Nat.{ℕ, _-_, _^_, _≤_, _<_}

@@ -140,7 +140,7 @@ module _ (d n t : ℕ) (xs : List ℤ) (hi : ℕ) where
       pub block-stops : lo < k → movesOn d n t xs (k - 1) ≡ false
       block-stops h = sym (moves-held (k - 1) (omega (arith, done .to))) ∙ done .stopped h
 
-    -- One turn of the inner loop, at point number k.
+    -- One turn of the loop of `lower_subspace`, at point number k.
     module _ (k : ℕ) (next : p ≡ suc k) (a b : ℤ) (parents : AtParents d n t ys k a b) where
       pub parents-limited : (inLimit a ≡ true) × (inLimit b ≡ true)
       parents-limited = (

@@ -3,7 +3,7 @@
 -- Assumes nothing.
 use mathlib.Core.List.{List}
 use mathlib.Core.Path.{_≡_, ap, sym, _∙_}
-use Prim.Native.Nat.{ℕ, suc, _+_, _-_, _*_, _%_, _^_, _≤_, _<_}
+use Prim.Native.Nat.{ℕ, suc, _+_, _-_, _%_, _^_, _≤_, _<_}
 use native.Mathlib.Nat.{mod-lt}
 use native.Mathlib.Omega.{arith}
 use lib.ListN.{length}
@@ -19,7 +19,6 @@ use Rattle.numbering.proofs.Subspaces.{first-is, number-behind-first}
 use Rattle.points.specs.Points.{eight}
 use Rattle.points.proofs.Eight.{eight-length, eight-whole}
 use Rattle.vectors.specs.Vectors.{VectorIn, NextVector, PreviousVector}
-use Rattle.neighbours.proofs.Seeing.{shift-is}
 
 -- A level vector with its sum and its first number.
 pub record Standing (d sum : ℕ) (ls : List ℕ) (start : ℕ) : Type 0 where

@@ -49,10 +49,11 @@ pub record LoweredBetween (d n t lo hi : ℕ) (xs : List ℤ) (k : ℕ) (ys : Li
   pub passed : (p : ℕ) → k ≤ p → p < hi → movesOn d n t xs p ≡ true
   pub stopped : lo < k → movesOn d n t xs (k - 1) ≡ false
 
--- A value plus half of its parents' sum, and that at point p the sum is even and the value after the step within the limit.
+-- A value plus half of its parents' sum.
 unfoldable pub raised : ℕ → ℕ → ℕ → List ℤ → ℕ → ℤ
 raised d n t xs p = valueAt xs p +ℤ half (sumOn (neighbour d n) t (valueAt xs) p)
 
+-- At point p the sum is even and the value after the step back within the limit.
 unfoldable pub raisesOn : ℕ → ℕ → ℕ → List ℤ → ℕ → Bool
 raisesOn d n t xs p = isEven (sumOn (neighbour d n) t (valueAt xs) (suc p)) && inLimit (raised d n t xs (suc p))
 

@@ -29,15 +29,15 @@ fn value(table: &[i64], code: u64) -> i64
     table[p]
 }
 
-// The forward steps of the points of a level vector below number `count`, from the last down, as long as they are accepted: the number down to which
-// they were. A point's parents have smaller numbers and have not moved yet.
+// The forward steps of the points of a level vector below number `count`, from the last down, as long as they are accepted. Answers the number from which
+// on the points were lowered. A point's parents have smaller numbers and have not moved yet.
 fn lower_subspace(v: Subspace, coarser: &[u64; 8], table: &mut [i64], count: u64) -> u64
     requires { ⌜ Seen v × Coarser v (v .own) (now coarser) × OnAxis (v .line .axes) (v .line .level) (v .line .place) (now table) × Limited (now table) (length (now table)) × (v .start ≤ count) × (count ≤ v .end) ⌝ }
     ensures { λ r. ⌜ LoweredBetween (v .line .axes) (v .line .level) (v .line .place) (v .start) count (now (table .entry)) r (now (table .exit)) ⌝ }
 {
     let mut p = count;
     while v.start < p {
-        let codes = neighbours::codes(v, coarser, p - 1); // not moved yet
+        let codes = neighbours::codes(v, coarser, p - 1);
         let left = value(table, codes.left);
         let right = value(table, codes.right);
         if !integers::even_sum(left, right) {
@@ -74,7 +74,8 @@ fn lower_vector(
     lower_subspace(v, &coarser, table, count)
 }
 
-// The forward steps of the first `count` points, from the last down, a level vector at a time, as long as they are accepted: how many are left.
+// The forward steps of the first `count` points, from the last down, a level vector at a time, as long as they are accepted. Answers how many points are
+// left that were not lowered.
 fn lower(line: Line, table: &mut [i64], count: u64) -> u64
     requires { ⌜ OnAxis (line .axes) (line .level) (line .place) (now table) × Limited (now table) (length (now table)) × (count ≤ points (line .axes) (line .level)) ⌝ }
     ensures { λ r. ⌜ LoweredBetween (line .axes) (line .level) (line .place) 0 count (now (table .entry)) r (now (table .exit)) ⌝ }
@@ -103,14 +104,15 @@ fn lower(line: Line, table: &mut [i64], count: u64) -> u64
     }
 }
 
-// The steps back of the points of a level vector from number `from` up, as long as they are accepted: the number of the first that was not, or the end.
+// The steps back of the points of a level vector from number `from` up, as long as they are accepted. Answers the number up to which the points were
+// raised. A point's parents have smaller numbers and are raised already.
 fn raise_subspace(v: Subspace, coarser: &[u64; 8], table: &mut [i64], from: u64) -> u64
     requires { ⌜ Seen v × Coarser v (v .own) (now coarser) × OnAxis (v .line .axes) (v .line .level) (v .line .place) (now table) × Limited (now table) (length (now table)) × (v .start ≤ from) × (from ≤ v .end) ⌝ }
     ensures { λ r. ⌜ RaisedBetween (v .line .axes) (v .line .level) (v .line .place) from (v .end) (now (table .entry)) r (now (table .exit)) ⌝ }
 {
     let mut p = from;
     while p < v.end {
-        let codes = neighbours::codes(v, coarser, p); // raised already
+        let codes = neighbours::codes(v, coarser, p);
         let left = value(table, codes.left);
         let right = value(table, codes.right);
         if !integers::even_sum(left, right) {
@@ -147,8 +149,8 @@ fn raise_vector(
     raise_subspace(v, &coarser, table, from)
 }
 
-// The steps back of the points from number `from` up, a level vector at a time, as long as they are accepted: the number of the first that was not, or
-// the count of points. A point's parents have smaller numbers and are raised already.
+// The steps back of the points from number `from` up, a level vector at a time, as long as they are accepted. Answers the number up to which the points
+// were raised.
 fn raise(line: Line, table: &mut [i64], from: u64) -> u64
     requires { ⌜ OnAxis (line .axes) (line .level) (line .place) (now table) × Limited (now table) (length (now table)) × (from ≤ points (line .axes) (line .level)) ⌝ }
     ensures { λ r. ⌜ RaisedFrom (line .axes) (line .level) (line .place) from (now (table .entry)) r (now (table .exit)) ⌝ }
@@ -202,7 +204,7 @@ pub fn hierarchize(state: State, table: &mut [i64], axis: u32) -> Answer
     let line = Line {
         axes: shape.axes,
         level: shape.level,
-        place: place, // turned forward
+        place: place, // forward on this axis
     };
     if !tables::all_in_limit(table) {
         return Answer::Refused(Refusal::Contents);
@@ -231,7 +233,7 @@ pub fn dehierarchize(state: State, table: &mut [i64], axis: u32) -> Answer
     let line = Line {
         axes: shape.axes,
         level: shape.level,
-        place: place, // turned back
+        place: place, // back on this axis
     };
     if !tables::all_in_limit(table) {
         return Answer::Refused(Refusal::Contents);

@@ -1,6 +1,6 @@
 -- `neighbours::subspace_on` meets its contract: what it puts together is a level vector for a turn, by `Seeing`.
 -- Assumes nothing.
-use mathlib.Core.Path.{_≡_, refl, ap}
+use mathlib.Core.Path.{refl, ap}
 use Prim.Native.Nat.{ℕ, _+_}
 use native.Mathlib.Omega.{arith}
 use borrow.Author.Needs.{needs}

@@ -1,13 +1,12 @@
 -- `turns::lower` meets its contract: each turn of the loop lowers the points of one level vector, whose parents are as they were, then comes the level
 -- vector before it; the loop stops at a point that is not accepted.
 -- Assumes nothing.
-use mathlib.Core.Path.{_≡_, sym, _∙_}
-use Prim.Native.Nat.{suc, _+_, _-_, _^_, _≤_, _<_}
+use mathlib.Core.Path.{_≡_, sym}
+use Prim.Native.Nat.{_+_, _-_, _^_, _≤_, _<_}
 use native.Mathlib.Omega.{arith}
 use lib.Pow.{pow-pos}
 use borrow.Author.Needs.{needs}
 use Rattle.numbering.specs.Count.{points}
-use Rattle.vectors.specs.Vectors.{PreviousVector}
 use Rattle.neighbours.proofs.Seeing.{shift-is}
 use Rattle.turns.specs.Steps.{VectorOf}
 use Rattle.turns.proofs.Lowering.{Lowering, lowering-starts, lowering-ends, all-limited, lowering-block, block-stops}
