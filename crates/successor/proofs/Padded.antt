@@ -1,7 +1,8 @@
--- A passed point in lists filled up with zeros to eight places: still that point, with the same number.
+-- A passed point in lists filled up with zeros to eight places: still that point, with the same number, since past its axes it has
+-- zeros.
 -- Assumes nothing.
 use mathlib.Core.List.{List}
-use mathlib.Core.Path.{_≡_, refl, ap₂, sym, _∙_, fun-ext}
+use mathlib.Core.Path.{_≡_, ap₂, sym, _∙_, fun-ext}
 use Prim.Native.Nat.{ℕ, _-_, _≤_}
 use native.Mathlib.Omega.{arith}
 use lib.ListN.{length, List·getD-eq-default}
@@ -10,7 +11,7 @@ use Rattle.numbering.specs.Point.{at}
 use Rattle.numbering.specs.Number.{number}
 use Rattle.shapes.specs.declared.Shape.{Shape}
 use Rattle.points.specs.Points.{eight}
-use Rattle.points.proofs.Eight.{eight-at, eight-length, eight-ext}
+use Rattle.points.proofs.Eight.{eight-at, eight-length}
 use Rattle.points.proofs.Passed.{Passes}
 use Rattle.successor.specs.Steps.{PointIn}
 
@@ -22,10 +23,6 @@ padded-at xs h t =
     le-or-lt 8 t
     (λ le. past-end (eight (at xs)) t (omega (arith, eight-length (at xs))) ∙ sym (past-end xs t (omega arith)))
     (λ lt. eight-at (at xs) t lt)
-
--- Eight numbers filled up are those eight.
-pub eight-of : (xs : List ℕ) → length xs ≡ 8 → eight (at xs) ≡ xs
-eight-of xs long = sym (eight-ext (at xs) xs long (λ t h. refl))
 
 -- What is equal to two lists that hold a point holds it too.
 pub same-point : {d n : ℕ} {ls is ms js : List ℕ} → ms ≡ ls → js ≡ is → PointIn d n ls is → PointIn d n ms js
