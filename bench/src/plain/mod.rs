@@ -15,8 +15,8 @@ pub const LIMIT: i64 = 1 << 47;
 
 /// Whether all values are within the content limit: one pass over the table.
 pub fn all_within(table: &[i64]) -> bool {
-    // without an early end, so that the compiler can take several values at a time
-    !table.iter().fold(false, |past, &v| past | !(-LIMIT..=LIMIT).contains(&v))
+    // one comparison for each value and an early end: without it the compiler takes two values at a time, which is slower on plain x86-64
+    table.iter().all(|&v| v.wrapping_add(LIMIT) as u64 <= 2 * LIMIT as u64)
 }
 
 /// The rate range.
