@@ -17,13 +17,12 @@ use Rattle.refusals.specs.declared.Refusal.the-variants.{TableLength, ListLengt
 use Rattle.refusals.specs.declared.Verdict.the-variants as verdict
 use Rattle.refusals.specs.Checks.{unless}
 use Rattle.refusals.proofs.Passing.{first-passed, next-passed, test-passed}
-use Rattle.numbering.specs.Count.{points}
 use Rattle.numbering.specs.Point.{at}
 use Rattle.hierarchy.specs.Turns.{valueAt}
+use Rattle.shapes.specs.Shapes.{checkShape, pointsOf}
+use Rattle.shapes.proofs.Checked.{InRange, passed-in-range}
 use Rattle.surfaces.specs.Weights.{unit, isCoordinate}
 use Rattle.surfaces.specs.Surface.{estimateAt}
-use Rattle.shapes.specs.Shapes.{checkShape}
-use Rattle.shapes.proofs.Checked.{InRange, passed-in-range}
 use Rattle.states.specs.declared.State.{State}
 use Rattle.states.specs.States.{checkContents, checkState}
 use Rattle.tables.specs.Tables.{contentAt}
@@ -47,13 +46,13 @@ module _ (s : State) (xs : List ℤ) (cs : List ℕ) where
     unfolding checkState
     in-range = passed-in-range (s .shape) (first-passed (checkShape (s .shape)) (checkContents s (length xs)) e)
 
-    long : length xs ≡ points (s .shape .axes) (s .shape .level)
+    long : length xs ≡ pointsOf (s .shape)
     unfolding checkState checkContents
     long =
         let stray = unless (ltb (s .forward) (2 ^ (s .shape .axes))) StrayBit in
-        let places = unless (eqb (length xs) (points (s .shape .axes) (s .shape .level))) TableLength in
-        eqb-true (length xs) (points (s .shape .axes) (s .shape .level))
-        (test-passed (eqb (length xs) (points (s .shape .axes) (s .shape .level))) TableLength
+        let places = unless (eqb (length xs) (pointsOf (s .shape))) TableLength in
+        eqb-true (length xs) (pointsOf (s .shape))
+        (test-passed (eqb (length xs) (pointsOf (s .shape))) TableLength
         (next-passed stray places (next-passed (checkShape (s .shape)) (checkContents s (length xs)) e)))
 
     pub half-turned : (r : Refusal) → checkForward s ≡ verdict.Refused r → estimate s xs cs ≡ Refused r
@@ -86,7 +85,7 @@ module _ (s : State) (xs : List ℤ) (cs : List ℕ) where
             }
 
         module _ (h : all (contentAt xs) (length xs) ≡ true) where
-          pub evaluable : Evaluable (s .shape .axes) (s .shape .level) xs cs
+          pub evaluable : Evaluable (s .shape) xs cs
           unfolding contentAt
           evaluable =
               record {
@@ -97,6 +96,6 @@ module _ (s : State) (xs : List ℤ) (cs : List ℕ) where
                 listed = listed;
               }
 
-          pub estimated : estimate s xs cs ≡ Value (estimateAt (s .shape .axes) (s .shape .level) (valueAt xs) (at cs))
+          pub estimated : estimate s xs cs ≡ Value (estimateAt (s .shape) (valueAt xs) (at cs))
           unfolding estimate
           estimated = rw (e, f, g, h)

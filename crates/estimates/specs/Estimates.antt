@@ -50,4 +50,4 @@ estimate s table xs =
     andThen checkForward s
     andThen checkCoordinates (s .shape .axes) xs
     andThen unless (all (contentAt table) (length table)) Contents)
-    (Value (estimateAt (s .shape .axes) (s .shape .level) (valueAt table) (at xs)))
+    (Value (estimateAt (s .shape) (valueAt table) (at xs)))

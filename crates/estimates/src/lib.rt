@@ -58,12 +58,11 @@ pub fn estimate(state: State, table: &[i64], coordinates: &[u32]) -> Estimated
         return Estimated::Refused(r);
     }
     let shape = state.shape;
-    let axes = shape.axes;
-    if let Verdict::Refused(r) = check_coordinates(axes, coordinates) {
+    if let Verdict::Refused(r) = check_coordinates(shape.axes, coordinates) {
         return Estimated::Refused(r);
     }
     if !tables::all_in_limit(table) {
         return Estimated::Refused(Refusal::Contents);
     }
-    Estimated::Value(evaluation::evaluate(axes, shape.level, table, coordinates))
+    Estimated::Value(evaluation::evaluate(shape, table, coordinates))
 }

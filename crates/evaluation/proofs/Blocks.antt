@@ -3,43 +3,55 @@
 -- Assumes nothing.
 use mathlib.Core.Path.{_≡_, refl, ap, ap₂, sym, _∙_}
 use mathlib.Core.Logic.{⊎-elim}
-use Prim.Native.Nat.{ℕ, zero, suc, _+_, _*_, _/_, _^_, _≤_, _<_}
+use Prim.Native.Nat.{ℕ, suc, _+_, _*_, _^_, _≤_, _<_}
 use native.Mathlib.Nat.{eq-zero-or-pos}
 use native.Mathlib.Omega.{arith}
 use Rattle.naturals.specs.Sum.{sumTo}
 use Rattle.naturals.proofs.Cases.{le-or-lt}
 use Rattle.naturals.proofs.Sums.{sumTo-cong}
-use Rattle.numbering.specs.Count.{points}
+use Rattle.numbering.specs.Count.{start}
 use Rattle.numbering.specs.Point.{IsPoint}
 use Rattle.numbering.specs.Number.{digit, position, firstOf}
 use Rattle.numbering.specs.Inverse.{indexOf}
+use Rattle.numbering.proofs.Numbering.{points-is}
 use Rattle.numbering.proofs.Position.{position-lt, position-cong, position-of-index, index-of-position, index-odd, index-below}
-use Rattle.numbering.proofs.Subspaces.{indicesTo, indices-in, block-levels, block-indices}
-use Rattle.surfaces.specs.Weights.{unit, weight, weightOn, joint}
-use Rattle.surfaces.specs.Surface.{jointAt}
+use Rattle.numbering.proofs.Subspaces.{indices-in, block-below, block-levels, block-indices}
+use Rattle.shapes.specs.declared.Shape.{Shape}
+use Rattle.shapes.specs.Shapes.{pointsOf}
+use Rattle.grids.proofs.Sparse.{points-sparse, levels-sparse, indices-sparse}
+use Rattle.surfaces.specs.Weights.{unit, weight, joint}
+use Rattle.surfaces.specs.Surface.{weightOn, jointAt}
 use Rattle.surfaces.proofs.Hat.{weight-high}
-use Rattle.surfaces.proofs.GridPoints.{joint-zero, joint-suc}
-use Rattle.surfaces.proofs.Cells.{only-half, joint-above}
+use Rattle.surfaces.proofs.Joint.{joint-above, joint-cong}
+use Rattle.surfaces.proofs.Cells.{only-half}
 use Rattle.evaluation.specs.Steps.{cellOf, indexOfCell}
 use Rattle.evaluation.proofs.Weighing.{cell-inside, index-below as taken-within}
 
 -- ---- the points of a level vector
 
--- The joint weight depends on the indices of its axes alone.
-joint-cong : (x l i j : ℕ → ℕ) (k : ℕ) → ((t : ℕ) → t < k → i t ≡ j t) → joint x l i k ≡ joint x l j k
-unfolding weightOn
-joint-cong x l i j zero same = joint-zero x l i ∙ sym (joint-zero x l j)
-joint-cong x l i j (suc k) same =
-    joint-suc x l i k
-    ∙ ap₂ (λ (a b : ℕ). a * weight (x k) (l k) b / unit) (joint-cong x l i j k (λ t h. same t (omega arith))) (same k (omega arith))
-    ∙ sym (joint-suc x l j k)
+-- The weight on axis t at the coordinates x of a point of the levels l and indices i.
+abbrev pub weightsOf : (ℕ → ℕ) → (ℕ → ℕ) → (ℕ → ℕ) → ℕ → ℕ
+weightsOf x l i t = weight (x t) (l t) (i t)
 
-module _ (d n : ℕ) (l : ℕ → ℕ) (rest : (t : ℕ) → d ≤ t → l t ≡ 0) (low : sumTo l d ≤ n) (j : ℕ) (j-in : j < 2 ^ sumTo l d) where
-  block-joint : (x : ℕ → ℕ) → jointAt d n x (firstOf d l + j) ≡ joint x l (indexOf l j) d
-  unfolding jointAt
+-- The points of a shape are those before the level sum past its top level.
+pub count-is : (s : Shape) → pointsOf s ≡ start (s .axes) (suc (s .level))
+count-is s = points-sparse (s .axes) (s .level) ∙ points-is (s .axes) (s .level)
+
+module _ (s : Shape) (l : ℕ → ℕ) (rest : (t : ℕ) → s .axes ≤ t → l t ≡ 0) (low : sumTo l (s .axes) ≤ s .level)
+    (j : ℕ) (j-in : j < 2 ^ sumTo l (s .axes)) where
+  pub block-within : firstOf (s .axes) l + j < pointsOf s
+  block-within = omega (arith, block-below (s .axes) (s .level) l rest low j j-in, points-is (s .axes) (s .level), count-is s)
+
+  block-joint : (x : ℕ → ℕ) → jointAt s x (firstOf (s .axes) l + j) ≡ joint (weightsOf x l (indexOf l j)) (s .axes)
+  unfolding jointAt weightOn
   block-joint x =
-      ap₂ (λ (m i : ℕ → ℕ). joint x m i d) (block-levels d n l rest low j j-in) (block-indices d n l rest low j j-in)
-      ∙ joint-cong x l (indicesTo d l j) (indexOf l j) d (indices-in d l j)
+      let p : ℕ = firstOf (s .axes) l + j in
+      joint-cong (weightOn s x p) (weightsOf x l (indexOf l j)) (s .axes)
+      (λ t h.
+      ap₂ (weight (x t))
+      (ap (λ (m : ℕ → ℕ). m t) (levels-sparse (s .axes) (s .level) p ∙ block-levels (s .axes) (s .level) l rest low j j-in))
+      (ap (λ (i : ℕ → ℕ). i t) (indices-sparse (s .axes) (s .level) p ∙ block-indices (s .axes) (s .level) l rest low j j-in)
+      ∙ indices-in (s .axes) l j t h))
 
 -- ---- the point in whose cells the coordinates lie
 
@@ -73,16 +85,16 @@ module _ (x l : ℕ → ℕ) where
   taken-index : (d t : ℕ) → t < d → indexOf l (takenAt d) t ≡ takenIndex t
   taken-index d t h = ap (λ (q : ℕ). indexOf l q t) (sym (taken-position d)) ∙ index-of-position (taken-point d) t h
 
-module _ (d n : ℕ) (x l : ℕ → ℕ) (rest : (t : ℕ) → d ≤ t → l t ≡ 0) (low : sumTo l d ≤ n) where
-  pub taken-joint : jointAt d n x (firstOf d l + takenAt x l d) ≡ joint x l (takenIndex x l) d
+module _ (s : Shape) (x l : ℕ → ℕ) (rest : (t : ℕ) → s .axes ≤ t → l t ≡ 0) (low : sumTo l (s .axes) ≤ s .level) where
+  pub taken-joint : jointAt s x (firstOf (s .axes) l + takenAt x l (s .axes)) ≡ joint (weightsOf x l (takenIndex x l)) (s .axes)
   taken-joint =
-      block-joint d n l rest low (takenAt x l d) (taken-below x l d) x
-      ∙ joint-cong x l (indexOf l (takenAt x l d)) (takenIndex x l) d (taken-index x l d)
+      block-joint s l rest low (takenAt x l (s .axes)) (taken-below x l (s .axes)) x
+      ∙ joint-cong _ _ (s .axes) (λ t h. ap (weight (x t) (l t)) (taken-index x l (s .axes) t h))
 
-  module _ (inside : (t : ℕ) → t < d → x t ≤ unit) (j : ℕ) (j-in : j < 2 ^ sumTo l d) where
+  module _ (inside : (t : ℕ) → t < s .axes → x t ≤ unit) (j : ℕ) (j-in : j < 2 ^ sumTo l (s .axes)) where
     -- On each axis a weight above 0 is that of the cell's index.
-    index-taken : (t : ℕ) → t < d → 0 < weightOn x l (indexOf l j) t → indexOf l j t ≡ takenIndex x l t
-    unfolding weightOn takenIndex
+    index-taken : (t : ℕ) → t < s .axes → 0 < weight (x t) (l t) (indexOf l j t) → indexOf l j t ≡ takenIndex x l t
+    unfolding takenIndex
     index-taken t h some =
         le-or-lt unit (x t)
         (λ border.
@@ -100,14 +112,14 @@ module _ (d n : ℕ) (x l : ℕ → ℕ) (rest : (t : ℕ) → d ≤ t → l t �
           cell-inside (x t) (l t) within,
         ))
 
-    pub block-zero : (j ≡ takenAt x l d → ⊥) → jointAt d n x (firstOf d l + j) ≡ 0
+    pub block-zero : (j ≡ takenAt x l (s .axes) → ⊥) → jointAt s x (firstOf (s .axes) l + j) ≡ 0
     block-zero other =
-        block-joint d n l rest low j j-in x
-        ∙ ⊎-elim (λ none. none) (λ some. absurd (other (same some))) (eq-zero-or-pos (joint x l (indexOf l j) d))
+        block-joint s l rest low j j-in x
+        ∙ ⊎-elim (λ none. none) (λ some. absurd (other (same some))) (eq-zero-or-pos (joint (weightsOf x l (indexOf l j)) (s .axes)))
       where
-        same : 0 < joint x l (indexOf l j) d → j ≡ takenAt x l d
+        same : 0 < joint (weightsOf x l (indexOf l j)) (s .axes) → j ≡ takenAt x l (s .axes)
         same some =
-            sym (position-of-index l j d j-in)
-            ∙ position-cong l (indexOf l j) l (takenIndex x l) d (λ t h. refl)
-            (λ t h. index-taken t h (joint-above x l (indexOf l j) d some t h))
-            ∙ taken-position x l d
+            sym (position-of-index l j (s .axes) j-in)
+            ∙ position-cong l (indexOf l j) l (takenIndex x l) (s .axes) (λ t h. refl)
+            (λ t h. index-taken t h (joint-above (weightsOf x l (indexOf l j)) (s .axes) some t h))
+            ∙ taken-position x l (s .axes)

@@ -1,17 +1,15 @@
 -- What the tables of weights and cells give for a level vector is the point taken there, and its joint weight: entry by entry.
 -- Assumes nothing.
 use mathlib.Core.List.{List}
-use mathlib.Core.Path.{_≡_, ap, ap₂, sym, _∙_}
-use Prim.Native.Nat.{ℕ, zero, suc, _*_, _/_, _^_, _≤_, _<_}
+use mathlib.Core.Path.{_≡_, ap}
+use Prim.Native.Nat.{ℕ, _*_, _^_, _≤_, _<_}
 use native.Mathlib.Omega.{arith}
 use Rattle.naturals.specs.Sum.{sumTo}
 use Rattle.naturals.proofs.Sums.{sumTo-cong, term-le}
-use Rattle.numbering.specs.Point.{at}
-use Rattle.surfaces.specs.Weights.{unit, weight, weightOn, joint}
-use Rattle.surfaces.proofs.GridPoints.{joint-zero, joint-suc}
-use Rattle.evaluation.specs.Steps.{entry, Tabulated, read, jointOf, stepOf, positionOf}
-use Rattle.evaluation.proofs.Blocks.{takenIndex, takenStep, takenAt}
-use Rattle.evaluation.proofs.Taking.{jointOf-zero, jointOf-suc}
+use Rattle.surfaces.specs.Weights.{joint}
+use Rattle.surfaces.proofs.Joint.{joint-cong}
+use Rattle.evaluation.specs.Steps.{Tabulated, read, jointOf, stepOf, positionOf}
+use Rattle.evaluation.proofs.Blocks.{weightsOf, takenIndex, takenStep, takenAt}
 
 module _ (x l : ℕ → ℕ) (d : ℕ) (ws cells : List ℕ) (table : Tabulated x (9 * d) ws cells) (low : sumTo l d ≤ 8) where
   below : (t : ℕ) → t < d → l t < 9
@@ -25,16 +23,9 @@ module _ (x l : ℕ → ℕ) (d : ℕ) (ws cells : List ℕ) (table : Tabulated 
   unfolding positionOf takenAt
   position-taken = sumTo-cong (stepOf cells l) (takenStep x l) d step-taken
 
-  weight-taken : (t : ℕ) → t < d → at ws (entry t (l t)) ≡ weightOn x l (takenIndex x l) t
-  unfolding weightOn takenIndex
+  weight-taken : (t : ℕ) → t < d → read ws l t ≡ weightsOf x l (takenIndex x l) t
+  unfolding read takenIndex
   weight-taken t h = table .weight t (l t) (below t h) (omega (arith, below t h))
 
-  joint-taken-to : (k : ℕ) → k ≤ d → jointOf ws l k ≡ joint x l (takenIndex x l) k
-  joint-taken-to zero h = jointOf-zero ws l ∙ sym (joint-zero x l (takenIndex x l))
-  joint-taken-to (suc k) h =
-      jointOf-suc ws l k
-      ∙ ap₂ (λ (j w : ℕ). j * w / unit) (joint-taken-to k (omega arith)) (weight-taken k h)
-      ∙ sym (joint-suc x l (takenIndex x l) k)
-
-  pub joint-taken : jointOf ws l d ≡ joint x l (takenIndex x l) d
-  joint-taken = joint-taken-to d (omega arith)
+  pub joint-taken : jointOf ws l d ≡ joint (weightsOf x l (takenIndex x l)) d
+  joint-taken = joint-cong (read ws l) (weightsOf x l (takenIndex x l)) d weight-taken

@@ -3,9 +3,9 @@
 -- cell is below 2^level, and no product overflows, since weights and joint weights are at most the unit.
 -- Assumes nothing.
 use mathlib.Core.List.{List}
-use mathlib.Core.Path.{_≡_, refl, ap, ap₂, sym, _∙_}
+use mathlib.Core.Path.{_≡_, ap, ap₂, sym, _∙_}
 use Prim.Native.Nat.{ℕ, zero, suc, _+_, _*_, _/_, _%_, _^_, _≤_, _<_}
-use native.Mathlib.Nat.{mul-comm, mul-le-mul, div-le-of-le-mul}
+use native.Mathlib.Nat.{mul-comm, mul-le-mul}
 use native.Mathlib.Numerals.{add-one}
 use native.Mathlib.Omega.{arith}
 use lib.Arith.{digits-lt}
@@ -16,15 +16,8 @@ use Rattle.numbering.specs.Point.{at}
 use Rattle.numbering.proofs.Position.{pow-sum}
 use Rattle.surfaces.specs.Weights.{unit}
 use Rattle.surfaces.proofs.Unit.{unit-is}
+use Rattle.surfaces.proofs.Joint.{joint-zero, joint-suc, joint-le}
 use Rattle.evaluation.specs.Steps.{entry, read, jointOf, stepOf, positionOf, Bounded}
-
-pub jointOf-zero : (ws : List ℕ) (l : ℕ → ℕ) → jointOf ws l 0 ≡ unit
-unfolding jointOf
-jointOf-zero ws l = refl
-
-pub jointOf-suc : (ws : List ℕ) (l : ℕ → ℕ) (k : ℕ) → jointOf ws l (suc k) ≡ jointOf ws l k * at ws (entry k (l k)) / unit
-unfolding jointOf read
-jointOf-suc ws l k = refl
 
 pub position-zero : (cells : List ℕ) (l : ℕ → ℕ) → positionOf cells l 0 ≡ 0
 unfolding positionOf
@@ -33,10 +26,6 @@ position-zero cells l = sumTo-zero (stepOf cells l)
 pub position-suc : (cells : List ℕ) (l : ℕ → ℕ) (k : ℕ) → positionOf cells l (suc k) ≡ positionOf cells l k + at cells (entry k (l k)) * 2 ^ sumTo l k
 unfolding positionOf stepOf read
 position-suc cells l k = sumTo-suc (stepOf cells l) k
-
--- A product of two numbers of at most the unit is at most the unit squared, so at most the unit once divided by it.
-part-le : (a b : ℕ) → a ≤ unit → b ≤ unit → a * b / unit ≤ unit
-part-le a b ha hb = div-le-of-le-mul unit (mul-le-mul ha hb)
 
 module _ {d : ℕ} {ws cells : List ℕ} (bounded : Bounded d ws cells) (l : ℕ → ℕ) (few : sumTo l d ≤ 8) where
   level-le : (t : ℕ) → t < d → l t ≤ 8
@@ -48,14 +37,9 @@ module _ {d : ℕ} {ws cells : List ℕ} (bounded : Bounded d ws cells) (l : ℕ
   weight-le : (t : ℕ) → t < d → at ws (entry t (l t)) ≤ unit
   weight-le t h = bounded .weight t (l t) h (omega (arith, level-le t h))
 
-  pub joint-le : (k : ℕ) → k ≤ d → jointOf ws l k ≤ unit
-  joint-le zero h = omega (arith, jointOf-zero ws l)
-  joint-le (suc k) h =
-      omega (
-        arith,
-        jointOf-suc ws l k,
-        part-le (jointOf ws l k) (at ws (entry k (l k))) (joint-le k (omega arith)) (weight-le k h),
-      )
+  joint-small : (k : ℕ) → k ≤ d → jointOf ws l k ≤ unit
+  unfolding read
+  joint-small k h = joint-le (read ws l) k (λ t lt. weight-le t (omega arith))
 
   pub position-lt : (k : ℕ) → k ≤ d → positionOf cells l k < 2 ^ sumTo l k
   position-lt zero h = omega (arith, position-zero cells l, pow-pos (sumTo l 0))
@@ -80,7 +64,7 @@ taken-starts ws cells l d =
       axis = omega arith;
       total = sym (sumTo-zero l);
       packed = sym (position-zero cells l);
-      weighed = sym (jointOf-zero ws l ∙ unit-is);
+      weighed = sym (joint-zero (read ws l) ∙ unit-is);
     }
 
 module _ {d : ℕ} {ws cells : List ℕ} {l : ℕ → ℕ} {t position joint sum : ℕ} (bounded : Bounded d ws cells) (few : sumTo l d ≤ 8)
@@ -111,18 +95,19 @@ module _ {d : ℕ} {ws cells : List ℕ} {l : ℕ → ℕ} {t position joint sum
 
   pub joint-fits : joint * at ws (entry t (l t)) ≤ 2 ^ 32
   joint-fits =
-      let small : joint ≤ unit = omega (arith, joint-le bounded l few t (state .axis)) in
+      let small : joint ≤ unit = omega (arith, joint-small bounded l few t (state .axis)) in
       omega (arith, mul-le-mul small (weight-le bounded l few t h), ap₂ (λ (a b : ℕ). a * b) unit-is unit-is)
 
   pub taken-steps :
       Taken ws cells l d (t + 1) (position + at cells (entry t (l t)) * 2 ^ sum % 2 ^ 64) (joint * at ws (entry t (l t)) / 2 ^ 16) (sum + l t)
+  unfolding read
   taken-steps =
       record {
         axis = omega arith;
         total = rw add-one (omega (arith, sumTo-suc l t));
         packed = rw add-one turned;
         weighed =
-            rw (add-one, jointOf-suc ws l t, ← state .weighed) (ap (λ (u : ℕ). joint * at ws (entry t (l t)) / u) (sym unit-is));
+            rw (add-one, joint-suc (read ws l) t, ← state .weighed) (ap (λ (u : ℕ). joint * at ws (entry t (l t)) / u) (sym unit-is));
       }
 
 pub taken-ends : {ws cells : List ℕ} {l : ℕ → ℕ} {d t position joint sum : ℕ} → Taken ws cells l d t position joint sum → d ≤ t →

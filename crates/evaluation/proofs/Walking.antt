@@ -26,23 +26,25 @@ use Rattle.integers.proofs.Products.{times-times, plus-times}
 use Rattle.integers.proofs.Sizes.{sum-size}
 use Rattle.integers.proofs.Totals.{total-zero, total-suc, total-block}
 use Rattle.numbering.specs.Binomial.{choose}
-use Rattle.numbering.specs.Count.{vectors, points}
-use Rattle.numbering.specs.Inverse.{levelAt, indexAt}
+use Rattle.numbering.specs.Count.{vectors}
 use Rattle.numbering.specs.Number.{rank, firstOf}
 use Rattle.numbering.specs.Point.{at}
-use Rattle.numbering.proofs.Numbering.{points-is, start-mono}
-use Rattle.numbering.proofs.Subspaces.{block-below}
+use Rattle.numbering.proofs.Numbering.{start-mono}
 use Rattle.numbering.proofs.Rank.{rank-lt}
 use Rattle.numbering.proofs.Succession.{rank-first}
 use Rattle.hierarchy.specs.Turns.{valueAt}
+use Rattle.shapes.specs.declared.Shape.{Shape}
+use Rattle.shapes.specs.Shapes.{pointsOf}
 use Rattle.shapes.proofs.Totals.{start-zero}
+use Rattle.grids.specs.Grids.{levelOn, indexOn}
 use Rattle.interpolation.specs.Weighted.{weighted, weightedSum}
 use Rattle.surfaces.specs.Weights.{unit}
-use Rattle.surfaces.specs.Surface.{jointAt, rounded, estimateAt}
-use Rattle.surfaces.proofs.Cells.{joint-le}
+use Rattle.surfaces.specs.Surface.{weightOn, jointAt, rounded, estimateAt}
+use Rattle.surfaces.proofs.Cells.{weight-le}
+use Rattle.surfaces.proofs.Joint.{joint-le}
 use Rattle.surfaces.proofs.Unit.{unit-pos}
 use Rattle.vectors.specs.Vectors.{VectorIn, vectorsBefore, NextVector}
-use Rattle.evaluation.proofs.Blocks.{takenAt, taken-below, block-zero}
+use Rattle.evaluation.proofs.Blocks.{count-is, block-within, takenAt, taken-below, block-zero}
 use Rattle.evaluation.proofs.Parts.{high-size, low-size}
 
 -- ---- how many level vectors there are
@@ -74,31 +76,31 @@ next-counted d l low high few =
 
 -- ---- both parts of the sum
 
-module _ (d n : ℕ) (xs : List ℤ) (x : ℕ → ℕ) where
+module _ (s : Shape) (xs : List ℤ) (x : ℕ → ℕ) where
   -- What point number p adds to the two sums.
   unfoldable pub highTerm : ℕ → ℤ
-  highTerm p = floor unit (valueAt xs (suc p)) *ℤ pos (jointAt d n x p)
+  highTerm p = floor unit (valueAt xs (suc p)) *ℤ pos (jointAt s x p)
 
   unfoldable pub lowTerm : ℕ → ℕ
-  lowTerm p = remainder unit (valueAt xs (suc p)) * jointAt d n x p
+  lowTerm p = remainder unit (valueAt xs (suc p)) * jointAt s x p
 
-  pub weight-small : (p : ℕ) → jointAt d n x p ≤ unit
-  unfolding jointAt
-  weight-small p = joint-le x (levelAt d n p) (indexAt d n p) d
+  pub weight-small : (p : ℕ) → jointAt s x p ≤ unit
+  unfolding jointAt weightOn
+  weight-small p = joint-le (weightOn s x p) (s .axes) (λ t h. weight-le (x t) (levelOn s p t) (indexOn s p t))
 
   high-term : (p : ℕ) → inLimit (valueAt xs (suc p)) ≡ true → natAbs (highTerm p) ≤ 2 ^ 47
   unfolding highTerm
-  high-term p e = high-size (valueAt xs (suc p)) (jointAt d n x p) e (weight-small p)
+  high-term p e = high-size (valueAt xs (suc p)) (jointAt s x p) e (weight-small p)
 
   low-term : (p : ℕ) → lowTerm p ≤ 2 ^ 32
   unfolding lowTerm
-  low-term p = low-size (valueAt xs (suc p)) (jointAt d n x p) (weight-small p)
+  low-term p = low-size (valueAt xs (suc p)) (jointAt s x p) (weight-small p)
 
-  whole-term : (p : ℕ) → weighted (valueAt xs) (jointAt d n x) p ≡ highTerm p *ℤ pos unit +ℤ pos (lowTerm p)
+  whole-term : (p : ℕ) → weighted (valueAt xs) (jointAt s x) p ≡ highTerm p *ℤ pos unit +ℤ pos (lowTerm p)
   unfolding weighted highTerm lowTerm
   whole-term p =
       let c : ℤ = valueAt xs (suc p) in
-      let w : ℕ = jointAt d n x p in
+      let w : ℕ = jointAt s x p in
       ap (λ (z : ℤ). z *ℤ pos w) (sym (floor-remainder unit c unit-pos))
       ∙ plus-times (floor unit c *ℤ pos unit) (pos (remainder unit c)) w
       ∙ ap (λ (z : ℤ). z +ℤ pos (remainder unit c * w))
@@ -107,10 +109,10 @@ module _ (d n : ℕ) (xs : List ℤ) (x : ℕ → ℕ) where
       ∙ times-times (floor unit c) w unit)
 
   whole-sum : (m : ℕ) →
-      total (weighted (valueAt xs) (jointAt d n x)) m ≡ total highTerm m *ℤ pos unit +ℤ pos (sumTo lowTerm m)
-  whole-sum zero = rw (total-zero (weighted (valueAt xs) (jointAt d n x)), total-zero highTerm, sumTo-zero lowTerm) (ap pos (omega arith))
+      total (weighted (valueAt xs) (jointAt s x)) m ≡ total highTerm m *ℤ pos unit +ℤ pos (sumTo lowTerm m)
+  whole-sum zero = rw (total-zero (weighted (valueAt xs) (jointAt s x)), total-zero highTerm, sumTo-zero lowTerm) (ap pos (omega arith))
   whole-sum (suc m) =
-      total-suc (weighted (valueAt xs) (jointAt d n x)) m
+      total-suc (weighted (valueAt xs) (jointAt s x)) m
       ∙ ap₂ _+ℤ_ (whole-sum m) (whole-term m)
       ∙ (let a = leaf (total highTerm m *ℤ pos unit) in
       let b = leaf (highTerm m *ℤ pos unit) in
@@ -121,155 +123,155 @@ module _ (d n : ℕ) (xs : List ℤ) (x : ℕ → ℕ) where
       (sym (plus-times (total highTerm m) (highTerm m) unit) ∙ ap (λ (z : ℤ). z *ℤ pos unit) (sym (total-suc highTerm m)))
       (sym (sumTo-suc lowTerm m))
 
-  parts-joined : total highTerm (points d n) +ℤ pos (sumTo lowTerm (points d n) / unit) ≡ estimateAt d n (valueAt xs) x
+  parts-joined : total highTerm (pointsOf s) +ℤ pos (sumTo lowTerm (pointsOf s) / unit) ≡ estimateAt s (valueAt xs) x
   unfolding estimateAt rounded weightedSum
   parts-joined =
-      sym (ap (floor unit) (whole-sum (points d n))
-      ∙ floor-plus unit (total highTerm (points d n)) (sumTo lowTerm (points d n)) unit-pos)
+      sym (ap (floor unit) (whole-sum (pointsOf s))
+      ∙ floor-plus unit (total highTerm (pointsOf s)) (sumTo lowTerm (pointsOf s)) unit-pos)
 
 -- ---- the walk
 
-pub record Walked (d n : ℕ) (xs : List ℤ) (x : ℕ → ℕ) (high : ℤ) (low first sum : ℕ) (ls : List ℕ) : Type 0 where
-  pub vector : VectorIn d sum ls
-  pub here : firstOf d (at ls) ≡ first
-  pub within : first ≤ points d n
-  pub highs : high ≡ total (highTerm d n xs x) first
-  pub lows : low ≡ sumTo (lowTerm d n xs x) first
-  pub few : vectorsBefore d (at ls) ≤ 12870
-  pub high-small : natAbs high ≤ vectorsBefore d (at ls) * 2 ^ 47
-  pub low-small : low ≤ vectorsBefore d (at ls) * 2 ^ 32
+pub record Walked (s : Shape) (xs : List ℤ) (x : ℕ → ℕ) (high : ℤ) (low first sum : ℕ) (ls : List ℕ) : Type 0 where
+  pub vector : VectorIn (s .axes) sum ls
+  pub here : firstOf (s .axes) (at ls) ≡ first
+  pub within : first ≤ pointsOf s
+  pub highs : high ≡ total (highTerm s xs x) first
+  pub lows : low ≡ sumTo (lowTerm s xs x) first
+  pub few : vectorsBefore (s .axes) (at ls) ≤ 12870
+  pub high-small : natAbs high ≤ vectorsBefore (s .axes) (at ls) * 2 ^ 47
+  pub low-small : low ≤ vectorsBefore (s .axes) (at ls) * 2 ^ 32
 
 -- The walk starts at the vector of zeros.
-module _ (d n : ℕ) (xs : List ℤ) (x : ℕ → ℕ) (ls : List ℕ) (long : length ls ≡ 8) (zeros : (t : ℕ) → at ls t ≡ 0) where
+module _ (s : Shape) (xs : List ℤ) (x : ℕ → ℕ) (ls : List ℕ) (long : length ls ≡ 8) (zeros : (t : ℕ) → at ls t ≡ 0) where
   no-levels : (k : ℕ) → sumTo (at ls) k ≡ 0
   no-levels zero = sumTo-zero (at ls)
   no-levels (suc k) = omega (arith, sumTo-suc (at ls) k, no-levels k, zeros k)
 
-  no-rank : rank (at ls) d ≡ 0
-  no-rank = rank-first (at ls) d (λ t pos h. zeros t)
+  no-rank : rank (at ls) (s .axes) ≡ 0
+  no-rank = rank-first (at ls) (s .axes) (λ t pos h. zeros t)
 
-  none-before : vectorsBefore d (at ls) ≡ 0
+  none-before : vectorsBefore (s .axes) (at ls) ≡ 0
   unfolding vectorsBefore
-  none-before = rw (no-levels d, no-rank) (omega (arith, sumTo-zero (vectors d)))
+  none-before = rw (no-levels (s .axes), no-rank) (omega (arith, sumTo-zero (vectors (s .axes))))
 
-  pub walked-starts : Walked d n xs x (pos 0) 0 0 0 ls
+  pub walked-starts : Walked s xs x (pos 0) 0 0 0 ls
   unfolding firstOf
   walked-starts =
       record {
-        vector = record { long = long; total = no-levels d; rest = λ t h. zeros t };
-        here = rw (no-levels d, no-rank) (omega (arith, start-zero d));
+        vector = record { long = long; total = no-levels (s .axes); rest = λ t h. zeros t };
+        here = rw (no-levels (s .axes), no-rank) (omega (arith, start-zero (s .axes)));
         within = omega arith;
-        highs = sym (total-zero (highTerm d n xs x));
-        lows = sym (sumTo-zero (lowTerm d n xs x));
+        highs = sym (total-zero (highTerm s xs x));
+        lows = sym (sumTo-zero (lowTerm s xs x));
         few = omega (arith, none-before);
         high-small = omega arith;
         low-small = omega arith;
       }
 
 -- Both sums leave room for one term more.
-module _ {d n : ℕ} {xs : List ℤ} {x : ℕ → ℕ} {high : ℤ} {low first sum : ℕ} {ls : List ℕ} (w : Walked d n xs x high low first sum ls) where
+module _ {s : Shape} {xs : List ℤ} {x : ℕ → ℕ} {high : ℤ} {low first sum : ℕ} {ls : List ℕ} (w : Walked s xs x high low first sum ls) where
   pub high-room : natAbs high ≤ 2 ^ 62
   high-room = omega (arith, w .high-small, mul-le-mul-right (2 ^ 47) (w .few))
 
   pub low-room : low ≤ 2 ^ 62
   low-room = omega (arith, w .low-small, mul-le-mul-right (2 ^ 32) (w .few))
 
-  -- Before the last point the level sum is at most n.
-  pub sum-low : first < points d n → sum ≤ n
+  -- Before the last point the level sum is at most the top level.
+  pub sum-low : first < pointsOf s → sum ≤ s .level
   unfolding firstOf
   sum-low h =
-      le-or-lt sum n (λ le. le)
+      le-or-lt sum (s .level) (λ le. le)
       (λ lt.
       absurd (omega (
         arith,
         w .here,
         w .vector .total,
-        points-is d n,
-        start-mono d (suc n) (sumTo (at ls) d) (omega (arith, w .vector .total)),
+        count-is s,
+        start-mono (s .axes) (suc (s .level)) (sumTo (at ls) (s .axes)) (omega (arith, w .vector .total)),
       )))
 
-  module _ (h : first < points d n) (inside : (t : ℕ) → t < d → x t ≤ unit) where
-    levels-low : sumTo (at ls) d ≤ n
+  module _ (h : first < pointsOf s) (inside : (t : ℕ) → t < s .axes → x t ≤ unit) where
+    levels-low : sumTo (at ls) (s .axes) ≤ s .level
     levels-low = omega (arith, w .vector .total, sum-low h)
 
     -- The point taken is one of the table's.
-    pub taken-here : first + takenAt x (at ls) d < points d n
+    pub taken-here : first + takenAt x (at ls) (s .axes) < pointsOf s
     taken-here =
         rw (sym (w .here))
-        (block-below d n (at ls) (w .vector .rest) levels-low (takenAt x (at ls) d) (taken-below x (at ls) d))
+        (block-within s (at ls) (w .vector .rest) levels-low (takenAt x (at ls) (s .axes)) (taken-below x (at ls) (s .axes)))
 
-    pub next-within : first + 2 ^ sum ≤ points d n
+    pub next-within : first + 2 ^ sum ≤ pointsOf s
     next-within =
-        let power : 2 ^ sumTo (at ls) d ≡ 2 ^ sum = ap (λ (k : ℕ). 2 ^ k) (w .vector .total) in
-        let last : 2 ^ sum - 1 < 2 ^ sumTo (at ls) d = omega (arith, power, pow-pos sum) in
-        omega (arith, w .here, pow-pos sum, block-below d n (at ls) (w .vector .rest) levels-low (2 ^ sum - 1) last)
+        let power : 2 ^ sumTo (at ls) (s .axes) ≡ 2 ^ sum = ap (λ (k : ℕ). 2 ^ k) (w .vector .total) in
+        let last : 2 ^ sum - 1 < 2 ^ sumTo (at ls) (s .axes) = omega (arith, power, pow-pos sum) in
+        omega (arith, w .here, pow-pos sum, block-within s (at ls) (w .vector .rest) levels-low (2 ^ sum - 1) last)
 
-    others-zero : (j : ℕ) → j < 2 ^ sum → (j ≡ takenAt x (at ls) d → ⊥) → jointAt d n x (first + j) ≡ 0
+    others-zero : (j : ℕ) → j < 2 ^ sum → (j ≡ takenAt x (at ls) (s .axes) → ⊥) → jointAt s x (first + j) ≡ 0
     others-zero j lt ne =
-        ap (λ (a : ℕ). jointAt d n x (a + j)) (sym (w .here))
-        ∙ block-zero d n x (at ls) (w .vector .rest) levels-low inside j (rw (w .vector .total) lt) ne
+        ap (λ (a : ℕ). jointAt s x (a + j)) (sym (w .here))
+        ∙ block-zero s x (at ls) (w .vector .rest) levels-low inside j (rw (w .vector .total) lt) ne
 
-    taken-in : takenAt x (at ls) d < 2 ^ sum
-    taken-in = rw (sym (w .vector .total)) (taken-below x (at ls) d)
+    taken-in : takenAt x (at ls) (s .axes) < 2 ^ sum
+    taken-in = rw (sym (w .vector .total)) (taken-below x (at ls) (s .axes))
 
-    high-step : total (highTerm d n xs x) (first + 2 ^ sum) ≡ high +ℤ highTerm d n xs x (first + takenAt x (at ls) d)
+    high-step : total (highTerm s xs x) (first + 2 ^ sum) ≡ high +ℤ highTerm s xs x (first + takenAt x (at ls) (s .axes))
     unfolding highTerm
     high-step =
-        total-block (highTerm d n xs x) first (2 ^ sum) (takenAt x (at ls) d) taken-in
+        total-block (highTerm s xs x) first (2 ^ sum) (takenAt x (at ls) (s .axes)) taken-in
         (λ j lt ne.
         ap (λ (k : ℕ). floor unit (valueAt xs (suc (first + j))) *ℤ pos k) (others-zero j lt ne)
         ∙ *ℤ-zero (floor unit (valueAt xs (suc (first + j)))))
-        ∙ ap (λ (z : ℤ). z +ℤ highTerm d n xs x (first + takenAt x (at ls) d)) (sym (w .highs))
+        ∙ ap (λ (z : ℤ). z +ℤ highTerm s xs x (first + takenAt x (at ls) (s .axes))) (sym (w .highs))
 
-    low-step : sumTo (lowTerm d n xs x) (first + 2 ^ sum) ≡ low + lowTerm d n xs x (first + takenAt x (at ls) d)
+    low-step : sumTo (lowTerm s xs x) (first + 2 ^ sum) ≡ low + lowTerm s xs x (first + takenAt x (at ls) (s .axes))
     unfolding lowTerm
     low-step =
-        sum-block (lowTerm d n xs x) first (2 ^ sum) (takenAt x (at ls) d) taken-in
+        sum-block (lowTerm s xs x) first (2 ^ sum) (takenAt x (at ls) (s .axes)) taken-in
         (λ j lt ne.
         ap (λ (k : ℕ). remainder unit (valueAt xs (suc (first + j))) * k) (others-zero j lt ne)
         ∙ mul-zero (remainder unit (valueAt xs (suc (first + j)))))
-        ∙ ap (λ (k : ℕ). k + lowTerm d n xs x (first + takenAt x (at ls) d)) (sym (w .lows))
+        ∙ ap (λ (k : ℕ). k + lowTerm s xs x (first + takenAt x (at ls) (s .axes))) (sym (w .lows))
 
     -- One vector more.
-    pub walked-steps : (sum' : ℕ) (ls' : List ℕ) → 1 ≤ d → d ≤ 8 → n ≤ 8 → NextVector d sum ls sum' ls' →
-        inLimit (valueAt xs (suc (first + takenAt x (at ls) d))) ≡ true →
-        Walked d n xs x (high +ℤ highTerm d n xs x (first + takenAt x (at ls) d)) (low + lowTerm d n xs x (first + takenAt x (at ls) d))
+    pub walked-steps : (sum' : ℕ) (ls' : List ℕ) → 1 ≤ s .axes → s .axes ≤ 8 → s .level ≤ 8 → NextVector (s .axes) sum ls sum' ls' →
+        inLimit (valueAt xs (suc (first + takenAt x (at ls) (s .axes)))) ≡ true →
+        Walked s xs x (high +ℤ highTerm s xs x (first + takenAt x (at ls) (s .axes))) (low + lowTerm s xs x (first + takenAt x (at ls) (s .axes)))
         (first + 2 ^ sum) sum' ls'
     walked-steps sum' ls' some axes top next limited =
-        let p : ℕ = first + takenAt x (at ls) d in
+        let p : ℕ = first + takenAt x (at ls) (s .axes) in
         record {
           vector = next .vector;
           here = next .first ∙ ap (λ (a : ℕ). a + 2 ^ sum) (w .here);
           within = next-within;
           highs = sym high-step;
           lows = sym low-step;
-          few = omega (arith, next .count, next-counted d (at ls) some axes (omega (arith, levels-low)));
+          few = omega (arith, next .count, next-counted (s .axes) (at ls) some axes (omega (arith, levels-low)));
           high-small =
               omega (
                 arith,
                 next .count,
-                suc-mul (vectorsBefore d (at ls)) (2 ^ 47),
+                suc-mul (vectorsBefore (s .axes) (at ls)) (2 ^ 47),
                 w .high-small,
-                sum-size high (highTerm d n xs x p),
-                high-term d n xs x p limited,
+                sum-size high (highTerm s xs x p),
+                high-term s xs x p limited,
                 ap (λ (k : ℕ). k * 2 ^ 47) (next .count),
               );
           low-small =
               omega (
                 arith,
                 next .count,
-                suc-mul (vectorsBefore d (at ls)) (2 ^ 32),
+                suc-mul (vectorsBefore (s .axes) (at ls)) (2 ^ 32),
                 w .low-small,
-                low-term d n xs x p,
+                low-term s xs x p,
                 ap (λ (k : ℕ). k * 2 ^ 32) (next .count),
               );
         }
 
 -- Past the last point both sums are over all points.
-pub walked-ends : {d n : ℕ} {xs : List ℤ} {x : ℕ → ℕ} {high : ℤ} {low first sum : ℕ} {ls : List ℕ} → Walked d n xs x high low first sum ls →
-    points d n ≤ first → high +ℤ pos (low / unit) ≡ estimateAt d n (valueAt xs) x
-walked-ends {d} {n} {xs} {x} {high} {low} {first} w h =
-    let all-points : first ≡ points d n = omega (arith, w .within) in
+pub walked-ends : {s : Shape} {xs : List ℤ} {x : ℕ → ℕ} {high : ℤ} {low first sum : ℕ} {ls : List ℕ} → Walked s xs x high low first sum ls →
+    pointsOf s ≤ first → high +ℤ pos (low / unit) ≡ estimateAt s (valueAt xs) x
+walked-ends {s} {xs} {x} {high} {low} {first} w h =
+    let all-points : first ≡ pointsOf s = omega (arith, w .within) in
     ap₂ (λ (z : ℤ) (k : ℕ). z +ℤ pos (k / unit)) (w .highs) (w .lows)
-    ∙ ap (λ (m : ℕ). total (highTerm d n xs x) m +ℤ pos (sumTo (lowTerm d n xs x) m / unit)) all-points
-    ∙ parts-joined d n xs x
+    ∙ ap (λ (m : ℕ). total (highTerm s xs x) m +ℤ pos (sumTo (lowTerm s xs x) m / unit)) all-points
+    ∙ parts-joined s xs x

@@ -3,17 +3,18 @@
 use mathlib.Core.Bool.{true}
 use mathlib.Core.List.{List}
 use mathlib.Core.Path.{_≡_}
-use Prim.Native.Nat.{ℕ, zero, suc, _+_, _*_, _/_, _^_, _≤_, _<_}
+use Prim.Native.Nat.{ℕ, suc, _+_, _*_, _/_, _^_, _≤_, _<_}
 use lib.Dec.{ltb}
 use lib.IntN.{ℤ}
 use lib.ListN.{length}
 use Rattle.naturals.specs.Sum.{sumTo}
 use Rattle.naturals.specs.Test.{if_then_else_}
 use Rattle.integers.specs.Half.{inLimit}
-use Rattle.numbering.specs.Count.{points}
 use Rattle.numbering.specs.Point.{at}
 use Rattle.hierarchy.specs.Turns.{valueAt}
-use Rattle.surfaces.specs.Weights.{unit, weight}
+use Rattle.shapes.specs.declared.Shape.{Shape}
+use Rattle.shapes.specs.Shapes.{pointsOf}
+use Rattle.surfaces.specs.Weights.{unit, weight, joint}
 
 -- On one axis, the cell of level l in which x lies, counted from 0. The point in the middle of it alone can have a weight above 0 at x. At the unit itself no
 -- point has, and 0 stands for the cell.
@@ -40,9 +41,8 @@ unfoldable pub read : List ℕ → (ℕ → ℕ) → ℕ → ℕ
 read table l t = at table (entry t (l t))
 
 -- Joint weight and position of the point of a level vector that they give, over the first k axes.
-unfoldable pub jointOf : List ℕ → (ℕ → ℕ) → ℕ → ℕ
-jointOf weights l zero = unit
-jointOf weights l (suc k) = jointOf weights l k * read weights l k / unit
+abbrev pub jointOf : List ℕ → (ℕ → ℕ) → ℕ → ℕ
+jointOf weights l k = joint (read weights l) k
 
 unfoldable pub stepOf : List ℕ → (ℕ → ℕ) → ℕ → ℕ
 stepOf cells l t = read cells l t * 2 ^ sumTo l t
@@ -65,9 +65,9 @@ pub record Listed (d : ℕ) (cs : List ℕ) : Type 0 where
   pub coordinates : (t : ℕ) → t < d → at cs t ≤ unit
 
 -- A shape within the limits, a table of its points within the content limit, and a coordinate for each axis.
-pub record Evaluable (d n : ℕ) (xs : List ℤ) (cs : List ℕ) : Type 0 where
-  pub some : 1 ≤ d
-  pub low : n ≤ 8
-  pub long : length xs ≡ points d n
-  pub contents : (p : ℕ) → p < points d n → inLimit (valueAt xs (suc p)) ≡ true
-  pub listed : Listed d cs
+pub record Evaluable (s : Shape) (xs : List ℤ) (cs : List ℕ) : Type 0 where
+  pub some : 1 ≤ s .axes
+  pub low : s .level ≤ 8
+  pub long : length xs ≡ pointsOf s
+  pub contents : (p : ℕ) → p < pointsOf s → inLimit (valueAt xs (suc p)) ≡ true
+  pub listed : Listed (s .axes) cs

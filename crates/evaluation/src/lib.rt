@@ -1,4 +1,5 @@
 // The sum behind an estimate: one point for each level vector, the weights of an axis once for each level.
+use shapes::Shape;
 ghost use mathlib.Core.Bool.{true};
 ghost use mathlib.Core.Path.{_≡_};
 ghost use Prim.Native.Nat.{suc, _+_, _*_, _/_, _^_, _≤_, _<_};
@@ -141,12 +142,11 @@ fn joined(high: i64, low: u64) -> i64
 }
 
 // The estimate at these coordinates.
-pub fn evaluate(axes: u32, level: u32, table: &[i64], coordinates: &[u32]) -> i64
-    requires { ⌜ Evaluable axes level (now table) (now coordinates) ⌝ }
-    ensures { λ r. ⌜ r ≡ estimateAt axes level (valueAt (now (table .entry))) (at (now (coordinates .entry))) ⌝ }
+pub fn evaluate(shape: Shape, table: &[i64], coordinates: &[u32]) -> i64
+    requires { ⌜ Evaluable shape (now table) (now coordinates) ⌝ }
+    ensures { λ r. ⌜ r ≡ estimateAt shape (valueAt (now (table .entry))) (at (now (coordinates .entry))) ⌝ }
 {
-    let count = axes as usize;
-    let hats = tabulated(count, coordinates);
+    let hats = tabulated(shape.axes as usize, coordinates);
     let weights = hats.weights;
     let cells = hats.cells;
     let mut high: i64 = 0;
@@ -155,12 +155,12 @@ pub fn evaluate(axes: u32, level: u32, table: &[i64], coordinates: &[u32]) -> i6
     let mut sum: u32 = 0;
     let mut levels = [0; 8];
     while first < table.len() {
-        let point = taken(count, levels, &weights, &cells);
+        let point = taken(shape.axes as usize, levels, &weights, &cells);
         let c = table[first + point.position as usize];
         high = add_high(high, c, point.joint);
         low = add_low(low, c, point.joint);
         first += 1 << sum;
-        let next = vectors::next_vector(count, sum, levels);
+        let next = vectors::next_vector(shape.axes as usize, sum, levels);
         sum = next.sum;
         levels = next.levels;
     }

@@ -6,15 +6,12 @@ use Prim.Native.Nat.{ℕ, zero, suc, _<_}
 use native.Mathlib.Omega.{arith}
 use lib.IntN.{ℤ, pos, _+ℤ_, _-ℤ_, +ℤ-idr, -ℤ-+ℤ-cancel, +ℤ-negℤ-cancel}
 use Rattle.naturals.proofs.Cases.{eq-or-not}
+use Rattle.integers.specs.Half.{half}
 use Rattle.numbering.specs.declared.Side.{Side}
 use Rattle.numbering.specs.declared.Side.the-variants.{Left, Right}
-use Rattle.integers.specs.Half.{half}
 use Rattle.hierarchy.specs.Grid.{Neighbours, Grid}
 use Rattle.hierarchy.specs.Turns.{sumOn, forward, backward}
-
-half-zero : half (pos 0) ≡ pos 0
-unfolding half
-half-zero = refl
+use Rattle.hierarchy.proofs.Still.{half-zero, forward-still}
 
 module _ (m : ℕ) (nb : Neighbours) (depth : ℕ → ℕ → ℕ) (grid : Grid m nb depth) (t : ℕ) where
   pub forward-is : (f : ℕ → ℤ) (p : ℕ) → forward nb t f p ≡ f p -ℤ half (f (nb t Left p) +ℤ f (nb t Right p))
@@ -26,15 +23,11 @@ module _ (m : ℕ) (nb : Neighbours) (depth : ℕ → ℕ → ℕ) (grid : Grid 
   unfolding backward
   backward-suc k x p = refl
 
-  -- At a code whose neighbours hold 0 nothing changes.
-  pub forward-still : (f : ℕ → ℤ) → f 0 ≡ pos 0 → (p : ℕ) → ((b : Side) → nb t b p ≡ 0) → forward nb t f p ≡ f p
-  forward-still f zero-there p still = forward-is f p ∙ rw (still Left, still Right, zero-there, half-zero) (+ℤ-idr (f p))
-
   pub forward-zero : (f : ℕ → ℤ) → f 0 ≡ pos 0 → forward nb t f 0 ≡ pos 0
-  forward-zero f z = forward-still f z 0 (λ b. grid .border t b) ∙ z
+  forward-zero f z = forward-still nb t f z 0 (λ b. grid .border t b) ∙ z
 
   pub forward-past : (f : ℕ → ℤ) → f 0 ≡ pos 0 → (p : ℕ) → m < p → forward nb t f p ≡ f p
-  forward-past f z p h = forward-still f z p (λ b. grid .past t b p h)
+  forward-past f z p h = forward-still nb t f z p (λ b. grid .past t b p h)
 
   pub backward-zero : (k : ℕ) (x : ℕ → ℤ) → x 0 ≡ pos 0 → backward nb k t x 0 ≡ pos 0
   unfolding backward

@@ -1,5 +1,6 @@
 pub mod Turned
 pub mod Closed
+pub mod Still
 pub mod Inverse
 pub mod Bounds
 pub mod Values

@@ -1,9 +1,9 @@
--- A turn in one table, by number. Forward goes down: when a point is turned, its parents, whose numbers are smaller, hold what they held, so the
--- step is ready and the theorem on orders of work says what the table then holds. Back, the result at a point is its value plus half the sum of the result at
+-- A turn in one table, by number. Forward goes down: when a point is turned, its parents, whose numbers are smaller or which do not move, hold what they held,
+-- so the step is ready and the theorem on orders of work says what the table then holds. Back, the result at a point is its value plus half the sum of the result at
 -- its parents.
 -- Assumes nothing.
 use mathlib.Core.Path.{_≡_, refl, ap, sym, _∙_, fun-ext}
-use mathlib.Core.Logic.{inl, inr}
+use mathlib.Core.Logic.{_⊎_, inl, inr, ⊎-elim}
 use mathlib.Core.List.{List, [], _∷_}
 use Prim.Native.Nat.{ℕ, zero, suc, _≤_, _<_}
 use native.Mathlib.Nat.{suc-inj}
@@ -15,10 +15,9 @@ use lib.Seq.{getD-set-same, getD-set-other}
 use borrow.Author.Tests.{le-leb, lt-leb}
 use Rattle.naturals.specs.Test.{if_then_else_}
 use Rattle.naturals.proofs.Cases.{eq-or-not, le-or-lt}
-use Rattle.numbering.specs.declared.Side.{Side}
-use Rattle.numbering.specs.declared.Side.the-variants.{Left, Right}
 use Rattle.integers.specs.Half.{half}
-use Rattle.hierarchy.specs.Grid.{Neighbours, Grid}
+use Rattle.numbering.specs.declared.Side.the-variants.{Left, Right}
+use Rattle.hierarchy.specs.Grid.{Neighbours, Still, Late, Grid}
 use Rattle.hierarchy.specs.Turns.{valueAt, valuesOf, sumOn, forward, backward}
 use Rattle.hierarchy.specs.Work.{put, Item, worked, Ready, allWorked, countsAfter, Legal, mixed}
 use Rattle.hierarchy.proofs.Inverse.{forward-is, forward-zero, forward-of-back}
@@ -55,12 +54,21 @@ value-set xs k v h = fun-ext at-code
 pub list-of-values : (m : ℕ) (xs : List ℤ) (f : ℕ → ℤ) → length xs ≡ m → ((p : ℕ) → valueAt xs p ≡ f p) → xs ≡ valuesOf m f
 list-of-values m xs f len holds = sym (values-of-value m xs len) ∙ ap (valuesOf m) (fun-ext holds)
 
--- ---- one axis of a grid in which parents have smaller numbers
+-- ---- back
 
-module _ (m : ℕ) (nb : Neighbours) (depth : ℕ → ℕ → ℕ) (grid : Grid m nb depth) (t : ℕ)
-    (earlier : (b : Side) (p : ℕ) → (nb t b p ≡ 0 → ⊥) → nb t b p < p) where
-  -- ---- forward, from point number k − 1 down
+-- The result at a point is its value plus half the sum of the result at its parents.
+pub result-at : (m : ℕ) (nb : Neighbours) (depth : ℕ → ℕ → ℕ) → Grid m nb depth → (t k : ℕ) → ((p : ℕ) → depth t p < k) → (x : ℕ → ℤ) → x 0 ≡ pos 0 →
+    (p : ℕ) → backward nb k t x p ≡ x p +ℤ half (sumOn nb t (backward nb k t x) p)
+unfolding sumOn
+result-at m nb depth grid t k shallow x z p =
+    sym
+    (ap (λ (v : ℤ). v +ℤ half (backward nb k t x (nb t Left p) +ℤ backward nb k t x (nb t Right p)))
+    (sym (forward-of-back m nb depth grid t k x z p (shallow p)) ∙ forward-is m nb depth grid t (backward nb k t x) p)
+    ∙ -ℤ-+ℤ-cancel (backward nb k t x p) (half (backward nb k t x (nb t Left p) +ℤ backward nb k t x (nb t Right p))))
 
+-- ---- forward, from point number k − 1 down, on an axis of a grid where a parent has a smaller number or does not move
+
+module _ (m : ℕ) (nb : Neighbours) (depth : ℕ → ℕ → ℕ) (grid : Grid m nb depth) (t : ℕ) (late : Late nb t) where
   -- The tables after each turn of the axis.
   unfoldable pub turns : (ℕ → ℤ) → ℕ → ℕ → ℤ
   turns f zero = f
@@ -104,8 +112,23 @@ module _ (m : ℕ) (nb : Neighbours) (depth : ℕ → ℕ → ℕ) (grid : Grid 
             λ b.
             eq-or-not (nb t b (suc k)) 0
             (λ e. inl e)
-            (λ ne. inr (not-done from (suc k) (nb t b (suc k)) (omega (arith, earlier b (suc k) ne))));
+            (λ ne.
+            inr
+            (⊎-elim
+            (λ less. inl (not-done from (suc k) (nb t b (suc k)) (omega arith)))
+            (λ still. either (nb t b (suc k)) still)
+            (late b (suc k) ne)));
       }
+    where
+      -- A neighbour that does not move may be done or not.
+      either : (q : ℕ) → Still nb t q → (done from (suc k) q ≡ 0) ⊎ ((done from (suc k) q ≡ 1) × Still nb t q)
+      either q still =
+          le-or-lt q (suc k)
+          (λ low. inl (not-done from (suc k) q low))
+          (λ high.
+          le-or-lt q from
+          (λ in-range. inr (is-done from (suc k) q high in-range, still))
+          (λ past. inl (beyond-done from (suc k) q high past)))
 
   done-put : (from k : ℕ) → suc k ≤ from → (p : ℕ) → put (done from (suc k)) (suc k) 1 p ≡ done from k p
   done-put from k le p =
@@ -178,15 +201,3 @@ module _ (m : ℕ) (nb : Neighbours) (depth : ℕ → ℕ → ℕ) (grid : Grid 
       step-holds nb one-axis (turns f) (stages f z) (record { stage = 0; point = suc k }) (done from (suc k)) g (ready from k)
       (as-held f from (suc k) g le s) p
       ∙ ap (λ (j : ℕ). turns f j p) (done-put from k le p))
-
-  -- ---- back
-
-  module _ (k : ℕ) (shallow : (p : ℕ) → depth t p < k) (x : ℕ → ℤ) (z : x 0 ≡ pos 0) where
-    -- The result at a point is its value plus half the sum of the result at its parents.
-    pub result-at : (p : ℕ) → backward nb k t x p ≡ x p +ℤ half (sumOn nb t (backward nb k t x) p)
-    unfolding sumOn
-    result-at p =
-        sym
-        (ap (λ (v : ℤ). v +ℤ half (backward nb k t x (nb t Left p) +ℤ backward nb k t x (nb t Right p)))
-        (sym (forward-of-back m nb depth grid t k x z p (shallow p)) ∙ forward-is m nb depth grid t (backward nb k t x) p)
-        ∙ -ℤ-+ℤ-cancel (backward nb k t x p) (half (backward nb k t x (nb t Left p) +ℤ backward nb k t x (nb t Right p))))

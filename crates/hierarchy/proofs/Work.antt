@@ -11,9 +11,10 @@ use Rattle.naturals.proofs.Cases.{eq-or-not}
 use Rattle.integers.specs.Half.{half}
 use Rattle.numbering.specs.declared.Side.{Side}
 use Rattle.numbering.specs.declared.Side.the-variants.{Left, Right}
-use Rattle.hierarchy.specs.Grid.{Neighbours}
+use Rattle.hierarchy.specs.Grid.{Neighbours, Still}
 use Rattle.hierarchy.specs.Turns.{sumOn, forward}
 use Rattle.hierarchy.specs.Work.{put, Item, worked, Ready, allWorked, countsAfter, Legal}
+use Rattle.hierarchy.proofs.Still.{forward-still}
 
 pub put-same : {A : Type 0} (f : ℕ → A) (p : ℕ) (v : A) → put f p v p ≡ v
 unfolding put
@@ -34,6 +35,10 @@ module _ (nb : Neighbours) (axis : ℕ → ℕ) where
   Holds after count f = (p : ℕ) → f p ≡ after (count p) p
 
   module _ (after : ℕ → ℕ → ℤ) (stages : Stages after) where
+    -- A stage leaves alone what it does not move.
+    unmoved : (k p : ℕ) → Still nb (axis k) p → after (suc k) p ≡ after k p
+    unmoved k p still = stages .next k p ∙ forward-still nb (axis k) (after k) (stages .border k) p still
+
     -- What a ready step reads are the values of the whole stage.
     reads : (i : Item) (count : ℕ → ℕ) (f : ℕ → ℤ) → Ready nb axis i count → Holds after count f →
         sumOn nb (axis (i .stage)) f (i .point) ≡ sumOn nb (axis (i .stage)) (after (i .stage)) (i .point)
@@ -42,10 +47,13 @@ module _ (nb : Neighbours) (axis : ℕ → ℕ) where
       where
         parent : (b : Side) → f (nb (axis (i .stage)) b (i .point)) ≡ after (i .stage) (nb (axis (i .stage)) b (i .point))
         parent b =
-            holds (nb (axis (i .stage)) b (i .point))
+            let q : ℕ = nb (axis (i .stage)) b (i .point) in
+            holds q
             ∙ ⊎-elim
             (λ e. rw e (stages .border (count 0) ∙ sym (stages .border (i .stage))))
-            (λ e. ap (λ (k : ℕ). after k (nb (axis (i .stage)) b (i .point))) e)
+            (⊎-elim
+            (λ e. ap (λ (k : ℕ). after k q) e)
+            (λ e. ap (λ (k : ℕ). after k q) (e .0) ∙ unmoved (i .stage) q (e .1)))
             (ready .parents b)
 
     put-holds : (count : ℕ → ℕ) (f : ℕ → ℤ) (p k : ℕ) (v : ℤ) → v ≡ after k p → Holds after count f → Holds after (put count p k) (put f p v)

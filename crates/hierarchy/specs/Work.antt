@@ -9,7 +9,7 @@ use lib.IntN.{ℤ, _-ℤ_}
 use Rattle.naturals.specs.Test.{if_then_else_}
 use Rattle.integers.specs.Half.{half}
 use Rattle.numbering.specs.declared.Side.{Side}
-use Rattle.hierarchy.specs.Grid.{Neighbours}
+use Rattle.hierarchy.specs.Grid.{Neighbours, Still}
 use Rattle.hierarchy.specs.Turns.{sumOn}
 
 -- A function with another value at one place.
@@ -27,10 +27,14 @@ module _ (nb : Neighbours) (axis : ℕ → ℕ) where
   unfoldable pub worked : Item → (ℕ → ℤ) → ℕ → ℤ
   worked i f = put f (i .point) (f (i .point) -ℤ half (sumOn nb (axis (i .stage)) f (i .point)))
 
-  -- A point's count says how many stages are done there. A step is ready if its point has done the stages before, and so have exactly its parents.
+  -- A point's count says how many stages are done there. A step is ready if its point has done the stages before, and so have exactly its parents, save
+  -- that a parent which the stage does not move may have done it too.
   pub record Ready (i : Item) (count : ℕ → ℕ) : Type 0 where
     pub point : count (i .point) ≡ i .stage
-    pub parents : (b : Side) → (nb (axis (i .stage)) b (i .point) ≡ 0) ⊎ (count (nb (axis (i .stage)) b (i .point)) ≡ i .stage)
+    pub parents : (b : Side) →
+        (nb (axis (i .stage)) b (i .point) ≡ 0)
+        ⊎ (count (nb (axis (i .stage)) b (i .point)) ≡ i .stage)
+        ⊎ ((count (nb (axis (i .stage)) b (i .point)) ≡ suc (i .stage)) × Still nb (axis (i .stage)) (nb (axis (i .stage)) b (i .point)))
 
   -- All steps of a list in turn, and the counts after them.
   unfoldable pub allWorked : List Item → (ℕ → ℤ) → ℕ → ℤ

@@ -16,9 +16,8 @@ use Rattle.refusals.specs.declared.Verdict.the-variants as verdict
 use Rattle.refusals.specs.Checks.{unless}
 use Rattle.refusals.proofs.Passing.{test-passed}
 use Rattle.integers.specs.Half.{isRate}
-use Rattle.numbering.specs.Count.{points}
 use Rattle.shapes.specs.declared.Shape.{Shape}
-use Rattle.shapes.specs.Shapes.{checkShape}
+use Rattle.shapes.specs.Shapes.{sparse, checkShape, pointsOf}
 use Rattle.house_file.specs.Reading.{Read, got, refused, _next_, _thenRead_}
 use Rattle.house_file.specs.Numbers.{groups, largest, limited, readNumber, rateOf}
 use Rattle.house_file.specs.Files.{prepended, readRates, Contents, ended, readTable, readContents}
@@ -107,8 +106,8 @@ rates-rated (suc m) bytes rates rest e =
 
 pub record Accepted (places : ℕ) (s : Shape) (rates : List ℤ) (rest : List ℕ) : Type 0 where
   pub shaped : checkShape s ≡ verdict.Passed
-  pub room : points (s .axes) (s .level) ≤ places
-  pub rated : Rated (points (s .axes) (s .level)) rates
+  pub room : pointsOf s ≤ places
+  pub rated : Rated (pointsOf s) rates
   pub ends : length rest ≡ 0
 
 held : (places : ℕ) (s : Shape) (rates : List ℤ) (middle : List ℕ) (c : Contents) (rest : List ℕ) →
@@ -122,7 +121,7 @@ table-accepted : (places : ℕ) (s : Shape) (bytes : List ℕ) (c : Contents) (r
     Accepted places (c .shape) (c .rates) rest
 unfolding readTable ended
 table-accepted places s bytes c rest e =
-    let n = points (s .axes) (s .level) in
+    let n = pointsOf s in
     let x = readRates n bytes next ended s in
     let places-test = unless (leb n places) TableLength in
     let roomy = read-next (checkShape s) (places-test thenRead x) e in
@@ -144,4 +143,4 @@ unfolding readContents
 contents-accepted places bytes c rest e =
     let t = through (readNumber bytes) _ e in
     let w = through (readNumber (t .middle)) _ (t .second) in
-    table-accepted places (record { axes = t .value; level = w .value }) (w .middle) c rest (w .second)
+    table-accepted places (sparse (t .value) (w .value)) (w .middle) c rest (w .second)

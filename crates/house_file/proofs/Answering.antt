@@ -12,10 +12,8 @@ use Rattle.refusals.specs.declared.Verdict.{Verdict}
 use Rattle.refusals.specs.declared.Verdict.the-variants as verdict
 use Rattle.refusals.specs.Checks.{unless, _andThen_}
 use Rattle.refusals.proofs.Passing.{first-passed, next-passed, test-passed}
-use Rattle.numbering.specs.Count.{points}
 use Rattle.shapes.specs.declared.Shape.{Shape}
-use Rattle.shapes.specs.Shapes.{checkShape}
-use Rattle.shapes.proofs.Checked.{InRange, passed-in-range}
+use Rattle.shapes.specs.Shapes.{sparse, checkShape, pointsOf}
 use Rattle.house_file.specs.declared.Opened.the-variants.{Holds, Refused}
 use Rattle.house_file.specs.Reading.{Read, got, refused, _next_, _thenRead_}
 use Rattle.house_file.specs.Numbers.{readNumber}
@@ -42,28 +40,28 @@ module _ (bytes : List ℕ) where
   head-first places = go (readNumber bytes)
     where
       second : (d : ℕ) (x : Read ℕ) →
-          x next (λ n rest. readTable places (record { axes = d; level = n }) rest) ≡ x next named d next readTable places
+          x next (λ n rest. readTable places (sparse d n) rest) ≡ x next named d next readTable places
       second d (got n rest) = refl
       second d (refused r) = refl
 
       go : (x : Read ℕ) →
-          x next (λ d more. readNumber more next (λ n rest. readTable places (record { axes = d; level = n }) rest))
+          x next (λ d more. readNumber more next (λ n rest. readTable places (sparse d n) rest))
           ≡ x next (λ d more. readNumber more next named d) next readTable places
       go (got d more) = second d (readNumber more)
       go (refused r) = refl
 
 -- What passed checks of the shape and of the places tell.
 pub record Fitting (s : Shape) (places : ℕ) : Type 0 where
-  pub range : InRange s
-  pub room : points (s .axes) (s .level) ≤ places
+  pub shape : checkShape s ≡ verdict.Passed
+  pub room : pointsOf s ≤ places
 
 pub places-passed : (s : Shape) (places : ℕ) → checkPlaces s places ≡ verdict.Passed → Fitting s places
 unfolding checkPlaces
 places-passed s places e =
-    let n = points (s .axes) (s .level) in
+    let n = pointsOf s in
     let room = unless (leb n places) TableLength in
     record {
-      range = passed-in-range s (first-passed (checkShape s) room e);
+      shape = first-passed (checkShape s) room e;
       room = leb-true n places (test-passed (leb n places) TableLength (next-passed (checkShape s) room e));
     }
 
@@ -72,14 +70,14 @@ module _ (places : ℕ) (s : Shape) (rest : List ℕ) where
   in-a-row verdict.Passed b x = refl
   in-a-row (verdict.Refused r) b x = refl
 
-  checks-first : readTable places s rest ≡ checkPlaces s places thenRead (readRates (points (s .axes) (s .level)) rest next ended s)
+  checks-first : readTable places s rest ≡ checkPlaces s places thenRead (readRates (pointsOf s) rest next ended s)
   unfolding readTable checkPlaces
-  checks-first = in-a-row (checkShape s) (unless (leb (points (s .axes) (s .level)) places) TableLength) _
+  checks-first = in-a-row (checkShape s) (unless (leb (pointsOf s) places) TableLength) _
 
   pub unplaced : {r : Refusal} → checkPlaces s places ≡ verdict.Refused r → readTable places s rest ≡ refused r
   unplaced e = checks-first ∙ rw e
 
-  pub placed : checkPlaces s places ≡ verdict.Passed → readTable places s rest ≡ readRates (points (s .axes) (s .level)) rest next ended s
+  pub placed : checkPlaces s places ≡ verdict.Passed → readTable places s rest ≡ readRates (pointsOf s) rest next ended s
   placed e = checks-first ∙ rw e
 
 module _ (s : Shape) where

@@ -16,9 +16,8 @@ use Rattle.refusals.specs.declared.Refusal.the-variants.{FileEnds, FiledNumber,
 use Rattle.refusals.specs.declared.Verdict.{Verdict}
 use Rattle.refusals.specs.declared.Verdict.the-variants as verdict
 use Rattle.refusals.specs.Checks.{unless}
-use Rattle.numbering.specs.Count.{points}
 use Rattle.shapes.specs.declared.Shape.{Shape}
-use Rattle.shapes.specs.Shapes.{checkShape}
+use Rattle.shapes.specs.Shapes.{sparse, checkShape, pointsOf}
 use Rattle.house_file.specs.Reading.{Read, got, refused, _next_, _thenRead_}
 use Rattle.house_file.specs.Numbers.{below, groups, largest, limited, readNumber, rateOf}
 use Rattle.house_file.specs.Files.{Contents, prepended, readRates, ended, readTable, readContents, filledWith, readFile}
@@ -79,7 +78,7 @@ table-agree : (places : ℕ) → places ≤ 8192 → (s : Shape) (j : ℕ) (rest
     Agree 0 (readTable places s (take j rest)) (readTable places s rest)
 unfolding readTable
 table-agree places few s j rest h =
-    let n = points (s .axes) (s .level) in
+    let n = pointsOf s in
     checked-agree (checkShape s)
     (λ _.
     test-agree (leb n places) TableLength
@@ -92,7 +91,7 @@ contents-agree places few bytes =
     then-agree (number-agree 40966 40971 bytes (omega arith)) _
     (λ d j more h.
     then-agree (number-agree 40961 j more h) _
-    (λ n i rest le. table-agree places few (record { axes = d; level = n }) i rest le))
+    (λ n i rest le. table-agree places few (sparse d n) i rest le))
 
 left-same : (table : List ℤ) {cut whole : Read Contents} → Agree 0 cut whole → filledWith table cut ≡ filledWith table whole
 left-same table (same c j rest h e w) = rw (e, w)

@@ -11,11 +11,10 @@ use lib.IntN.{ℤ, pos, negsuc}
 use lib.ListN.{length, getD}
 use borrow.Author.Tests.{lt-ltb, le-ltb, le-leb, leb-true}
 use Rattle.naturals.proofs.Cases.{le-or-lt}
-use Rattle.integers.specs.Half.{isRate}
 use Rattle.refusals.specs.declared.Verdict.the-variants.{Passed}
-use Rattle.numbering.specs.Count.{points}
+use Rattle.integers.specs.Half.{isRate}
 use Rattle.shapes.specs.declared.Shape.{Shape}
-use Rattle.shapes.specs.Shapes.{checkShape}
+use Rattle.shapes.specs.Shapes.{checkShape, pointsOf}
 use Rattle.shapes.proofs.Checked.{passed-in-range}
 use Rattle.house_file.specs.Reading.{Read, got, _next_}
 use Rattle.house_file.specs.Numbers.{below, groups, largest, limited, readNumber, filed}
@@ -104,7 +103,7 @@ rates-back (rate ∷ rates) rest each =
     )
 
 -- A file of accepted rates.
-module _ (s : Shape) (rates : List ℤ) (places : ℕ) (passed : checkShape s ≡ Passed) (many : length rates ≡ points (s .axes) (s .level))
+module _ (s : Shape) (rates : List ℤ) (places : ℕ) (passed : checkShape s ≡ Passed) (many : length rates ≡ pointsOf s)
     (room : length rates ≤ places) (each : AllRates rates) where
   axes-filed : s .axes ≤ largest
   unfolding largest
@@ -116,9 +115,9 @@ module _ (s : Shape) (rates : List ℤ) (places : ℕ) (passed : checkShape s �
 
   fits : checkPlaces s places ≡ Passed
   unfolding checkPlaces
-  fits = rw (passed, le-leb (points (s .axes) (s .level)) places (omega arith))
+  fits = rw (passed, le-leb (pointsOf s) places (omega arith))
 
-  all-back : readRates (points (s .axes) (s .level)) (writtenRates rates) ≡ got rates []
+  all-back : readRates (pointsOf s) (writtenRates rates) ≡ got rates []
   all-back = rw (← many) (ap (readRates (length rates)) (sym (append-nil (writtenRates rates))) ∙ rates-back rates [] each)
 
   pub file-back : readContents places (writtenFile s rates) ≡ got (record { shape = s; rates = rates }) []

@@ -3,11 +3,11 @@
 use mathlib.Core.Path.{_≡_, refl}
 use mathlib.Core.List.{[], _∷_}
 use lib.IntN.{pos}
-use Rattle.refusals.specs.declared.Refusal.the-variants.{Axes, TableLength, FileEnds, FiledNumber, BytesLeft}
 use Rattle.naturals.specs.Sum.{sumTo}
+use Rattle.refusals.specs.declared.Refusal.the-variants.{Axes, TableLength, FileEnds, FiledNumber, BytesLeft}
 use Rattle.numbering.specs.Binomial.{choose}
 use Rattle.numbering.specs.Count.{vectors, shell, start, points}
-use Rattle.shapes.specs.Shapes.{checkShape}
+use Rattle.shapes.specs.Shapes.{checkShape, pointsOf}
 use Rattle.house_file.specs.declared.Opened.the-variants.{Holds, Refused}
 use Rattle.house_file.specs.Reading.{got}
 use Rattle.house_file.specs.Numbers.{below, groups, largest, limited, readNumber, rateOf}
@@ -17,22 +17,22 @@ use Rattle.house_file.specs.Files.{prepended, readRates, ended, readTabl
 pub example-read :
     readFile (1 ∷ 1 ∷ 6 ∷ 10 ∷ 14 ∷ []) (pos 0 ∷ pos 0 ∷ pos 0 ∷ pos 9 ∷ [])
     ≡ afterReading (Holds (record { axes = 1; level = 1 })) (pos 3 ∷ pos 5 ∷ pos 7 ∷ pos 9 ∷ [])
-unfolding readFile readContents readTable readRates prepended ended readNumber groups below limited largest rateOf checkShape points start shell vectors sumTo choose
+unfolding readFile readContents readTable readRates prepended ended readNumber groups below limited largest rateOf checkShape pointsOf points start shell vectors sumTo choose
 example-read = refl
 
 -- The same with two places, with a byte more, and with a byte less: the buffer stays.
 pub example-unplaced : readFile (1 ∷ 1 ∷ 6 ∷ 10 ∷ 14 ∷ []) (pos 8 ∷ pos 9 ∷ []) ≡ afterReading (Refused TableLength) (pos 8 ∷ pos 9 ∷ [])
-unfolding readFile readContents readTable readRates prepended ended readNumber groups below limited largest rateOf checkShape points start shell vectors sumTo choose
+unfolding readFile readContents readTable readRates prepended ended readNumber groups below limited largest rateOf checkShape pointsOf points start shell vectors sumTo choose
 example-unplaced = refl
 
 pub example-too-long :
     readFile (1 ∷ 1 ∷ 6 ∷ 10 ∷ 14 ∷ 0 ∷ []) (pos 7 ∷ pos 8 ∷ pos 9 ∷ []) ≡ afterReading (Refused BytesLeft) (pos 7 ∷ pos 8 ∷ pos 9 ∷ [])
-unfolding readFile readContents readTable readRates prepended ended readNumber groups below limited largest rateOf checkShape points start shell vectors sumTo choose
+unfolding readFile readContents readTable readRates prepended ended readNumber groups below limited largest rateOf checkShape pointsOf points start shell vectors sumTo choose
 example-too-long = refl
 
 pub example-too-short :
     readFile (1 ∷ 1 ∷ 6 ∷ 10 ∷ []) (pos 7 ∷ pos 8 ∷ pos 9 ∷ []) ≡ afterReading (Refused FileEnds) (pos 7 ∷ pos 8 ∷ pos 9 ∷ [])
-unfolding readFile readContents readTable readRates prepended ended readNumber groups below limited largest rateOf checkShape points start shell vectors sumTo choose
+unfolding readFile readContents readTable readRates prepended ended readNumber groups below limited largest rateOf checkShape pointsOf points start shell vectors sumTo choose
 example-too-short = refl
 
 -- 09; 09 00; FF FF FF FF 0F 00; 09 80 80 80 80 80.

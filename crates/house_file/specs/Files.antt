@@ -7,9 +7,8 @@ use lib.IntN.{ℤ}
 use lib.ListN.{length, drop}
 use Rattle.refusals.specs.declared.Refusal.the-variants.{TableLength, BytesLeft}
 use Rattle.refusals.specs.Checks.{unless}
-use Rattle.numbering.specs.Count.{points}
 use Rattle.shapes.specs.declared.Shape.{Shape}
-use Rattle.shapes.specs.Shapes.{checkShape}
+use Rattle.shapes.specs.Shapes.{sparse, checkShape, pointsOf}
 use Rattle.house_file.specs.declared.Opened.{Opened}
 use Rattle.house_file.specs.declared.Opened.the-variants.{Holds, Refused}
 use Rattle.house_file.specs.Reading.{Read, got, refused, _next_, _thenRead_}
@@ -36,13 +35,13 @@ ended s rates rest = unless (eqb (length rest) 0) BytesLeft thenRead got (record
 unfoldable pub readTable : ℕ → Shape → List ℕ → Read Contents
 readTable places s rest =
     checkShape s
-    thenRead (unless (leb (points (s .axes) (s .level)) places) TableLength
-    thenRead (readRates (points (s .axes) (s .level)) rest next ended s))
+    thenRead (unless (leb (pointsOf s) places) TableLength
+    thenRead (readRates (pointsOf s) rest next ended s))
 
 -- A whole file, for a buffer of that many places.
 unfoldable pub readContents : ℕ → List ℕ → Read Contents
 readContents places bytes =
-    readNumber bytes next (λ d more. readNumber more next (λ n rest. readTable places (record { axes = d; level = n }) rest))
+    readNumber bytes next (λ d more. readNumber more next (λ n rest. readTable places (sparse d n) rest))
 
 -- What the reader leaves: its answer, and the contents of the buffer.
 pub record AfterReading : Type 0 where

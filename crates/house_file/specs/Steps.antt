@@ -10,9 +10,8 @@ use Rattle.refusals.specs.declared.Refusal.the-variants.{TableLength, FiledNumb
 use Rattle.refusals.specs.declared.Verdict.{Verdict}
 use Rattle.refusals.specs.declared.Verdict.the-variants as verdict
 use Rattle.refusals.specs.Checks.{unless, _andThen_}
-use Rattle.numbering.specs.Count.{points}
 use Rattle.shapes.specs.declared.Shape.{Shape}
-use Rattle.shapes.specs.Shapes.{checkShape}
+use Rattle.shapes.specs.Shapes.{sparse, checkShape, pointsOf}
 use Rattle.house_file.specs.declared.Number.{Number}
 use Rattle.house_file.specs.declared.Number.the-variants as number
 use Rattle.house_file.specs.declared.Head.{Head}
@@ -36,14 +35,14 @@ limitedNumber value after = if leb value largest then number.Got value after els
 
 -- d and n, before they are checked.
 abbrev pub named : ℕ → ℕ → List ℕ → Read Shape
-named d n rest = got (record { axes = d; level = n }) rest
+named d n rest = got (sparse d n) rest
 
 unfoldable pub readHead : List ℕ → Read Shape
 readHead bytes = readNumber bytes next (λ d more. readNumber more next named d)
 
 -- The checks of a shape and of the buffer's places.
 unfoldable pub checkPlaces : Shape → ℕ → Verdict
-checkPlaces s places = checkShape s andThen unless (leb (points (s .axes) (s .level)) places) TableLength
+checkPlaces s places = checkShape s andThen unless (leb (pointsOf s) places) TableLength
 
 -- What the check of the rates says: refused where they are, and with 13 where bytes are left after them.
 unfoldable pub checkedRates : Read (List ℤ) → Verdict

@@ -108,7 +108,7 @@ fn check_places(shape: Shape, places: usize) -> Verdict
     if let Verdict::Refused(r) = shapes::check_shape(shape) {
         return Verdict::Refused(r);
     }
-    if (places as u64) < shapes::first_number(shape.axes, shape.level + 1) {
+    if (places as u64) < shapes::points_of(shape) {
         return Verdict::Refused(Refusal::TableLength);
     }
     Verdict::Passed
@@ -159,7 +159,7 @@ fn read_table(bytes: &[u8], from: usize, shape: Shape, table: &mut [i64]) -> Ope
     if let Verdict::Refused(r) = check_places(shape, table.len()) {
         return Opened::Refused(r);
     }
-    let count = shapes::first_number(shape.axes, shape.level + 1) as usize;
+    let count = shapes::points_of(shape) as usize;
     if let Verdict::Refused(r) = check_rates(bytes, from, count) {
         return Opened::Refused(r);
     }

@@ -13,11 +13,10 @@ use Rattle.refusals.specs.declared.Verdict.{Verdict}
 use Rattle.refusals.specs.declared.Verdict.the-variants.{Passed, Refused}
 use Rattle.refusals.specs.Refusals.{numberOf}
 use Rattle.refusals.specs.Checks.{unless, _andThen_, answer}
-use Rattle.numbering.specs.Count.{points}
 use Rattle.numbering.specs.Point.{at}
-use Rattle.numbering.specs.Number.{number}
 use Rattle.shapes.specs.declared.Shape.{Shape}
-use Rattle.shapes.specs.Shapes.{checkShape}
+use Rattle.shapes.specs.Shapes.{checkShape, pointsOf}
+use Rattle.grids.specs.Grids as grids
 use Rattle.points.specs.declared.Outcome.the-variants.{End}
 use Rattle.points.specs.declared.Located.{Located}
 use Rattle.points.specs.declared.Point.{Point}
@@ -56,10 +55,10 @@ point-given held l Passed p h = rw h (λ e. refl)
 point-given held l (Refused r) p h = rw h (λ e. absurd (omega (arith, never-zero r, e)))
 
 pub point-of-number-gives : (held : List ℕ × List ℕ) (s : Shape) (p : ℕ) →
-    Gives (pointAt (s .axes) (s .level) p .levels, pointAt (s .axes) (s .level) p .indices) (ofPoint held (pointOfNumber s p))
+    Gives (pointAt s p .levels, pointAt s p .indices) (ofPoint held (pointOfNumber s p))
 unfolding pointOfNumber
 point-of-number-gives held s p =
-    point-given held (pointOfNumber s p) (checkShape s andThen unless (ltb p (points (s .axes) (s .level))) PointNumber) (pointAt (s .axes) (s .level) p) refl
+    point-given held (pointOfNumber s p) (checkShape s andThen unless (ltb p (pointsOf s)) PointNumber) (pointAt s p) refl
 
 -- The point, and 0; or the two arrays as they were, and 1.
 abbrev pub next : List ℕ × List ℕ × ℕ → Bool → Point → List ℕ × List ℕ × ℕ
@@ -75,10 +74,10 @@ next-given held l (Refused r) more p h = rw h (λ e. absurd (omega (arith, never
 module _ (s : Shape) (ls is : List ℕ) where
   -- The number of the point, plus one.
   abbrev raised : ℕ
-  raised = suc (number (s .axes) (at ls) (at is))
+  raised = suc (grids.numberOf s (at ls) (at is))
 
   pub successor-gives : (held : List ℕ × List ℕ × ℕ) →
-      Gives (next held (ltb raised (points (s .axes) (s .level))) (pointAt (s .axes) (s .level) raised)) (ofSuccessor held (successorOf s ls is))
+      Gives (next held (ltb raised (pointsOf s)) (pointAt s raised)) (ofSuccessor held (successorOf s ls is))
   unfolding successorOf after
   successor-gives held =
-      next-given held (successorOf s ls is) (checkPoint s ls is) (ltb raised (points (s .axes) (s .level))) (pointAt (s .axes) (s .level) raised) refl
+      next-given held (successorOf s ls is) (checkPoint s ls is) (ltb raised (pointsOf s)) (pointAt s raised) refl

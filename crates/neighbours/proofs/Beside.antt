@@ -11,25 +11,27 @@ use native.Mathlib.Omega.{arith}
 use lib.Pow.{pow-pos, pow-mono, pow-add}
 use Rattle.naturals.specs.Sum.{sumTo}
 use Rattle.naturals.proofs.Cases.{true-or-false}
-use Rattle.naturals.proofs.Sums.{sumTo-suc, sumTo-mono, term-le}
+use Rattle.naturals.proofs.Sums.{sumTo-suc, sumTo-mono}
 use Rattle.numbering.specs.declared.Side.{Side}
 use Rattle.numbering.specs.declared.Side.the-variants.{Left, Right}
-use Rattle.numbering.specs.Count.{start, points}
+use Rattle.numbering.specs.Count.{start}
 use Rattle.numbering.specs.Point.{at}
 use Rattle.numbering.specs.Number.{position, firstOf, number}
 use Rattle.numbering.specs.Inverse.{levelAt, indexOf, indexAt}
-use Rattle.numbering.specs.Parent.{numerator, isBorder, parentLevel, parentIndex, update, border, parent}
+use Rattle.numbering.specs.Parent.{numerator, isBorder, parentLevel, parentIndex, update}
 use Rattle.numbering.proofs.Position.{position-low}
 use Rattle.numbering.proofs.Numbering.{points-is, start-mono, number-in-shell}
 use Rattle.numbering.proofs.Named.{Named}
 use Rattle.numbering.proofs.Subspaces.{first-is, number-from-first, indicesTo, indices-in, block-point, block-position, block-below, block-levels, block-indices}
-use Rattle.numbering.proofs.Parents.{inside, level-falls, update-other, update-sum, level-zero-border, parent-border, parent-inner, parent-is-point, parent-sum}
+use Rattle.numbering.proofs.Parents.{inside, level-falls, update-other, update-sum, level-zero-border, parent-is-point, parent-sum}
 use Rattle.numbering.proofs.ParentPlaces.{moved-position}
+use Rattle.shapes.specs.Shapes.{pointsOf}
 use Rattle.shapes.proofs.Totals.{start-small}
-use Rattle.zero_border.specs.ZeroBorder.{codeOf, neighbour}
-use Rattle.zero_border.proofs.Instance.{code-border, code-inner, neighbour-at}
+use Rattle.grids.specs.Grids.{levelOn, indexOn, neighbour}
+use Rattle.grids.proofs.Sparse.{points-sparse, number-sparse, levels-sparse, indices-sparse}
+use Rattle.grids.proofs.Beside.{numeratorOn, to-border, to-parent}
 use Rattle.neighbours.specs.declared.Subspace.{Subspace}
-use Rattle.neighbours.specs.Subspaces.{Coarser, Seen, Sized, codeFrom}
+use Rattle.neighbours.specs.Subspaces.{sparseOf, Coarser, Seen, Sized, codeFrom}
 
 -- The two cases of a code.
 pub code-at-border : (v : Subspace) (starts : List ℕ) (before beyond m : ℕ) → isBorder (v .own) m ≡ true → codeFrom v starts before beyond m ≡ 0
@@ -83,7 +85,7 @@ sized {v} {starts} s held =
         )
 
 -- It ends within the table.
-pub end-inside : {v : Subspace} → Seen v → v .end ≤ points (v .line .axes) (v .line .level)
+pub end-inside : {v : Subspace} → Seen v → v .end ≤ pointsOf (sparseOf (v .line))
 end-inside {v} s =
     let size : ℕ = 2 ^ sumTo (at (v .levels)) (v .line .axes) in
     let some : 0 < size = pow-pos (sumTo (at (v .levels)) (v .line .axes)) in
@@ -92,6 +94,7 @@ end-inside {v} s =
       s .end,
       some,
       block-below (v .line .axes) (v .line .level) (at (v .levels)) (s .rest) (s .sum) (size - 1) (omega (arith, some)),
+      points-sparse (v .line .axes) (v .line .level),
     )
 
 -- Point number p of a level vector.
@@ -105,9 +108,14 @@ module _ {v : Subspace} (s : Seen v) (p : ℕ) (from : v .start ≤ p) (to : p <
   named : Named (v .line .axes) (v .line .level) (at (v .levels)) (indicesTo (v .line .axes) (at (v .levels)) (p - v .start))
   named = block-point (v .line .axes) (v .line .level) (at (v .levels)) (s .rest) (s .sum) (p - v .start) inside-vector
 
-  pub below : p < points (v .line .axes) (v .line .level)
+  pub below : p < pointsOf (sparseOf (v .line))
   below =
-      omega (arith, number-is, block-below (v .line .axes) (v .line .level) (at (v .levels)) (s .rest) (s .sum) (p - v .start) inside-vector)
+      omega (
+        arith,
+        number-is,
+        block-below (v .line .axes) (v .line .level) (at (v .levels)) (s .rest) (s .sum) (p - v .start) inside-vector,
+        points-sparse (v .line .axes) (v .line .level),
+      )
 
   -- Its digits are small.
   position-small : p - v .start < 2 ^ 8
@@ -123,14 +131,16 @@ module _ {v : Subspace} (s : Seen v) (p : ℕ) (from : v .start ≤ p) (to : p <
   pub digit-small : ownDigit v (p - v .start) < 2 ^ v .own
   digit-small = mod-lt ((p - v .start) / 2 ^ v .low) (pow-pos (v .own))
 
-  levels-are : levelAt (v .line .axes) (v .line .level) p ≡ at (v .levels)
+  levels-are : levelOn (sparseOf (v .line)) p ≡ at (v .levels)
   levels-are =
-      ap (levelAt (v .line .axes) (v .line .level)) (sym number-is)
+      levels-sparse (v .line .axes) (v .line .level) p
+      ∙ ap (levelAt (v .line .axes) (v .line .level)) (sym number-is)
       ∙ block-levels (v .line .axes) (v .line .level) (at (v .levels)) (s .rest) (s .sum) (p - v .start) inside-vector
 
-  indices-are : indexAt (v .line .axes) (v .line .level) p ≡ indicesTo (v .line .axes) (at (v .levels)) (p - v .start)
+  indices-are : indexOn (sparseOf (v .line)) p ≡ indicesTo (v .line .axes) (at (v .levels)) (p - v .start)
   indices-are =
-      ap (indexAt (v .line .axes) (v .line .level)) (sym number-is)
+      indices-sparse (v .line .axes) (v .line .level) p
+      ∙ ap (indexAt (v .line .axes) (v .line .level)) (sym number-is)
       ∙ block-indices (v .line .axes) (v .line .level) (at (v .levels)) (s .rest) (s .sum) (p - v .start) inside-vector
 
   index-is : indicesTo (v .line .axes) (at (v .levels)) (p - v .start) (v .line .place) ≡ 2 * ownDigit v (p - v .start) + 1
@@ -162,19 +172,19 @@ module _ {v : Subspace} (s : Seen v) (p : ℕ) (from : v .start ≤ p) (to : p <
     abbrev top : ℕ
     top = numerator b (indicesTo (v .line .axes) (at (v .levels)) (p - v .start) (v .line .place))
 
-    beside :
-        neighbour (v .line .axes) (v .line .level) (v .line .place) b (suc p)
-        ≡ codeOf (v .line .axes) (parent (v .line .place) b (at (v .levels)) (indicesTo (v .line .axes) (at (v .levels)) (p - v .start)))
-    beside =
-        neighbour-at (v .line .axes) (v .line .level) (s .top) (v .line .place) b p below (s .axis)
-        ∙ ap₂ (λ (l i : ℕ → ℕ). codeOf (v .line .axes) (parent (v .line .place) b l i)) levels-are indices-are
+    -- Which of the two it is, as the shape says.
+    border-is : isBorder (levelOn (sparseOf (v .line)) p (v .line .place)) (numeratorOn (sparseOf (v .line)) (v .line .place) b p)
+        ≡ isBorder (at (v .levels) (v .line .place)) top
+    border-is = ap₂ (λ (l i : ℕ → ℕ). isBorder (l (v .line .place)) (numerator b (i (v .line .place)))) levels-are indices-are
+
+    at-border : isBorder (at (v .levels) (v .line .place)) top ≡ true → neighbour (sparseOf (v .line)) (v .line .place) b (suc p) ≡ 0
+    at-border e = to-border (sparseOf (v .line)) (v .line .place) b p below (s .axis) (border-is ∙ e)
 
     module _ (e : isBorder (at (v .levels) (v .line .place)) top ≡ false) where
       falls : parentLevel (v .own) top < v .own
       falls =
           rw (s .own)
           (level-falls (at (v .levels) (v .line .place)) top
-          (omega (arith, term-le (at (v .levels)) (v .line .axes) (v .line .place) (s .axis), s .sum, s .top))
           (inside b (at (v .levels) (v .line .place)) _ (named .point .odd (v .line .place) (s .axis)) (named .point .below (v .line .place) (s .axis)) e))
 
       moved-number : (starts : List ℕ) → Coarser v (v .own) starts →
@@ -199,66 +209,64 @@ module _ {v : Subspace} (s : Seen v) (p : ℕ) (from : v .start ≤ p) (to : p <
           )
 
       beside-inner :
-          neighbour (v .line .axes) (v .line .level) (v .line .place) b (suc p)
+          neighbour (sparseOf (v .line)) (v .line .place) b (suc p)
           ≡ suc
           (number (v .line .axes)
           (update (at (v .levels)) (v .line .place) (parentLevel (v .own) top))
           (update (indicesTo (v .line .axes) (at (v .levels)) (p - v .start)) (v .line .place) (parentIndex top)))
       beside-inner =
-          beside
-          ∙ ap (codeOf (v .line .axes)) (parent-inner (v .line .place) b (at (v .levels)) _ e)
-          ∙ code-inner (v .line .axes) _ _
+          let t = v .line .place in
+          to-parent (sparseOf (v .line)) t b p below (s .axis) (border-is ∙ e)
+          ∙ ap suc (number-sparse (v .line .axes) (v .line .level) _ _)
+          ∙ ap₂ (λ (l i : ℕ → ℕ). suc (number (v .line .axes) (update l t (parentLevel (l t) (numerator b (i t)))) (update i t (parentIndex (numerator b (i t))))))
+          levels-are indices-are
           ∙ rw (s .own)
 
     code-beside : (starts : List ℕ) → Coarser v (v .own) starts →
         codeFrom v starts ((p - v .start) % 2 ^ v .low) (beyondOf v (p - v .start)) top
-        ≡ neighbour (v .line .axes) (v .line .level) (v .line .place) b (suc p)
+        ≡ neighbour (sparseOf (v .line)) (v .line .place) b (suc p)
     code-beside starts held =
         true-or-false (isBorder (at (v .levels) (v .line .place)) top)
         (λ e.
         code-at-border v starts _ _ top (ap (λ (o : ℕ). isBorder o top) (s .own) ∙ e)
-        ∙ sym (beside ∙ ap (codeOf (v .line .axes)) (parent-border (v .line .place) b (at (v .levels)) _ e) ∙ code-border (v .line .axes)))
+        ∙ sym (at-border e))
         (λ e.
         code-inside v starts _ _ top (ap (λ (o : ℕ). isBorder o top) (s .own) ∙ e)
         ∙ ap suc (sym (moved-number e starts held))
         ∙ sym (beside-inner e))
 
     -- It stands before the level vector.
-    pub parent-before : neighbour (v .line .axes) (v .line .level) (v .line .place) b (suc p) ≤ v .start
+    pub parent-before : neighbour (sparseOf (v .line)) (v .line .place) b (suc p) ≤ v .start
     parent-before =
         true-or-false (isBorder (at (v .levels) (v .line .place)) top)
-        (λ e.
-        omega (arith, beside ∙ ap (codeOf (v .line .axes)) (parent-border (v .line .place) b (at (v .levels)) _ e) ∙ code-border (v .line .axes)))
+        (λ e. omega (arith, at-border e))
         (λ e.
         omega (
           arith,
           beside-inner e,
           ap (λ (o : ℕ). number (v .line .axes) (update (at (v .levels)) (v .line .place) (parentLevel o top)) (update (indicesTo (v .line .axes) (at (v .levels)) (p - v .start)) (v .line .place) (parentIndex top))) (s .own),
-          number-in-shell (parent-is-point (named .point) (s .top) (v .line .place) (s .axis) b e),
-          start-mono (v .line .axes) _ _ (parent-sum (named .point) (s .top) (v .line .place) (s .axis) b e),
+          number-in-shell (parent-is-point (named .point) (v .line .place) (s .axis) b e),
+          start-mono (v .line .axes) _ _ (parent-sum (named .point) (v .line .place) (s .axis) b e),
           first-is (v .line .axes) (at (v .levels)),
           s .start,
         ))
 
   -- At level 0 of the axis both are the border.
-  pub flat : v .own ≡ 0 → (b : Side) → neighbour (v .line .axes) (v .line .level) (v .line .place) b (suc p) ≡ 0
+  pub flat : v .own ≡ 0 → (b : Side) → neighbour (sparseOf (v .line)) (v .line .place) b (suc p) ≡ 0
   flat e b =
       let zero : at (v .levels) (v .line .place) ≡ 0 = sym (s .own) ∙ e in
-      beside b
-      ∙ ap (codeOf (v .line .axes))
-      (parent-border (v .line .place) b (at (v .levels)) _
+      at-border b
       (ap (λ (l : ℕ). isBorder l (top b)) zero
       ∙ level-zero-border b _ (named .point .odd (v .line .place) (s .axis))
-      (omega (arith, named .point .below (v .line .place) (s .axis), ap (λ (l : ℕ). 2 ^ suc l) zero))))
-      ∙ code-border (v .line .axes)
+      (omega (arith, named .point .below (v .line .place) (s .axis), ap (λ (l : ℕ). 2 ^ suc l) zero)))
 
   -- The codes of both parents.
   pub left-code : (starts : List ℕ) → Coarser v (v .own) starts →
       codeFrom v starts ((p - v .start) % 2 ^ v .low) (beyondOf v (p - v .start)) (2 * ownDigit v (p - v .start))
-      ≡ neighbour (v .line .axes) (v .line .level) (v .line .place) Left (suc p)
+      ≡ neighbour (sparseOf (v .line)) (v .line .place) Left (suc p)
   left-code starts held = ap (codeFrom v starts _ _) (omega (arith, index-is)) ∙ code-beside Left starts held
 
   pub right-code : (starts : List ℕ) → Coarser v (v .own) starts →
       codeFrom v starts ((p - v .start) % 2 ^ v .low) (beyondOf v (p - v .start)) (2 * ownDigit v (p - v .start) + 2)
-      ≡ neighbour (v .line .axes) (v .line .level) (v .line .place) Right (suc p)
+      ≡ neighbour (sparseOf (v .line)) (v .line .place) Right (suc p)
   right-code starts held = ap (codeFrom v starts _ _) (omega (arith, index-is)) ∙ code-beside Right starts held

@@ -13,6 +13,7 @@ use lib.Pow.{pow-mono}
 use borrow.Author.Tests.{ne-eqb}
 use Rattle.numbering.specs.Point.{at}
 use Rattle.numbering.specs.Parent.{isBorder, twos, parentLevel, parentIndex}
+use Rattle.numbering.proofs.Twos.{twos-are}
 use Rattle.numbering.proofs.Parents.{border-low, border-high, Inside, twos-le, level-falls, index-odd-up, index-below-up}
 use Rattle.points.proofs.PointTest.{shifted}
 use Rattle.neighbours.specs.declared.Subspace.{Subspace}
@@ -53,27 +54,38 @@ module _ {v : Subspace} {starts : List ℕ} (sized : Sized v starts) (before bey
         less : m < 2 ^ suc (v .own)
         less = omega (arith, no-end)
 
+    -- 32 bits hold the numerator.
+    zeros-are : trailingZeros 32 m ≡ twos m
+    zeros-are =
+        twos-are 32 m (between .pos) (omega (arith, between .below, pow-mono {i = suc (v .own)} {j = 32} (omega (arith, sized .bits))))
+
     pub zeros-le : trailingZeros 32 m ≤ v .own
-    unfolding twos
-    zeros-le = twos-le (v .own) m (omega (arith, sized .bits)) between
+    zeros-le = omega (arith, zeros-are, twos-le (v .own) m between)
+
+    -- The parent's level and index.
+    level-is : v .own - trailingZeros 32 m ≡ parentLevel (v .own) m
+    unfolding parentLevel
+    level-is = ap (λ (z : ℕ). v .own - z) zeros-are
+
+    index-is : m / 2 ^ trailingZeros 32 m ≡ parentIndex m
+    unfolding parentIndex
+    index-is = ap (λ (z : ℕ). m / 2 ^ z) zeros-are
 
     pub falls : v .own - trailingZeros 32 m < v .own
-    unfolding parentLevel twos
-    falls = level-falls (v .own) m (omega (arith, sized .bits)) between
+    falls = rw level-is (level-falls (v .own) m between)
 
-    -- The parent's halved index.
     half-is : m / 2 ^ trailingZeros 32 m / 2 ≡ (parentIndex m - 1) / 2
-    unfolding parentIndex twos
-    half-is = omega (arith, index-odd-up (v .own) m (omega (arith, sized .bits)) between)
+    half-is = rw index-is (omega (arith, index-odd-up (v .own) m between))
 
     pub half-small : m / 2 ^ trailingZeros 32 m / 2 < 2 ^ 8
-    unfolding parentIndex parentLevel twos
     half-small =
-        omega (
+        rw index-is
+        (omega (
           arith,
-          index-below-up (v .own) m (omega (arith, sized .bits)) between,
-          pow-mono {i = suc (v .own - trailingZeros 32 m)} {j = 9} (omega (arith, sized .bits)),
-        )
+          index-below-up (v .own) m between,
+          level-falls (v .own) m between,
+          pow-mono {i = suc (parentLevel (v .own) m)} {j = 9} (omega (arith, level-falls (v .own) m between, sized .bits)),
+        ))
 
     pub first-small : at starts (v .own - trailingZeros 32 m) < 2 ^ 32
     first-small = sized .small _ falls
@@ -105,11 +117,11 @@ module _ {v : Subspace} {starts : List ℕ} (sized : Sized v starts) (before bey
           + beyond * 2 ^ (v .low + (v .own - trailingZeros 32 m)) % 2 ^ 64
           + 1
           ≡ codeFrom v starts before beyond m
-      unfolding parentLevel twos
       computed =
           add-one _
           ∙ ap suc
           (ap₂ (λ (x y : ℕ). at starts (v .own - trailingZeros 32 m) + before + x + y)
           (shift-exact (m / 2 ^ trailingZeros 32 m / 2) (v .low) half-small (omega (arith, sized .bits)) ∙ ap (λ (h : ℕ). h * 2 ^ v .low) half-is)
           (shift-exact beyond (v .low + (v .own - trailingZeros 32 m)) beyond-small level-few))
+          ∙ ap (λ (k : ℕ). suc (at starts k + before + (parentIndex m - 1) / 2 * 2 ^ v .low + beyond * 2 ^ (v .low + k))) level-is
           ∙ sym (code-inside v starts before beyond m no-border)

@@ -9,7 +9,14 @@ use Rattle.naturals.specs.Test.{if_then_else_}
 use Rattle.numbering.specs.Point.{at}
 use Rattle.numbering.specs.Number.{firstOf}
 use Rattle.numbering.specs.Parent.{isBorder, parentLevel, parentIndex, update}
+use Rattle.shapes.specs.declared.Shape.{Shape}
+use Rattle.shapes.specs.Shapes.{sparse}
+use Rattle.neighbours.specs.declared.Line.{Line}
 use Rattle.neighbours.specs.declared.Subspace.{Subspace}
+
+-- The sparse table that a line lies in.
+abbrev pub sparseOf : Line → Shape
+sparseOf line = sparse (line .axes) (line .level)
 
 -- A level vector of the shape, with nothing past its axes, and its numbers are right: those of its points, its level sum before the axis and its level
 -- there.

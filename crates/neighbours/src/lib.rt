@@ -3,10 +3,10 @@ ghost use mathlib.Core.Path.{_≡_};
 ghost use Prim.Native.Nat.{suc, _+_, _^_, _%_, _≤_, _<_};
 ghost use Rattle.numbering.specs.Point.{at};
 ghost use Rattle.numbering.specs.Number.{firstOf};
-ghost use Rattle.vectors.specs.Vectors.{VectorIn};
 ghost use Rattle.numbering.specs.declared.Side.the-variants.{Left, Right};
-ghost use Rattle.zero_border.specs.ZeroBorder.{neighbour};
-ghost use Rattle.neighbours.specs.Subspaces.{Coarser, Seen, Sized, codeFrom};
+ghost use Rattle.grids.specs.Grids.{neighbour};
+ghost use Rattle.vectors.specs.Vectors.{VectorIn};
+ghost use Rattle.neighbours.specs.Subspaces.{sparseOf, Coarser, Seen, Sized, codeFrom};
 
 // A shape and the place of an axis in it, from 0: a turn works on the lines along that axis.
 pub struct Line {
@@ -87,7 +87,7 @@ fn code(v: Subspace, coarser: &[u64; 8], before: u64, beyond: u64, numerator: u3
 // The codes of the parents of point number `number` of a level vector: no search, the digits of its position shifted.
 pub fn codes(v: Subspace, coarser: &[u64; 8], number: u64) -> CodePair
     requires { ⌜ Seen v × Coarser v (v .own) (now coarser) × (v .start ≤ number) × (number < v .end) ⌝ }
-    ensures { λ r. ⌜ (r .left ≡ neighbour (v .line .axes) (v .line .level) (v .line .place) Left (suc number)) × (r .right ≡ neighbour (v .line .axes) (v .line .level) (v .line .place) Right (suc number)) ⌝ }
+    ensures { λ r. ⌜ (r .left ≡ neighbour (sparseOf (v .line)) (v .line .place) Left (suc number)) × (r .right ≡ neighbour (sparseOf (v .line)) (v .line .place) Right (suc number)) ⌝ }
 {
     let position = number - v.start;
     let before = numbers::low_bits(position, v.low);

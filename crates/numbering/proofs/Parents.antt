@@ -13,13 +13,13 @@ use borrow.Author.Tests.{eq-eqb, ne-eqb, eqb-false}
 use Rattle.naturals.specs.Sum.{sumTo}
 use Rattle.naturals.specs.Test.{if_then_else_}
 use Rattle.naturals.proofs.Cases.{eq-or-not, le-or-lt, true-or-false}
-use Rattle.naturals.proofs.Sums.{sumTo-suc, sumTo-cong, term-le}
+use Rattle.naturals.proofs.Sums.{sumTo-suc, sumTo-cong}
 use Rattle.numbering.specs.declared.Side.{Side}
 use Rattle.numbering.specs.declared.Side.the-variants.{Left, Right}
 use Rattle.numbering.specs.Point.{IsPoint}
 use Rattle.numbering.specs.Number.{number}
 use Rattle.numbering.specs.Parent.{numerator, isBorder, twos, parentLevel, parentIndex, update, border, inner, moved, parent, beyond}
-use Rattle.numbering.proofs.Twos.{zeros-divide, zeros-left-odd}
+use Rattle.numbering.proofs.Twos.{zeros-divide, zeros-left-odd, width-enough}
 use Rattle.numbering.proofs.Ordering.{smaller-sum}
 
 -- ---- the border
@@ -68,17 +68,14 @@ inside Right l i odd lt e =
     below-of : (i + 1 ≡ 2 ^ suc l → ⊥) → i + 1 < 2 ^ suc l
     below-of no-one = eq-or-not (i + 1) (2 ^ suc l) (λ z. absurd (no-one z)) (λ z. omega arith)
 
-module _ (l m : ℕ) (small : l ≤ 8) (h : Inside l m) where
-  private-bound : m < 2 ^ 32
-  private-bound = omega (arith, h .below, pow-mono {i = suc l} {j = 32} (omega arith))
-
+module _ (l m : ℕ) (h : Inside l m) where
   pub index-odd-up : parentIndex m % 2 ≡ 1
   unfolding parentIndex twos
-  index-odd-up = zeros-left-odd 32 m (h .pos) private-bound
+  index-odd-up = zeros-left-odd m m (h .pos) (width-enough m)
 
   pub index-times : parentIndex m * 2 ^ twos m ≡ m
   unfolding parentIndex twos
-  index-times = zeros-divide 32 m
+  index-times = zeros-divide m m
 
   -- At least one factor of two is dropped, and no more than the level has.
   pub twos-pos : 0 < twos m
@@ -192,11 +189,8 @@ level-zero-border Right i odd lt = ap (λ (m : ℕ). isBorder 0 (m + 1)) (one i 
     one : (i : ℕ) → i % 2 ≡ 1 → i < 2 ^ 1 → i ≡ 1
     one i odd lt = omega arith
 
-module _ {d n : ℕ} {l i : ℕ → ℕ} (p : IsPoint d n l i) (few : n ≤ 8) (t : ℕ) (axis : t < d) (side : Side)
+module _ {d n : ℕ} {l i : ℕ → ℕ} (p : IsPoint d n l i) (t : ℕ) (axis : t < d) (side : Side)
     (e : isBorder (l t) (numerator side (i t)) ≡ false) where
-  level-small : l t ≤ 8
-  level-small = omega (arith, term-le l d t axis, p .sum)
-
   within-borders : Inside (l t) (numerator side (i t))
   within-borders = inside side (l t) (i t) (p .odd t axis) (p .below t axis) e
 
@@ -205,7 +199,7 @@ module _ {d n : ℕ} {l i : ℕ → ℕ} (p : IsPoint d n l i) (few : n ≤ 8) (
       omega (
         arith,
         update-sum l t (parentLevel (l t) (numerator side (i t))) d axis,
-        level-falls (l t) (numerator side (i t)) level-small within-borders,
+        level-falls (l t) (numerator side (i t)) within-borders,
       )
 
   -- It is a point of the same shape.
@@ -219,7 +213,7 @@ module _ {d n : ℕ} {l i : ℕ → ℕ} (p : IsPoint d n l i) (few : n ≤ 8) (
             (λ same.
             rw same
             (ap (λ (x : ℕ). x % 2) (update-same i t (parentIndex (numerator side (i t))))
-            ∙ index-odd-up (l t) (numerator side (i t)) level-small within-borders))
+            ∙ index-odd-up (l t) (numerator side (i t)) within-borders))
             (λ other. ap (λ (x : ℕ). x % 2) (update-other i t (parentIndex (numerator side (i t))) u other) ∙ p .odd u h);
         below =
             λ u h.
@@ -227,7 +221,7 @@ module _ {d n : ℕ} {l i : ℕ → ℕ} (p : IsPoint d n l i) (few : n ≤ 8) (
             (λ same.
             rw same
             (rw (update-same i t (parentIndex (numerator side (i t))), update-same l t (parentLevel (l t) (numerator side (i t))))
-            (index-below-up (l t) (numerator side (i t)) level-small within-borders)))
+            (index-below-up (l t) (numerator side (i t)) within-borders)))
             (λ other.
             rw (
               update-other i t (parentIndex (numerator side (i t))) u other,

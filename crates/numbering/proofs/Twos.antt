@@ -1,4 +1,5 @@
--- Trailing zeros: a number is an odd number times two to the power of its trailing zeros. True digit by digit.
+-- Trailing zeros: a number is an odd number times two to the power of its trailing zeros, and every width that holds the number shows as many. True digit
+-- by digit.
 -- Assumes nothing.
 use mathlib.Core.Path.{_≡_, refl, ap, ap₂, sym, _∙_}
 use Prim.Native.Nat.{ℕ, zero, suc, _*_, _/_, _%_, _^_, _<_}
@@ -6,6 +7,7 @@ use native.Mathlib.Nat.{pow-suc, mul-one, mul-assoc, mul-comm, div-one, div-div-
 use native.Mathlib.Omega.{arith}
 use lib.Count.{trailingZeros, under}
 use Rattle.naturals.proofs.Cases.{eq-or-not}
+use Rattle.numbering.specs.Parent.{twos}
 
 zeros-even : (k m : ℕ) → m % 2 ≡ 0 → trailingZeros (suc k) m ≡ suc (trailingZeros k (m / 2))
 unfolding trailingZeros
@@ -48,3 +50,25 @@ zeros-left-odd (suc k) m pos lt =
     (ap (λ (x : ℕ). x % 2) (div-pow-suc m z)
     ∙ zeros-left-odd k (m / 2) (omega arith) (omega (arith, pow-suc 2 k))))
     (λ e. rw (zeros-odd k m (omega arith)) (omega (arith, div-one m)))
+
+-- ---- the factors of two of a number
+
+pub width-enough : (m : ℕ) → m < 2 ^ m
+width-enough zero = omega arith
+width-enough (suc m) = omega (arith, width-enough m, pow-suc 2 m)
+
+-- Two widths that both hold the number.
+zeros-same : (j k m : ℕ) → 0 < m → m < 2 ^ j → m < 2 ^ k → trailingZeros j m ≡ trailingZeros k m
+zeros-same zero k m pos lt lt' = absurd (omega arith)
+zeros-same (suc j) zero m pos lt lt' = absurd (omega arith)
+zeros-same (suc j) (suc k) m pos lt lt' =
+    eq-or-not (m % 2) 0
+    (λ e.
+    zeros-even j m e
+    ∙ ap suc (zeros-same j k (m / 2) (omega arith) (omega (arith, pow-suc 2 j)) (omega (arith, pow-suc 2 k)))
+    ∙ sym (zeros-even k m e))
+    (λ e. zeros-odd j m (omega arith) ∙ sym (zeros-odd k m (omega arith)))
+
+pub twos-are : (k m : ℕ) → 0 < m → m < 2 ^ k → trailingZeros k m ≡ twos m
+unfolding twos
+twos-are k m pos lt = zeros-same k m m pos lt (width-enough m)

@@ -17,9 +17,9 @@ numerator Right i = i + 1
 unfoldable pub isBorder : ℕ → ℕ → Bool
 isBorder l m = eqb m 0 || eqb m (2 ^ suc l)
 
--- How many factors of two a numerator has: its trailing zeros, of the 32 bits that an index has (numerators of the shapes are below 2^10).
+-- How many factors of two a numerator m has: its trailing zeros, for which m bits are enough.
 unfoldable pub twos : ℕ → ℕ
-twos m = trailingZeros 32 m
+twos m = trailingZeros m m
 
 -- Numerator m and denominator 2^(l+1) without the factors of two that they share are the parent's odd index and 2^(its level + 1).
 unfoldable pub parentLevel : ℕ → ℕ → ℕ

@@ -6,9 +6,8 @@ use borrow.Author.Tests.{lt-ltb, le-ltb}
 use Rattle.refusals.specs.declared.Refusal.{Refusal}
 use Rattle.refusals.specs.declared.Refusal.the-variants.{PointNumber}
 use Rattle.refusals.specs.declared.Verdict.the-variants.{Passed, Refused}
-use Rattle.numbering.specs.Count.{points}
 use Rattle.shapes.specs.declared.Shape.{Shape}
-use Rattle.shapes.specs.Shapes.{checkShape}
+use Rattle.shapes.specs.Shapes.{checkShape, pointsOf}
 use Rattle.points.specs.Points.{pointAt, found, refused}
 use Rattle.numbers.specs.Numbers.{pointOfNumber}
 
@@ -17,10 +16,10 @@ module _ (s : Shape) (p : ℕ) where
   unfolding pointOfNumber
   shape-refused r e = rw e
 
-  pub number-refused : checkShape s ≡ Passed → points (s .axes) (s .level) ≤ p → pointOfNumber s p ≡ refused PointNumber
+  pub number-refused : checkShape s ≡ Passed → pointsOf s ≤ p → pointOfNumber s p ≡ refused PointNumber
   unfolding pointOfNumber
-  number-refused e h = rw (e, le-ltb p (points (s .axes) (s .level)) h)
+  number-refused e h = rw (e, le-ltb p (pointsOf s) h)
 
-  pub number-found : checkShape s ≡ Passed → p < points (s .axes) (s .level) → pointOfNumber s p ≡ found (pointAt (s .axes) (s .level) p)
+  pub number-found : checkShape s ≡ Passed → p < pointsOf s → pointOfNumber s p ≡ found (pointAt s p)
   unfolding pointOfNumber
-  number-found e h = rw (e, lt-ltb p (points (s .axes) (s .level)) h)
+  number-found e h = rw (e, lt-ltb p (pointsOf s) h)

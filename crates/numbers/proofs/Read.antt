@@ -12,6 +12,8 @@ use Rattle.numbering.specs.Count.{vectors, shell, points}
 use Rattle.numbering.specs.Point.{at}
 use Rattle.numbering.specs.Inverse.{sumAt, within, levelOf, levelAt, indexOf, indexAt}
 use Rattle.numbering.proofs.Numbering.{rank-within, point-of-number, index-in, index-cong, index-zero}
+use Rattle.shapes.specs.Shapes.{sparse}
+use Rattle.grids.proofs.Sparse.{levels-sparse, indices-sparse}
 use Rattle.points.specs.Points.{eight, pointAt}
 use Rattle.points.proofs.Eight.{eight-at, eight-cong}
 use Rattle.numbers.specs.Steps.{Lies, indicesOf}
@@ -55,8 +57,9 @@ module _ (d n p : ℕ) (high : d ≤ 8) (lt : p < points d n) {levels : List ℕ
         ∙ sym (index-in d n p t before))
 
     pub point-found : {indices : List ℕ} → indices ≡ eight (indicesOf d (at levels) q) →
-        record { levels = levels; indices = indices } ≡ pointAt d n p
+        record { levels = levels; indices = indices } ≡ pointAt (sparse d n) p
     unfolding pointAt
     point-found written =
-        ap₂ (λ (ls is : List ℕ). record { levels = ls; indices = is }) made
-        (written ∙ eight-cong (indicesOf d (at levels) q) (indexAt d n p) index-found)
+        rw (levels-sparse d n p, indices-sparse d n p)
+        (ap₂ (λ (ls is : List ℕ). record { levels = ls; indices = is }) made
+        (written ∙ eight-cong (indicesOf d (at levels) q) (indexAt d n p) index-found))

@@ -16,15 +16,12 @@ use Rattle.refusals.specs.declared.Verdict.{Verdict}
 use Rattle.refusals.specs.declared.Verdict.the-variants.{Passed, Refused}
 use Rattle.refusals.specs.Checks.{unless, _andThen_, answer}
 use Rattle.refusals.proofs.Passing.{first-passed, next-passed, test-passed}
-use Rattle.numbering.specs.Count.{points}
 use Rattle.numbering.specs.Point.{at}
-use Rattle.numbering.specs.Number.{number}
-use Rattle.numbering.specs.Inverse.{levelAt, indexAt}
-use Rattle.numbering.proofs.Numbering.{number-lt, number-of-point}
-use Rattle.numbering.proofs.Named.{Named, named, levels-again, indices-again}
 use Rattle.shapes.specs.declared.Shape.{Shape}
-use Rattle.shapes.specs.Shapes.{checkShape}
+use Rattle.shapes.specs.Shapes.{checkShape, pointsOf}
 use Rattle.shapes.proofs.Checked.{passed-in-range}
+use Rattle.grids.specs.Grids.{numberOf, levelOn, indexOn}
+use Rattle.grids.proofs.Points.{PointOf, number-lt, levels-again, indices-again, point-at, number-of-point}
 use Rattle.points.specs.declared.Point.{Point}
 use Rattle.points.specs.declared.Outcome.the-variants as outcome
 use Rattle.points.specs.declared.Located.{Located}
@@ -37,17 +34,17 @@ use Rattle.numbers.specs.Numbers.{numberOfPoint, pointOfNumber}
 
 -- A call that answered a number passed its check, and the number is the point's.
 answered : (s : Shape) (ls is : List ℕ) (k : ℕ) → numberOfPoint s ls is ≡ numbered.At k →
-    (checkPoint s ls is ≡ Passed) × (number (s .axes) (at ls) (at is) ≡ k)
+    (checkPoint s ls is ≡ Passed) × (numberOf s (at ls) (at is) ≡ k)
 unfolding numberOfPoint
 answered s ls is k e = go (checkPoint s ls is) refl e
   where
-    go : (v : Verdict) → checkPoint s ls is ≡ v → answer numbered.Refused v (numbered.At (number (s .axes) (at ls) (at is))) ≡ numbered.At k →
-        (checkPoint s ls is ≡ Passed) × (number (s .axes) (at ls) (at is) ≡ k)
+    go : (v : Verdict) → checkPoint s ls is ≡ v → answer numbered.Refused v (numbered.At (numberOf s (at ls) (at is))) ≡ numbered.At k →
+        (checkPoint s ls is ≡ Passed) × (numberOf s (at ls) (at is) ≡ k)
     go Passed c f = (c, cc)
     go (Refused r) c f = (cc, cc)
 
 -- The lists of a passed point, with nothing past their ends, name it.
-passed-named : (s : Shape) (ls is : List ℕ) → Passes s ls is → Named (s .axes) (s .level) (at ls) (at is)
+passed-named : (s : Shape) (ls is : List ℕ) → Passes s ls is → PointOf s (at ls) (at is)
 passed-named s ls is p =
     record {
       point = p .point;
@@ -69,10 +66,10 @@ number-then-point s ls is k e =
     let name = passed-named s ls is p in
     rw (
       shape-passed s ls is (a .0),
-      lt-ltb k (points (s .axes) (s .level)) (omega (arith, number-lt (p .point), a .1)),
+      lt-ltb k (pointsOf s) (omega (arith, number-lt s name, a .1)),
       ← a .1,
-      levels-again name,
-      indices-again name,
+      levels-again s name,
+      indices-again s name,
     )
 
 first-length : (d : ℕ) (f : ℕ → ℕ) → d ≤ 8 → length (take d (eight f)) ≡ d
@@ -91,12 +88,12 @@ first-places d f few past =
 
 -- What a call that found a point passed, and which point it is.
 located-at : (s : Shape) (k : ℕ) (p : Point) → pointOfNumber s k ≡ found p →
-    (checkShape s andThen unless (ltb k (points (s .axes) (s .level))) PointNumber ≡ Passed) × (p ≡ pointAt (s .axes) (s .level) k)
+    (checkShape s andThen unless (ltb k (pointsOf s)) PointNumber ≡ Passed) × (p ≡ pointAt s k)
 unfolding pointOfNumber
-located-at s k p e = go (checkShape s andThen unless (ltb k (points (s .axes) (s .level))) PointNumber) e
+located-at s k p e = go (checkShape s andThen unless (ltb k (pointsOf s)) PointNumber) e
   where
-    go : (v : Verdict) → answer refused v (found (pointAt (s .axes) (s .level) k)) ≡ found p →
-        (v ≡ Passed) × (p ≡ pointAt (s .axes) (s .level) k)
+    go : (v : Verdict) → answer refused v (found (pointAt s k)) ≡ found p →
+        (v ≡ Passed) × (p ≡ pointAt s k)
     go Passed f = (refl, sym (ap (λ (x : Located). x .point) f))
     go (Refused r) f = absurd (refused-not-found r (ap (λ (x : Located). x .outcome) f))
 
@@ -106,20 +103,20 @@ pub point-then-number : (s : Shape) (k : ℕ) (p : Point) → pointOfNumber s k 
 unfolding numberOfPoint checkPoint checkLists pointAt
 point-then-number s k p e =
     let a = located-at s k p e in
-    let shape = first-passed (checkShape s) (unless (ltb k (points (s .axes) (s .level))) PointNumber) (a .0) in
+    let shape = first-passed (checkShape s) (unless (ltb k (pointsOf s)) PointNumber) (a .0) in
     let small =
-    ltb-true k (points (s .axes) (s .level))
-    (test-passed (ltb k (points (s .axes) (s .level))) PointNumber
-    (next-passed (checkShape s) (unless (ltb k (points (s .axes) (s .level))) PointNumber) (a .0))) in
+    ltb-true k (pointsOf s)
+    (test-passed (ltb k (pointsOf s)) PointNumber
+    (next-passed (checkShape s) (unless (ltb k (pointsOf s)) PointNumber) (a .0))) in
     let few = passed-in-range s shape .high in
-    let name = named (s .axes) (s .level) k small in
+    let name = point-at s k small in
     rw (
       a .1,
-      first-places (s .axes) (levelAt (s .axes) (s .level) k) few (name .levels),
-      first-places (s .axes) (indexAt (s .axes) (s .level) k) few (name .indices),
+      first-places (s .axes) (levelOn s k) few (name .levels),
+      first-places (s .axes) (indexOn s k) few (name .indices),
       shape,
-      eq-eqb (length (take (s .axes) (eight (levelAt (s .axes) (s .level) k)))) (s .axes) (first-length (s .axes) (levelAt (s .axes) (s .level) k) few),
-      eq-eqb (length (take (s .axes) (eight (indexAt (s .axes) (s .level) k)))) (s .axes) (first-length (s .axes) (indexAt (s .axes) (s .level) k) few),
+      eq-eqb (length (take (s .axes) (eight (levelOn s k)))) (s .axes) (first-length (s .axes) (levelOn s k) few),
+      eq-eqb (length (take (s .axes) (eight (indexOn s k)))) (s .axes) (first-length (s .axes) (indexOn s k) few),
       point-passes (name .point),
-      number-of-point (s .axes) (s .level) k small,
+      number-of-point s k small,
     )

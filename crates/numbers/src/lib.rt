@@ -16,6 +16,7 @@ ghost use Rattle.numbering.specs.Point.{at, IsPoint};
 ghost use Rattle.numbering.specs.Number.{firstOf, number, rank, position, ending};
 ghost use Rattle.numbering.specs.Inverse.{levelOf, sumAt, within, levelAt};
 ghost use Rattle.numbering.specs.Order.{orderOfLevels};
+ghost use Rattle.shapes.specs.Shapes.{sparse};
 ghost use Rattle.shapes.specs.Rows.{Binomials};
 ghost use Rattle.points.specs.Points.{eight, pointAt};
 ghost use Rattle.numbers.specs.Numbers.{numberOfPoint, pointOfNumber};
@@ -229,7 +230,7 @@ pub fn vector_at(axes: u32, level: u32, number: u64) -> Placed
 // Point number `number` of these axes and top level.
 pub fn point_at(axes: u32, level: u32, number: u64) -> Point
     requires { ⌜ (1 ≤ axes) × (axes ≤ 8) × (level ≤ 8) × (number < points axes level) ⌝ }
-    ensures { λ r. ⌜ r ≡ pointAt axes level number ⌝ }
+    ensures { λ r. ⌜ r ≡ pointAt (sparse axes level) number ⌝ }
 {
     let placed = vector_at(axes, level, number);
     let levels = placed.levels;
@@ -247,14 +248,12 @@ pub fn point_of_number(shape: Shape, number: u64) -> Located
     if let Verdict::Refused(r) = shapes::check_shape(shape) {
         return points::nowhere(Outcome::Refused(r));
     }
-    let axes = shape.axes;
-    let level = shape.level;
-    if shapes::first_number(axes, level + 1) <= number {
+    if shapes::points_of(shape) <= number {
         return points::nowhere(Outcome::Refused(Refusal::PointNumber));
     }
     Located {
         outcome: Outcome::Found,
-        point: point_at(axes, level, number),
+        point: point_at(shape.axes, shape.level, number),
     }
 }
 

@@ -8,13 +8,15 @@ use Prim.Native.Nat.{ℕ, suc, _-_, _*_, _/_, _%_, _^_, _≤_, _<_}
 use native.Mathlib.Omega.{arith}
 use lib.Count.{trailingZeros}
 use lib.ListN.{length, set, length-set, List·getD-eq-default}
+use lib.Pow.{pow-mono}
 use lib.Seq.{getD-set-same, getD-set-other}
 use borrow.Author.Tests.{ne-eqb}
 use Rattle.naturals.proofs.Cases.{eq-or-not, le-or-lt}
 use Rattle.numbering.specs.declared.Side.{Side}
 use Rattle.numbering.specs.Point.{at}
 use Rattle.numbering.specs.Parent.{numerator, isBorder, twos, parentLevel, parentIndex, update, border, parent}
-use Rattle.numbering.proofs.Parents.{border-low, border-high, inside, twos-le, update-same, update-other, parent-border, parent-inner}
+use Rattle.numbering.proofs.Twos.{twos-are}
+use Rattle.numbering.proofs.Parents.{border-low, border-high, Inside, inside, twos-le, update-same, update-other, parent-border, parent-inner}
 use Rattle.points.specs.Points.{eight, found}
 use Rattle.points.proofs.Eight.{eight-length, eight-at, eight-ext}
 use Rattle.points.proofs.PointTest.{shifted}
@@ -65,14 +67,21 @@ module _ (t : ℕ) (side : Side) (ls is : List ℕ) (m : ℕ) (e : m ≡ numerat
             ne-eqb (numerator side (at is t)) (2 ^ suc (at ls t)) (λ o. not-one (e ∙ o ∙ sym (shifted (at ls t) small))),
           )
 
-      pub zeros-le : at is t % 2 ≡ 1 → at is t < 2 ^ suc (at ls t) → trailingZeros 32 m ≤ at ls t
-      unfolding twos
-      zeros-le odd below =
-          rw e (twos-le (at ls t) (numerator side (at is t)) small (inside side (at ls t) (at is t) odd below no-border))
+      module _ (odd : at is t % 2 ≡ 1) (below : at is t < 2 ^ suc (at ls t)) where
+        between : Inside (at ls t) m
+        between = rw e (inside side (at ls t) (at is t) odd below no-border)
 
-      pub stepped : t < 8 → length ls ≡ 8 → length is ≡ 8 →
-          found (record { levels = set ls t (at ls t - trailingZeros 32 m); indices = set is t (m / 2 ^ trailingZeros 32 m) })
-          ≡ located (parent t side (at ls) (at is))
-      unfolding located parentLevel parentIndex twos
-      stepped h el ei =
-          rw (parent-inner t side (at ls) (at is) no-border, ← e, written ls t (at ls t - trailingZeros 32 m) el h, written is t (m / 2 ^ trailingZeros 32 m) ei h)
+        -- 32 bits hold the numerator.
+        zeros-are : trailingZeros 32 m ≡ twos m
+        zeros-are =
+            twos-are 32 m (between .pos) (omega (arith, between .below, pow-mono {i = suc (at ls t)} {j = 32} (omega arith)))
+
+        pub zeros-le : trailingZeros 32 m ≤ at ls t
+        zeros-le = omega (arith, zeros-are, twos-le (at ls t) m between)
+
+        pub stepped : t < 8 → length ls ≡ 8 → length is ≡ 8 →
+            found (record { levels = set ls t (at ls t - trailingZeros 32 m); indices = set is t (m / 2 ^ trailingZeros 32 m) })
+            ≡ located (parent t side (at ls) (at is))
+        unfolding located parentLevel parentIndex
+        stepped h el ei =
+            rw (parent-inner t side (at ls) (at is) no-border, ← e, zeros-are, written ls t (at ls t - twos m) el h, written is t (m / 2 ^ twos m) ei h)

@@ -10,9 +10,9 @@ use Rattle.refusals.specs.declared.Refusal.the-variants.{ListLength, NoPoint}
 use Rattle.refusals.specs.declared.Verdict.{Verdict}
 use Rattle.refusals.specs.Checks.{unless, _andThen_}
 use Rattle.numbering.specs.Point.{at, isPoint}
-use Rattle.numbering.specs.Inverse.{levelAt, indexAt}
 use Rattle.shapes.specs.declared.Shape.{Shape}
 use Rattle.shapes.specs.Shapes.{checkShape}
+use Rattle.grids.specs.Grids.{levelOn, indexOn}
 use Rattle.points.specs.declared.Point.{Point}
 use Rattle.points.specs.declared.Outcome.{Outcome}
 use Rattle.points.specs.declared.Outcome.the-variants.{Found, Refused}
@@ -36,9 +36,9 @@ eight f = f 0 ∷ f 1 ∷ f 2 ∷ f 3 ∷ f 4 ∷ f 5 ∷ f 6 ∷ f 7 ∷ []
 abbrev pub pointOf : (ℕ → ℕ) → (ℕ → ℕ) → Point
 pointOf l i = record { levels = eight l; indices = eight i }
 
--- Point number p of d axes and top level n, places past axis d zero.
-unfoldable pub pointAt : ℕ → ℕ → ℕ → Point
-pointAt d n p = pointOf (levelAt d n p) (indexAt d n p)
+-- Point number p of a shape, places past axis d zero.
+unfoldable pub pointAt : Shape → ℕ → Point
+pointAt s p = pointOf (levelOn s p) (indexOn s p)
 
 -- Where there is no point: zero for every axis.
 abbrev pub none : ℕ → ℕ

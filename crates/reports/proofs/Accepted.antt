@@ -6,21 +6,19 @@ use mathlib.Core.Bool.{true}
 use mathlib.Core.List.{List, _++_}
 use Prim.Native.Nat.{ℕ, _≤_, _<_}
 use native.Mathlib.Omega.{arith}
-use borrow.Author.Tests.{le-leb, eq-eqb}
 use lib.IntN.{ℤ}
 use lib.ListN.{length, take, drop, length-append}
 use lib.Seq.{take-append-seam}
+use borrow.Author.Tests.{le-leb, eq-eqb}
 use Rattle.refusals.specs.declared.Refusal.{Refusal}
 use Rattle.refusals.specs.declared.Verdict.the-variants as verdict
-use Rattle.numbering.specs.Count.{points}
+use Rattle.hierarchy.proofs.Values.{value-suc}
 use Rattle.shapes.specs.declared.Shape.{Shape}
-use Rattle.hierarchy.specs.Turns.{valueAt}
-use Rattle.hierarchy.specs.Sets.{everyAxis, tableOf}
-use Rattle.hierarchy.proofs.Values.{value-suc, values-length}
-use Rattle.zero_border.specs.ZeroBorder.{neighbour}
+use Rattle.shapes.specs.Shapes.{pointsOf}
 use Rattle.tables.specs.Tables.{firstFailing, rateAt, checkTable, checkRates}
 use Rattle.tables.proofs.FirstFailing.{first-none}
 use Rattle.whole.specs.Whole.{coefficientsOf, ratesToCoefficients}
+use Rattle.whole.proofs.Inverse.{coefficients-length}
 use Rattle.house_file.specs.declared.Opened.{Opened}
 use Rattle.house_file.specs.declared.Opened.the-variants.{Holds, Refused}
 use Rattle.house_file.specs.Reading.{Read, got, refused}
@@ -58,7 +56,7 @@ accepted-text : (places : ℕ) (c : Contents) (rest : List ℕ) (xs : List ℤ) 
     → ratesText (c .shape) (c .rates ++ xs) ≡ tableText (c .shape) (coefficientsOf (c .shape) (c .rates))
 unfolding ratesText ratesToCoefficients checkTable turnedText
 accepted-text places c rest xs h =
-    let n = points (c .shape .axes) (c .shape .level) in
+    let n = pointsOf (c .shape) in
     let count : length (c .rates) ≡ n = h .rated .many in
     let t : take n (c .rates ++ xs) ≡ c .rates = rw (sym count) (take-append-seam (c .rates) xs) in
     rw (t, h .shaped, eq-eqb (length (c .rates)) n count, rates-checked (c .rates) (h .rated .each))
@@ -94,16 +92,16 @@ module _ (bytes : List ℕ) (table : List ℤ) (all : length table ≡ 8192) whe
 
 -- A report has room in the buffer that the program keeps for it.
 reported-length : (read : Read Contents) → Got 8192 read → length (reported read) ≤ 352337
-unfolding tableText coefficientsOf
+unfolding tableText
 reported-length (got c rest) h =
-    let n = points (c .shape .axes) (c .shape .level) in
+    let n = pointsOf (c .shape) in
     let ys = coefficientsOf (c .shape) (c .rates) in
     omega (
       arith,
       length-append (heading (c .shape)) (pointLines 0 ys),
       heading-length (c .shape .axes) (c .shape .level) n,
       lines-length ys 0,
-      values-length n (tableOf (neighbour (c .shape .axes) (c .shape .level)) (c .shape .axes) everyAxis (valueAt (c .rates))),
+      coefficients-length (c .shape) (c .rates),
       h .room,
     )
 reported-length (refused r) h = omega (arith, refused-length r)

@@ -5,20 +5,19 @@ use mathlib.Core.Bool.{false}
 use mathlib.Core.List.{List}
 use Prim.Native.Nat.{ℕ, _<_}
 use native.Mathlib.Omega.{arith}
-use borrow.Author.Tests.{ne-eqb}
 use lib.Dec.{eqb}
 use lib.IntN.{ℤ}
 use lib.ListN.{length, take}
 use lib.Seq.{take-all}
+use borrow.Author.Tests.{ne-eqb}
 use Rattle.refusals.specs.declared.Refusal.{Refusal}
 use Rattle.refusals.specs.declared.Refusal.the-variants.{TableLength}
 use Rattle.refusals.specs.declared.Verdict.{Verdict}
 use Rattle.refusals.specs.declared.Verdict.the-variants as verdict
 use Rattle.refusals.specs.Checks.{answer}
-use Rattle.numbering.specs.Count.{points}
 use Rattle.shapes.specs.declared.Shape.{Shape}
 use Rattle.shapes.specs.declared.Counted.the-variants.{Points, Refused}
-use Rattle.shapes.specs.Shapes.{checkShape, counted}
+use Rattle.shapes.specs.Shapes.{checkShape, counted, pointsOf}
 use Rattle.states.specs.After.{Left, left}
 use Rattle.tables.specs.Tables.{checkTable}
 use Rattle.whole.specs.Whole.{ratesToCoefficients}
@@ -42,11 +41,11 @@ refused-why (verdict.Refused q) n r e = cc
 module _ (s : Shape) (count : ℕ) (e : counted s ≡ Points count) where
   pub counted-passed : checkShape s ≡ verdict.Passed
   unfolding counted
-  counted-passed = points-passed (checkShape s) (points (s .axes) (s .level)) count e
+  counted-passed = points-passed (checkShape s) (pointsOf s) count e
 
-  pub counted-points : count ≡ points (s .axes) (s .level)
+  pub counted-points : count ≡ pointsOf s
   unfolding counted
-  counted-points = points-same (checkShape s) (points (s .axes) (s .level)) count e
+  counted-points = points-same (checkShape s) (pointsOf s) count e
 
 -- Rates to coefficients refuses, or leaves the coefficients.
 pub refused-text : (s : Shape) (r : Refusal) (xs : List ℤ) (l : Left) → left (verdict.Refused r) xs ≡ l → refusedLine r ≡ leftText s l
@@ -60,14 +59,14 @@ passed-text s xs l e = ap (leftText s) e
 -- A shape that is refused.
 pub shape-refused : (s : Shape) (r : Refusal) (xs : List ℤ) → counted s ≡ Refused r → refusedLine r ≡ ratesText s xs
 unfolding ratesText ratesToCoefficients checkTable turnedText counted
-shape-refused s r xs e = rw (refused-why (checkShape s) (points (s .axes) (s .level)) r e)
+shape-refused s r xs e = rw (refused-why (checkShape s) (pointsOf s) r e)
 
 -- A table of too few places.
-pub short-refused : (s : Shape) (xs : List ℤ) → checkShape s ≡ verdict.Passed → length xs < points (s .axes) (s .level) → refusedLine TableLength ≡ ratesText s xs
+pub short-refused : (s : Shape) (xs : List ℤ) → checkShape s ≡ verdict.Passed → length xs < pointsOf s → refusedLine TableLength ≡ ratesText s xs
 unfolding ratesText ratesToCoefficients checkTable turnedText
 short-refused s xs e few =
-    let t : take (points (s .axes) (s .level)) xs ≡ xs = take-all (points (s .axes) (s .level)) xs (omega arith) in
-    let f : eqb (length xs) (points (s .axes) (s .level)) ≡ false = ne-eqb (length xs) (points (s .axes) (s .level)) (λ q. omega arith) in
+    let t : take (pointsOf s) xs ≡ xs = take-all (pointsOf s) xs (omega arith) in
+    let f : eqb (length xs) (pointsOf s) ≡ false = ne-eqb (length xs) (pointsOf s) (λ q. omega arith) in
     rw (t, e, f)
 
 -- The places counted.

@@ -8,8 +8,8 @@ use lib.ListN.{length, take}
 use lib.Seq.{sets}
 use Rattle.refusals.specs.declared.Verdict.{Verdict}
 use Rattle.refusals.specs.declared.Verdict.the-variants.{Passed, Refused}
-use Rattle.numbering.specs.Count.{points}
 use Rattle.shapes.specs.declared.Shape.{Shape}
+use Rattle.shapes.specs.Shapes.{pointsOf}
 use Rattle.states.specs.After.{Left}
 use Rattle.whole.specs.Whole.{ratesToCoefficients}
 use Rattle.reports.specs.Text.{refusedLine}
@@ -30,4 +30,4 @@ leftText s l = turnedText s (l .verdict) (l .table)
 
 -- The text of the rates that stand in the first N places of a buffer.
 unfoldable pub ratesText : Shape → List ℤ → List ℕ
-ratesText s xs = leftText s (ratesToCoefficients s (take (points (s .axes) (s .level)) xs))
+ratesText s xs = leftText s (ratesToCoefficients s (take (pointsOf s) xs))

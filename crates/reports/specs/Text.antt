@@ -7,8 +7,8 @@ use lib.IntN.{ℤ, pos, negsuc}
 use Rattle.naturals.specs.Test.{if_then_else_}
 use Rattle.refusals.specs.declared.Refusal.{Refusal}
 use Rattle.refusals.specs.Refusals.{numberOf}
-use Rattle.numbering.specs.Count.{points}
 use Rattle.shapes.specs.declared.Shape.{Shape}
+use Rattle.shapes.specs.Shapes.{pointsOf}
 
 -- A digit from 0 to 9.
 abbrev pub digit : ℕ → ℕ
@@ -60,7 +60,7 @@ headingOf d n count = named axesWord d ++ named levelWord n ++ named pointsWord 
 
 -- The first line of a shape.
 abbrev pub heading : Shape → List ℕ
-heading s = headingOf (s .axes) (s .level) (points (s .axes) (s .level))
+heading s = headingOf (s .axes) (s .level) (pointsOf s)
 
 -- A line for a point: its number and its coefficient.
 unfoldable pub pointLine : ℕ → ℤ → List ℕ

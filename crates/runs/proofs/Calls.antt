@@ -4,7 +4,7 @@
 use mathlib.Core.Path.{_≡_, ap, sym, _∙_}
 use mathlib.Core.Bool.{true, false, _&&_}
 use mathlib.Core.List.{List}
-use Prim.Native.Nat.{ℕ, suc, _+_, _-_, _^_, _≤_, _<_}
+use Prim.Native.Nat.{ℕ, _+_, _-_, _^_, _≤_, _<_}
 use native.Mathlib.Omega.{arith}
 use lib.Dec.{leb}
 use lib.IntN.{ℤ, pos, natAbs}
@@ -16,7 +16,6 @@ use Rattle.refusals.specs.declared.Refusal.{Refusal}
 use Rattle.refusals.specs.declared.Refusal.the-variants.{Axis, AlreadyForward, NotForward}
 use Rattle.refusals.specs.declared.Verdict.the-variants as verdict
 use Rattle.refusals.specs.Checks.{unless, answer}
-use Rattle.numbering.specs.Count.{points}
 use Rattle.hierarchy.specs.declared.Turn.{Turn}
 use Rattle.hierarchy.specs.declared.Turn.the-variants.{Forward, Back}
 use Rattle.hierarchy.specs.Turns.{valueAt, valuesOf, forward, accepted, backward}
@@ -26,11 +25,11 @@ use Rattle.hierarchy.proofs.Closed.{With}
 use Rattle.hierarchy.proofs.Values.{values-length, value-of-values}
 use Rattle.hierarchy.proofs.Steps.{table-zero, table-past, forward-table, forward-accepted, back-table}
 use Rattle.hierarchy.proofs.Work.{put-same, put-other}
-use Rattle.zero_border.specs.ZeroBorder.{neighbour, depth}
-use Rattle.zero_border.proofs.Instance.{zero-border, depth-le}
 use Rattle.shapes.specs.declared.Shape.{Shape}
-use Rattle.shapes.specs.Shapes.{checkAxis}
+use Rattle.shapes.specs.Shapes.{pointsOf, checkAxis}
 use Rattle.shapes.proofs.Checked.{InRange, in-range-passed}
+use Rattle.grids.proofs.Instance.{grid, shallow}
+use Rattle.grids.specs.Grids.{neighbour, depth, height}
 use Rattle.states.specs.declared.State.{State}
 use Rattle.states.specs.States.{has, checkContents, checkState}
 use Rattle.states.proofs.Bits.{has-marked-same, has-marked-other, has-cleared-same, has-cleared-other, marked-small, cleared-small}
@@ -50,12 +49,12 @@ pub record Rates (m : ℕ) (r : ℕ → ℤ) : Type 0 where
   pub past : (p : ℕ) → m < p → r p ≡ pos 0
   pub small : (p : ℕ) → natAbs (r p) ≤ 2 ^ 31
 
-module _ (s : Shape) (range : InRange s) (r : ℕ → ℤ) (rates : Rates (points (s .axes) (s .level)) r) where
+module _ (s : Shape) (range : InRange s) (r : ℕ → ℤ) (rates : Rates (pointsOf s) r) where
   -- The bits are the set, and the table is the table of the set.
   pub record Agrees (set : Axes) (byte : ℕ) (xs : List ℤ) : Type 0 where
     pub few : byte < 2 ^ (s .axes)
     pub bits : (t : ℕ) → has byte t ≡ set t
-    pub table : xs ≡ valuesOf (points (s .axes) (s .level)) (tableOf (neighbour (s .axes) (s .level)) (s .axes) set r)
+    pub table : xs ≡ valuesOf (pointsOf s) (tableOf (neighbour s) (s .axes) set r)
 
   -- What one call leaves, beside the model.
   pub record Step (call : Turn) (set : Axes) (byte : ℕ) (xs : List ℤ) : Type 0 where
@@ -101,23 +100,23 @@ module _ (s : Shape) (range : InRange s) (r : ℕ → ℤ) (rates : Rates (point
       rw (
         in-range-passed s range,
         lt-ltb byte (2 ^ (s .axes)) (a .few),
-        eq-eqb (length xs) (points (s .axes) (s .level)) (ap length (a .table) ∙ values-length (points (s .axes) (s .level)) _),
+        eq-eqb (length xs) (pointsOf s) (ap length (a .table) ∙ values-length (pointsOf s) _),
       )
 
   -- The table as a function of codes.
-  holds : (set : Axes) (byte : ℕ) (xs : List ℤ) → Agrees set byte xs → valueAt xs ≡ tableOf (neighbour (s .axes) (s .level)) (s .axes) set r
+  holds : (set : Axes) (byte : ℕ) (xs : List ℤ) → Agrees set byte xs → valueAt xs ≡ tableOf (neighbour s) (s .axes) set r
   holds set byte xs a =
       ap valueAt (a .table)
-      ∙ value-of-values (points (s .axes) (s .level)) (tableOf (neighbour (s .axes) (s .level)) (s .axes) set r)
-      (table-zero (points (s .axes) (s .level)) (neighbour (s .axes) (s .level)) (depth (s .axes) (s .level)) (zero-border (s .axes) (s .level) (range .top)) (s .axes) set r (rates .border))
-      (λ p h. table-past (points (s .axes) (s .level)) (neighbour (s .axes) (s .level)) (depth (s .axes) (s .level)) (zero-border (s .axes) (s .level) (range .top)) (s .axes) set r (rates .border) p h (rates .past p h))
+      ∙ value-of-values (pointsOf s) (tableOf (neighbour s) (s .axes) set r)
+      (table-zero (pointsOf s) (neighbour s) (depth s) (grid s) (s .axes) set r (rates .border))
+      (λ p h. table-past (pointsOf s) (neighbour s) (depth s) (grid s) (s .axes) set r (rates .border) p h (rates .past p h))
 
   -- A set with axis t, and the set without it.
-  joined : (set : Axes) (t : ℕ) → set t ≡ false → With (neighbour (s .axes) (s .level)) t set (put set t true)
+  joined : (set : Axes) (t : ℕ) → set t ≡ false → With (neighbour s) t set (put set t true)
   joined set t e =
       record { out = e; inside = put-same set t true; same = λ u ne. sym (put-other set t true u ne) }
 
-  parted : (set : Axes) (t : ℕ) → set t ≡ true → With (neighbour (s .axes) (s .level)) t (put set t false) set
+  parted : (set : Axes) (t : ℕ) → set t ≡ true → With (neighbour s) t (put set t false) set
   parted set t e =
       record { out = put-same set t false; inside = e; same = λ u ne. put-other set t false u ne }
 
@@ -132,18 +131,18 @@ module _ (s : Shape) (range : InRange s) (r : ℕ → ℤ) (rates : Rates (point
   -- ---- forward
 
   forward-table-of : (set : Axes) (byte : ℕ) (xs : List ℤ) (t : ℕ) → Agrees set byte xs → t < s .axes → set t ≡ false →
-      turnedTable s t xs ≡ valuesOf (points (s .axes) (s .level)) (tableOf (neighbour (s .axes) (s .level)) (s .axes) (put set t true) r)
+      turnedTable s t xs ≡ valuesOf (pointsOf s) (tableOf (neighbour s) (s .axes) (put set t true) r)
   unfolding turnedTable
   forward-table-of set byte xs t a h e =
-      ap (λ (f : ℕ → ℤ). valuesOf (points (s .axes) (s .level)) (forward (neighbour (s .axes) (s .level)) t f)) (holds set byte xs a)
-      ∙ ap (valuesOf (points (s .axes) (s .level)))
-      (forward-table (points (s .axes) (s .level)) (neighbour (s .axes) (s .level)) (depth (s .axes) (s .level)) (zero-border (s .axes) (s .level) (range .top)) (s .axes) t r h set (put set t true) (joined set t e))
+      ap (λ (f : ℕ → ℤ). valuesOf (pointsOf s) (forward (neighbour s) t f)) (holds set byte xs a)
+      ∙ ap (valuesOf (pointsOf s))
+      (forward-table (pointsOf s) (neighbour s) (depth s) (grid s) (s .axes) t r h set (put set t true) (joined set t e))
 
   forward-passes : (set : Axes) (byte : ℕ) (xs : List ℤ) (t : ℕ) → Agrees set byte xs → t < s .axes → set t ≡ false → isAccepted s t xs ≡ true
   unfolding isAccepted
   forward-passes set byte xs t a h e =
-      ap (accepted (neighbour (s .axes) (s .level)) (points (s .axes) (s .level)) t) (holds set byte xs a)
-      ∙ forward-accepted (points (s .axes) (s .level)) (neighbour (s .axes) (s .level)) (depth (s .axes) (s .level)) (zero-border (s .axes) (s .level) (range .top)) (s .axes) t r h set (put set t true) (joined set t e) (range .high) (rates .small)
+      ap (accepted (neighbour s) (pointsOf s) t) (holds set byte xs a)
+      ∙ forward-accepted (pointsOf s) (neighbour s) (depth s) (grid s) (s .axes) t r h set (put set t true) (joined set t e) (range .high) (rates .small)
 
   marked-agrees : (set : Axes) (byte : ℕ) (xs : List ℤ) (t : ℕ) → Agrees set byte xs → t < s .axes → set t ≡ false →
       Agrees (put set t true) (byte + 2 ^ t) (turnedTable s t xs)
@@ -188,13 +187,13 @@ module _ (s : Shape) (range : InRange s) (r : ℕ → ℤ) (rates : Rates (point
   -- ---- back
 
   back-table-of : (set : Axes) (byte : ℕ) (xs : List ℤ) (t : ℕ) → Agrees set byte xs → t < s .axes → set t ≡ true →
-      formerTable s t xs ≡ valuesOf (points (s .axes) (s .level)) (tableOf (neighbour (s .axes) (s .level)) (s .axes) (put set t false) r)
+      formerTable s t xs ≡ valuesOf (pointsOf s) (tableOf (neighbour s) (s .axes) (put set t false) r)
   unfolding formerTable
   back-table-of set byte xs t a h e =
-      ap (λ (f : ℕ → ℤ). valuesOf (points (s .axes) (s .level)) (backward (neighbour (s .axes) (s .level)) (suc (s .level)) t f)) (holds set byte xs a)
-      ∙ ap (valuesOf (points (s .axes) (s .level)))
-      (back-table (points (s .axes) (s .level)) (neighbour (s .axes) (s .level)) (depth (s .axes) (s .level)) (zero-border (s .axes) (s .level) (range .top)) (s .axes) t r h (put set t false) set (parted set t e) (suc (s .level)) (rates .border)
-      (λ p. omega (arith, depth-le (s .axes) (s .level) t p)))
+      ap (λ (f : ℕ → ℤ). valuesOf (pointsOf s) (backward (neighbour s) (height s) t f)) (holds set byte xs a)
+      ∙ ap (valuesOf (pointsOf s))
+      (back-table (pointsOf s) (neighbour s) (depth s) (grid s) (s .axes) t r h (put set t false) set (parted set t e) (height s) (rates .border)
+      (shallow s t))
 
   cleared-agrees : (set : Axes) (byte : ℕ) (xs : List ℤ) (t : ℕ) → Agrees set byte xs → t < s .axes → set t ≡ true →
       Agrees (put set t false) (byte - 2 ^ t) (formerTable s t xs)

@@ -6,20 +6,20 @@ use mathlib.Core.List.{List, [], _∷_}
 use Prim.Native.Nat.{ℕ, _^_, _<_}
 use lib.IntN.{ℤ}
 use lib.Pow.{pow-pos}
-use Rattle.numbering.specs.Count.{points}
 use Rattle.hierarchy.specs.declared.Turn.{Turn}
 use Rattle.hierarchy.specs.Turns.{valuesOf}
 use Rattle.hierarchy.specs.Sets.{tableOf, noAxis}
-use Rattle.zero_border.specs.ZeroBorder.{neighbour}
 use Rattle.shapes.specs.declared.Shape.{Shape}
+use Rattle.shapes.specs.Shapes.{pointsOf}
 use Rattle.shapes.proofs.Checked.{InRange}
+use Rattle.grids.specs.Grids.{neighbour}
 use Rattle.states.specs.States.{has}
 use Rattle.states.proofs.Bits.{no-bits}
 use Rattle.runs.specs.Model.{Axes, modelSet, modelAnswers, modelAfter}
 use Rattle.runs.specs.Runs.{carriedOut, Ran, run}
 use Rattle.runs.proofs.Calls.{stateOf, Rates, Agrees, one-call}
 
-module _ (s : Shape) (range : InRange s) (r : ℕ → ℤ) (rates : Rates (points (s .axes) (s .level)) r) where
+module _ (s : Shape) (range : InRange s) (r : ℕ → ℤ) (rates : Rates (pointsOf s) r) where
   -- What document 01 says of a run from a state and a table that agree with a set.
   pub record AsModel (calls : List Turn) (set : Axes) (ran : Ran) : Type 0 where
     pub answers : ran .answers ≡ modelAnswers (s .axes) set calls
@@ -27,7 +27,7 @@ module _ (s : Shape) (range : InRange s) (r : ℕ → ℤ) (rates : Rates (point
     pub few : ran .state .forward < 2 ^ (s .axes)
     pub bits : (t : ℕ) → has (ran .state .forward) t ≡ modelAfter (s .axes) set calls t
     pub table :
-        ran .table ≡ valuesOf (points (s .axes) (s .level)) (tableOf (neighbour (s .axes) (s .level)) (s .axes) (modelAfter (s .axes) set calls) r)
+        ran .table ≡ valuesOf (pointsOf s) (tableOf (neighbour s) (s .axes) (modelAfter (s .axes) set calls) r)
 
   pub run-from : (calls : List Turn) (set : Axes) (byte : ℕ) (xs : List ℤ) → Agrees s range r rates set byte xs → AsModel calls set (run calls (stateOf s byte) xs)
   unfolding run modelAnswers modelAfter
@@ -48,5 +48,5 @@ module _ (s : Shape) (range : InRange s) (r : ℕ → ℤ) (rates : Rates (point
   -- From the state and the table that a load leaves: no axis forward, and the table of the empty set.
   pub demand-3 : (calls : List Turn) →
       AsModel calls noAxis
-      (run calls (stateOf s 0) (valuesOf (points (s .axes) (s .level)) (tableOf (neighbour (s .axes) (s .level)) (s .axes) noAxis r)))
+      (run calls (stateOf s 0) (valuesOf (pointsOf s) (tableOf (neighbour s) (s .axes) noAxis r)))
   demand-3 calls = run-from calls noAxis 0 _ (record { few = pow-pos (s .axes); bits = no-bits; table = refl })

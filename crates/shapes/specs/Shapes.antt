@@ -11,13 +11,21 @@ use Rattle.shapes.specs.declared.Shape.{Shape}
 use Rattle.shapes.specs.declared.Counted.{Counted}
 use Rattle.shapes.specs.declared.Counted.the-variants.{Points, Refused}
 
+-- The shape of d axes and top level n: one sparse table with a zero border (every shape is such today).
+abbrev pub sparse : ℕ → ℕ → Shape
+sparse d n = record { axes = d; level = n }
+
 -- A shape has 1 to 8 axes and a top level of at most 8.
 unfoldable pub checkShape : Shape → Verdict
 checkShape s = unless (leb 1 (s .axes) && leb (s .axes) 8) Axes andThen unless (leb (s .level) 8) Level
 
+-- N, the number of points of a shape.
+unfoldable pub pointsOf : Shape → ℕ
+pointsOf s = points (s .axes) (s .level)
+
 -- The count of the points of a shape.
 unfoldable pub counted : Shape → Counted
-counted s = answer Refused (checkShape s) (Points (points (s .axes) (s .level)))
+counted s = answer Refused (checkShape s) (Points (pointsOf s))
 
 -- An axis of a shape is one of 1 to d.
 unfoldable pub checkAxis : Shape → ℕ → Verdict

@@ -3,8 +3,9 @@ use refusals::Refusal;
 use refusals::Verdict;
 ghost use mathlib.Core.Path.{_≡_};
 ghost use Prim.Native.Nat.{_≤_};
+ghost use Rattle.refusals.specs.declared.Verdict.the-variants.{Passed};
 ghost use Rattle.numbering.specs.Count.{vectors, start};
-ghost use Rattle.shapes.specs.Shapes.{checkShape, checkAxis, counted};
+ghost use Rattle.shapes.specs.Shapes.{checkShape, checkAxis, pointsOf, counted};
 ghost use Rattle.shapes.specs.Rows.{Binomials};
 
 // A number of axes d and a top level n (document 01: a shape).
@@ -92,13 +93,13 @@ pub fn start_of(rows: &[[u16; 9]; 8], axes: u32, sum: u32) -> u64
     total
 }
 
-// How many points of these axes have a level sum below this one.
-pub fn first_number(axes: u32, sum: u32) -> u64
-    requires { ⌜ (1 ≤ axes) × (axes ≤ 8) × (sum ≤ 9) ⌝ }
-    ensures { λ r. ⌜ r ≡ start axes sum ⌝ }
+// How many points a shape has that the check passes.
+pub fn points_of(shape: Shape) -> u64
+    requires { ⌜ checkShape shape ≡ Passed ⌝ }
+    ensures { λ r. ⌜ r ≡ pointsOf shape ⌝ }
 {
     let rows = rows();
-    start_of(&rows, axes, sum)
+    start_of(&rows, shape.axes, shape.level + 1)
 }
 
 // How many points a shape has.
@@ -107,6 +108,6 @@ pub fn count(shape: Shape) -> Counted
 {
     match check_shape(shape) {
         Verdict::Refused(r) => Counted::Refused(r),
-        Verdict::Passed => Counted::Points(first_number(shape.axes, shape.level + 1)),
+        Verdict::Passed => Counted::Points(points_of(shape)),
     }
 }

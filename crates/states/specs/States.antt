@@ -6,8 +6,7 @@ use lib.Dec.{ltb, eqb}
 use Rattle.refusals.specs.declared.Refusal.the-variants.{StrayBit, TableLength}
 use Rattle.refusals.specs.declared.Verdict.{Verdict}
 use Rattle.refusals.specs.Checks.{unless, _andThen_}
-use Rattle.numbering.specs.Count.{points}
-use Rattle.shapes.specs.Shapes.{checkShape}
+use Rattle.shapes.specs.Shapes.{checkShape, pointsOf}
 use Rattle.states.specs.declared.State.{State}
 
 -- The set has place t (axis t + 1): bit t of the byte.
@@ -25,7 +24,7 @@ cleared s t = record { shape = s .shape; forward = s .forward - 2 ^ t }
 unfoldable pub checkContents : State → ℕ → Verdict
 checkContents s places =
     unless (ltb (s .forward) (2 ^ (s .shape .axes))) StrayBit
-    andThen unless (eqb places (points (s .shape .axes) (s .shape .level))) TableLength
+    andThen unless (eqb places (pointsOf (s .shape))) TableLength
 
 -- A state and a table of that many places: refused with 1, 2, 14 or 3.
 unfoldable pub checkState : State → ℕ → Verdict

@@ -3,8 +3,10 @@ use refusals::Refusal;
 use refusals::Verdict;
 use shapes::Shape;
 ghost use mathlib.Core.Path.{_≡_};
-ghost use Prim.Native.Nat.{_≤_, _<_, _+_, _-_, _^_};
 ghost use mathlib.Core.Bool.{true, false};
+ghost use Prim.Native.Nat.{_<_, _-_, _^_};
+ghost use Rattle.refusals.specs.declared.Verdict.the-variants.{Passed};
+ghost use Rattle.shapes.specs.Shapes.{checkShape};
 ghost use Rattle.states.specs.States.{has, marked, cleared, checkContents, checkState};
 
 // Bit t − 1 of `forward` says that axis t is forward.
@@ -55,17 +57,15 @@ pub fn without_axis(state: State, t: u32) -> State
 
 // Refused with 14 or 3.
 fn check_contents(state: State, places: usize) -> Verdict
-    requires { ⌜ (1 ≤ state .shape .axes) × (state .shape .axes ≤ 8) × (state .shape .level ≤ 8) ⌝ }
+    requires { ⌜ checkShape (state .shape) ≡ Passed ⌝ }
     ensures { λ r. ⌜ r ≡ checkContents state places ⌝ }
 {
     let shape = state.shape;
-    let axes = shape.axes;
-    let level = shape.level;
     let forward = state.forward as u32;
-    if 1 << axes <= forward {
+    if 1 << shape.axes <= forward {
         return Verdict::Refused(Refusal::StrayBit);
     }
-    if places as u64 != shapes::first_number(axes, level + 1) {
+    if places as u64 != shapes::points_of(shape) {
         return Verdict::Refused(Refusal::TableLength);
     }
     Verdict::Passed

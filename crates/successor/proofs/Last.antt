@@ -17,6 +17,7 @@ use Rattle.numbering.specs.Number.{number}
 use Rattle.numbering.proofs.Numbering.{points-is}
 use Rattle.numbering.proofs.Position.{half}
 use Rattle.numbering.proofs.Succession.{last-position, rank-last, sum-last, number-last}
+use Rattle.shapes.specs.Shapes.{sparse}
 use Rattle.points.specs.declared.Outcome.the-variants.{End}
 use Rattle.points.specs.Points.{nowhere}
 use Rattle.successor.specs.Steps.{PointIn, StepsIndices}
@@ -46,7 +47,7 @@ module _ {n k : ℕ} {ls is : List ℕ} (p : PointIn (suc k) n ls is) (top : at 
       ))
       (λ ne. omega (arith, odd, below, ap (λ (u : ℕ). 2 ^ u) (zeros t (omega arith)), pow-suc 2 (at ls t)))
 
-  last-number : nowhere End ≡ after (suc k) n (number (suc k) (at ls) (at is))
+  last-number : nowhere End ≡ after (sparse (suc k) n) (number (suc k) (at ls) (at is))
   last-number =
       let all : sumTo (at ls) (suc k) ≡ n = sum-last (at ls) k zeros ∙ top in
       ended (suc k) n _
@@ -58,7 +59,7 @@ module _ {n k : ℕ} {ls is : List ℕ} (p : PointIn (suc k) n ls is) (top : at 
       ))
 
 pub last-point : (d : ℕ) {n : ℕ} {ls is : List ℕ} → 1 ≤ d → PointIn d n ls is → at ls (d - 1) ≡ n → 2 ^ suc n ≤ at is (d - 1) + 2 →
-    nowhere End ≡ after d n (number d (at ls) (at is))
+    nowhere End ≡ after (sparse d n) (number d (at ls) (at is))
 last-point zero low p top over = absurd (omega arith)
 last-point (suc k) {n} {ls} {is} low p top over =
     let here : suc k - 1 ≡ k = omega arith in

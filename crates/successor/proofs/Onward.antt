@@ -16,6 +16,7 @@ use Rattle.numbering.specs.Point.{at, IsPoint}
 use Rattle.numbering.specs.Number.{number, rank}
 use Rattle.numbering.proofs.Numbering.{number-is}
 use Rattle.numbering.proofs.Succession.{first-position, sum-first, rank-first, number-last, number-first}
+use Rattle.shapes.specs.Shapes.{sparse}
 use Rattle.successor.specs.Steps.{PointIn, StepsIndices, StepsLevels, reached}
 use Rattle.successor.specs.Successor.{after}
 use Rattle.successor.proofs.Reached.{reaches}
@@ -44,7 +45,7 @@ pub small-point : {d n : ℕ} {ls is : List ℕ} → PointIn d n ls is → n ≤
 small-point p small = record { sum = omega (arith, p .point .sum); odd = p .point .odd; below = p .point .below }
 
 module _ {d n : ℕ} {ls is js : List ℕ} {past : Bool} (p : PointIn d n ls is) (turned : StepsIndices d ls is past js) where
-  pub next-index : past ≡ false → reached ls js ≡ after d n (number d (at ls) (at is))
+  pub next-index : past ≡ false → reached ls js ≡ after (sparse d n) (number d (at ls) (at is))
   next-index e =
       let point : PointIn d n ls js = record {
         long-levels = p .long-levels;
@@ -72,7 +73,7 @@ module _ {d n : ℕ} {ls is js : List ℕ} {past : Bool} (p : PointIn d n ls is)
       }
 
   pub next-vector : {top : Bool} {ms : List ℕ} → past ≡ true → StepsLevels d ls top ms → top ≡ false →
-      reached ms js ≡ after d n (number d (at ls) (at is))
+      reached ms js ≡ after (sparse d n) (number d (at ls) (at is))
   next-vector {top} {ms} e raised f =
       reaches
       (ones-in e (raised .long) (omega (arith, raised .sum f, p .point .sum)) (λ t h. raised .rest t h ∙ p .no-level t h)) _
@@ -91,7 +92,7 @@ module _ {d n : ℕ} {ls is js : List ℕ} {past : Bool} (p : PointIn d n ls is)
     last-of-sum : suc (number d (at ls) (at is)) ≡ start d (suc (sumTo (at ls) d))
     last-of-sum = number-last d (at ls) (at is) (raised .last f) (turned .last e)
 
-    pub next-sum : (v : ℕ) → v ≡ suc (at ls (d - 1)) → v ≤ n → reached (first v) js ≡ after d n (number d (at ls) (at is))
+    pub next-sum : (v : ℕ) → v ≡ suc (at ls (d - 1)) → v ≤ n → reached (first v) js ≡ after (sparse d n) (number d (at ls) (at is))
     next-sum v up fits =
         let all : sumTo (at (first v)) d ≡ v =
         ap (sumTo (at (first v))) (omega arith) ∙ sum-first (at (first v)) (d - 1) (λ t pos h. first-zeros v t pos) in

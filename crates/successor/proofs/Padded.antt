@@ -10,6 +10,8 @@ use Rattle.naturals.proofs.Cases.{le-or-lt}
 use Rattle.numbering.specs.Point.{at}
 use Rattle.numbering.specs.Number.{number}
 use Rattle.shapes.specs.declared.Shape.{Shape}
+use Rattle.grids.specs.Grids.{numberOf}
+use Rattle.grids.proofs.Sparse.{number-sparse}
 use Rattle.points.specs.Points.{eight}
 use Rattle.points.proofs.Eight.{eight-at, eight-length}
 use Rattle.points.proofs.Passed.{Passes}
@@ -49,5 +51,5 @@ module _ {s : Shape} {ls is : List ℕ} (p : Passes s ls is) where
         no-index = λ t h. index-at t ∙ past-end is t (omega (arith, p .indices));
       }
 
-  pub padded-number : number (s .axes) (at (eight (at ls))) (at (eight (at is))) ≡ number (s .axes) (at ls) (at is)
-  padded-number = ap₂ (number (s .axes)) (fun-ext level-at) (fun-ext index-at)
+  pub padded-number : number (s .axes) (at (eight (at ls))) (at (eight (at is))) ≡ numberOf s (at ls) (at is)
+  padded-number = ap₂ (number (s .axes)) (fun-ext level-at) (fun-ext index-at) ∙ sym (number-sparse (s .axes) (s .level) (at ls) (at is))

@@ -2,49 +2,43 @@
 -- And after the last point of the top level sum there is none, since its number is N − 1.
 -- Assumes nothing.
 use mathlib.Core.List.{List}
-use mathlib.Core.Path.{_≡_, ap₂, sym, _∙_}
+use mathlib.Core.Path.{_≡_, refl, ap₂, sym, _∙_}
 use Prim.Native.Nat.{ℕ, suc}
 use native.Mathlib.Omega.{arith}
 use borrow.Author.Tests.{lt-ltb, le-ltb}
-use Rattle.naturals.proofs.Cases.{le-or-lt}
 use Rattle.numbering.specs.Count.{points}
 use Rattle.numbering.specs.Point.{at}
 use Rattle.numbering.specs.Number.{number}
-use Rattle.numbering.specs.Inverse.{levelAt, indexAt}
-use Rattle.numbering.proofs.Numbering.{number-lt, level-of-number, index-of-number, level-zero, index-zero}
+use Rattle.shapes.specs.Shapes.{sparse, pointsOf}
+use Rattle.grids.specs.Grids.{numberOf}
+use Rattle.grids.proofs.Sparse.{points-sparse, number-sparse}
+use Rattle.grids.proofs.Points.{PointOf, number-lt, levels-again, indices-again}
 use Rattle.points.specs.declared.Outcome.the-variants.{End}
-use Rattle.points.specs.Points.{eight, pointAt, nowhere}
+use Rattle.points.specs.Points.{pointAt, nowhere}
 use Rattle.points.proofs.Eight.{eight-ext}
 use Rattle.successor.specs.Steps.{PointIn, reached}
 use Rattle.successor.specs.Successor.{after}
 
 module _ {d n : ℕ} {ls is : List ℕ} (p : PointIn d n ls is) where
-  levels-of : ls ≡ eight (levelAt d n (number d (at ls) (at is)))
-  levels-of =
-      eight-ext (levelAt d n (number d (at ls) (at is))) ls (p .long-levels)
-      (λ t h.
-      le-or-lt d t
-      (λ le. p .no-level t le ∙ sym (level-zero d n (number d (at ls) (at is)) t le))
-      (λ lt. sym (level-of-number (p .point) t lt)))
-
-  indices-of : is ≡ eight (indexAt d n (number d (at ls) (at is)))
-  indices-of =
-      eight-ext (indexAt d n (number d (at ls) (at is))) is (p .long-indices)
-      (λ t h.
-      le-or-lt d t
-      (λ le. p .no-index t le ∙ sym (index-zero d n (number d (at ls) (at is)) t le))
-      (λ lt. sym (index-of-number (p .point) t lt)))
+  there : PointOf (sparse d n) (at ls) (at is)
+  there = record { point = p .point; levels = p .no-level; indices = p .no-index }
 
   -- A point is the point of its number.
-  pub point-at : pointAt d n (number d (at ls) (at is)) ≡ record { levels = ls; indices = is }
+  point-at : pointAt (sparse d n) (numberOf (sparse d n) (at ls) (at is)) ≡ record { levels = ls; indices = is }
   unfolding pointAt
-  point-at = sym (ap₂ (λ (x y : List ℕ). record { levels = x; indices = y }) levels-of indices-of)
+  point-at =
+      rw (levels-again (sparse d n) there, indices-again (sparse d n) there)
+      (sym
+      (ap₂ (λ (x y : List ℕ). record { levels = x; indices = y })
+      (eight-ext (at ls) ls (p .long-levels) (λ t h. refl))
+      (eight-ext (at is) is (p .long-indices) (λ t h. refl))))
 
-  pub reaches : (q : ℕ) → number d (at ls) (at is) ≡ suc q → reached ls is ≡ after d n q
+  pub reaches : (q : ℕ) → number d (at ls) (at is) ≡ suc q → reached ls is ≡ after (sparse d n) q
   unfolding after
   reaches q e =
-      sym (rw (lt-ltb (suc q) (points d n) (omega (arith, number-lt (p .point), e)), ← e, point-at))
+      let number-is = number-sparse d n (at ls) (at is) ∙ e in
+      sym (rw (lt-ltb (suc q) (pointsOf (sparse d n)) (omega (arith, number-lt (sparse d n) there, number-is)), ← number-is, point-at))
 
-pub ended : (d n q : ℕ) → suc q ≡ points d n → nowhere End ≡ after d n q
+pub ended : (d n q : ℕ) → suc q ≡ points d n → nowhere End ≡ after (sparse d n) q
 unfolding after
-ended d n q e = sym (rw (le-ltb (suc q) (points d n) (omega arith)))
+ended d n q e = sym (rw (le-ltb (suc q) (pointsOf (sparse d n)) (omega (arith, points-sparse d n))))

@@ -8,13 +8,13 @@ use mathlib.Core.Path.{_≡_, refl, ap, sym, _∙_}
 use Prim.Native.Nat.{ℕ, suc}
 use lib.Dec.{ltb}
 use lib.ListN.{replicate}
+use Rattle.naturals.specs.Test.{if_then_else_}
 use Rattle.refusals.specs.declared.Refusal.{Refusal}
 use Rattle.refusals.specs.declared.Verdict.{Verdict}
 use Rattle.refusals.specs.declared.Verdict.the-variants as verdict
 use Rattle.refusals.specs.Checks.{answer}
-use Rattle.naturals.specs.Test.{if_then_else_}
-use Rattle.numbering.specs.Count.{points}
 use Rattle.shapes.specs.declared.Shape.{Shape}
+use Rattle.shapes.specs.Shapes.{pointsOf}
 use Rattle.points.specs.declared.Located.{Located}
 use Rattle.points.specs.declared.Outcome.{Outcome}
 use Rattle.points.specs.declared.Outcome.the-variants.{Found, End, Border, Refused}
@@ -73,9 +73,9 @@ either : (b : Bool) (p : Point) → Plain (if b then found p else nowhere End)
 either true p = inl refl
 either false p = inr refl
 
-pub after-plain : (d n p : ℕ) → Plain (after d n p)
+pub after-plain : (s : Shape) (p : ℕ) → Plain (after s p)
 unfolding after
-after-plain d n p = either (ltb (suc p) (points d n)) (pointAt d n (suc p))
+after-plain s p = either (ltb (suc p) (pointsOf s)) (pointAt s (suc p))
 
 answered : (v : Verdict) (l : Located) → Plain l → Plain (answer refused v l)
 answered verdict.Passed l h = h
@@ -83,4 +83,4 @@ answered (verdict.Refused r) l h = inr refl
 
 pub successor-plain : (s : Shape) (ls is : List ℕ) → Plain (successorOf s ls is)
 unfolding successorOf
-successor-plain s ls is = answered (checkPoint s ls is) _ (after-plain _ _ _)
+successor-plain s ls is = answered (checkPoint s ls is) _ (after-plain s _)

@@ -10,6 +10,7 @@ ghost use lib.ListN.{length};
 ghost use Rattle.naturals.specs.Sum.{sumTo};
 ghost use Rattle.numbering.specs.Point.{at, IsPoint};
 ghost use Rattle.numbering.specs.Number.{number};
+ghost use Rattle.shapes.specs.Shapes.{sparse};
 ghost use Rattle.points.specs.Points.{eight};
 ghost use Rattle.successor.specs.Steps.{PointIn, StepsIndices, StepsLevels, EndsAt, Writes};
 ghost use Rattle.successor.specs.Successor.{after, successorOf};
@@ -93,7 +94,7 @@ fn next_into(
     next_indices: &mut [u32; 8],
 ) -> Outcome
     requires { ⌜ (1 ≤ axes) × (axes ≤ 8) × (level ≤ 8) × (axes ≤ length (now levels)) × (axes ≤ length (now indices)) × PointIn axes level (eight (at (now levels))) (eight (at (now indices))) ⌝ }
-    ensures { λ r. ⌜ Writes (after axes level (number axes (at (eight (at (now (levels .entry))))) (at (eight (at (now (indices .entry))))))) (now («next_levels» .entry)) (now («next_indices» .entry)) r (now («next_levels» .exit)) (now («next_indices» .exit)) ⌝ }
+    ensures { λ r. ⌜ Writes (after (sparse axes level) (number axes (at (eight (at (now (levels .entry))))) (at (eight (at (now (indices .entry))))))) (now («next_levels» .entry)) (now («next_indices» .entry)) r (now («next_levels» .exit)) (now («next_indices» .exit)) ⌝ }
 {
     let count = axes as usize;
     let last = count - 1;

@@ -1,5 +1,5 @@
--- At a grid point rounding the joint weight down loses nothing: a weight at a point, times 2 to the point's level on the axis, is a multiple of the
--- unit, so the joint weight is one of the unit over 2 to the level sum, and the unit has more factors of two than a level sum.
+-- At a grid point rounding the joint weight down loses nothing: a weight at a point, times 2^(l+1) for the point's level l on the axis, is a multiple of the
+-- unit, so the joint weight is one of the unit over 2 to the level sum plus the number of axes, and the unit has that many factors of two.
 -- Assumes nothing.
 use mathlib.Core.Path.{_≡_, refl, ap, ap₂, sym, _∙_}
 use Prim.Native.Nat.{ℕ, zero, suc, _+_, _-_, _*_, _/_, _%_, _^_, _≤_, _<_}
@@ -9,15 +9,16 @@ use lib.Pow.{pow-add, pow-pos}
 use Rattle.naturals.specs.Sum.{sumTo, prodTo}
 use Rattle.naturals.proofs.Cases.{le-or-lt}
 use Rattle.naturals.proofs.Sums.{sumTo-zero, sumTo-suc, sumTo-mono}
-use Rattle.numbering.specs.Count.{points}
-use Rattle.numbering.specs.Inverse.{levelAt, indexAt}
-use Rattle.numbering.proofs.Numbering.{point-of-number}
+use Rattle.shapes.specs.declared.Shape.{Shape}
+use Rattle.shapes.specs.Shapes.{pointsOf}
+use Rattle.grids.specs.Grids.{levelOn, indexOn}
+use Rattle.grids.proofs.Points.{level-sum, index-odd, level-le}
 use Rattle.interpolation.proofs.Products.{prodTo-zero, prodTo-suc}
-use Rattle.surfaces.specs.Weights.{unit, weight, weightOn, joint}
-use Rattle.surfaces.specs.Surface.{coordinatesOf, productAt, jointAt}
+use Rattle.surfaces.specs.Weights.{unit, weight, joint}
+use Rattle.surfaces.specs.Surface.{coordinatesOf, weightOn, productAt, jointAt}
 use Rattle.surfaces.proofs.Unit.{unitBits, unit-splits, unit-pos, coordinate-is}
 use Rattle.surfaces.proofs.Hat.{tent, share-above, weight-above, weight-below}
-use Rattle.surfaces.proofs.Instance.{level-small}
+use Rattle.surfaces.proofs.Joint.{joint-zero, joint-suc}
 
 -- w times 2^e is a multiple of the unit.
 record Multiple (w e : ℕ) : Type 0 where
@@ -26,10 +27,10 @@ record Multiple (w e : ℕ) : Type 0 where
 
 -- ---- one axis
 
-weight-multiple : (lp ip lq m v : ℕ) → ip % 2 ≡ 1 → v * 2 ^ suc lq ≡ unit → Multiple (weight (m * v) lp ip) lq
+weight-multiple : (lp ip lq m v : ℕ) → ip % 2 ≡ 1 → v * 2 ^ suc lq ≡ unit → Multiple (weight (m * v) lp ip) (suc lq)
 weight-multiple lp ip lq m v odd whole =
     le-or-lt lp lq above
-    (λ lt. record { times = 0; exact = ap (λ (w : ℕ). w * 2 ^ lq) (weight-below lp ip lq m v whole lt odd) ∙ zeros (2 ^ lq) unit })
+    (λ lt. record { times = 0; exact = ap (λ (w : ℕ). w * 2 ^ suc lq) (weight-below lp ip lq m v whole lt odd) ∙ zeros (2 ^ suc lq) unit })
   where
     zeros : (a u : ℕ) → 0 * a ≡ 0 * u
     zeros a u = omega arith
@@ -38,17 +39,17 @@ weight-multiple lp ip lq m v odd whole =
     regroup s y a b c w u e f g =
         omega (arith, ap₂ (λ (j k : ℕ). j * k) f g, ap (λ (x : ℕ). y * b * x) e)
 
-    above : lp ≤ lq → Multiple (weight (m * v) lp ip) lq
+    above : lp ≤ lq → Multiple (weight (m * v) lp ip) (suc lq)
     above le =
+        let h : ℕ = 2 ^ (lq - lp) in
         let high = share-above lp lq v whole le in
-        let parts : lq ≡ lq - lp + lp = omega arith in
+        let parts : suc lq ≡ lq - lp + suc lp = omega arith in
         record {
-          times = tent (2 ^ (lq - lp)) (ip * 2 ^ (lq - lp)) m * 2 ^ lp;
+          times = tent h (ip * h) m * 2 ^ suc lp;
           exact =
-              regroup (v * 2 ^ suc lp) (tent (2 ^ (lq - lp)) (ip * 2 ^ (lq - lp)) m) (2 ^ (lq - lp)) (2 ^ lp) (2 ^ lq)
-              (weight (m * v) lp ip) unit high
-              (weight-above lp ip m v (2 ^ (lq - lp)) high)
-              (ap (λ (k : ℕ). 2 ^ k) parts ∙ pow-add 2 (lq - lp) lp);
+              regroup (v * 2 ^ suc lp) (tent h (ip * h) m) h (2 ^ suc lp) (2 ^ suc lq) (weight (m * v) lp ip) unit high
+              (weight-above lp ip m v h high)
+              (ap (λ (k : ℕ). 2 ^ k) parts ∙ pow-add 2 (lq - lp) (suc lp));
         }
 
 -- ---- one axis more
@@ -98,52 +99,52 @@ module _ (j w s l : ℕ) (few : s + l ≤ unitBits) (mj : Multiple j s) (mw : Mu
 
 -- ---- all axes
 
-module _ (x l i : ℕ → ℕ) where
-  pub joint-zero : joint x l i 0 ≡ unit
-  unfolding joint
-  joint-zero = refl
+-- Weights that are multiples of the unit over 2 to the numbers of m, whose sum is small.
+module _ (w m : ℕ → ℕ) (d : ℕ) (few : sumTo m d ≤ unitBits) (each : (t : ℕ) → t < d → Multiple (w t) (m t)) where
+  sums : (k : ℕ) → k < d → sumTo m k + m k ≤ unitBits
+  sums k h = omega (arith, sumTo-mono m (suc k) d h, sumTo-suc m k)
 
-  pub joint-suc : (k : ℕ) → joint x l i (suc k) ≡ joint x l i k * weightOn x l i k / unit
-  unfolding joint
-  joint-suc k = refl
+  joint-multiple : (k : ℕ) → k ≤ d → Multiple (joint w k) (sumTo m k)
+  joint-multiple zero h = record { times = 1; exact = rw (joint-zero w, sumTo-zero m) (omega arith) }
+  joint-multiple (suc k) h =
+      rw (joint-suc w k, sumTo-suc m k)
+      (multiple-step (joint w k) (w k) (sumTo m k) (m k) (sums k h) (joint-multiple k (omega arith)) (each k h))
 
-  -- Weights that are multiples of the unit over 2 to the levels of m, whose sum is small.
-  module _ (m : ℕ → ℕ) (d : ℕ) (few : sumTo m d ≤ unitBits) (each : (t : ℕ) → t < d → Multiple (weightOn x l i t) (m t)) where
-    sums : (k : ℕ) → k < d → sumTo m k + m k ≤ unitBits
-    sums k h = omega (arith, sumTo-mono m (suc k) d h, sumTo-suc m k)
-
-    joint-multiple : (k : ℕ) → k ≤ d → Multiple (joint x l i k) (sumTo m k)
-    joint-multiple zero h = record { times = 1; exact = rw (joint-zero, sumTo-zero m) (omega arith) }
-    joint-multiple (suc k) h =
-        rw (joint-suc k, sumTo-suc m k)
-        (multiple-step (joint x l i k) (weightOn x l i k) (sumTo m k) (m k) (sums k h) (joint-multiple k (omega arith)) (each k h))
-
-    joint-product : (k : ℕ) → k ≤ d → joint x l i k * unit ^ k ≡ prodTo (weightOn x l i) k * unit
-    joint-product zero h = rw (joint-zero, prodTo-zero (weightOn x l i), pow-zero unit) (omega arith)
-    joint-product (suc k) h =
-        rw (joint-suc k, prodTo-suc (weightOn x l i) k, pow-suc unit k)
-        (regroup (joint x l i k) (weightOn x l i k) (joint x l i k * weightOn x l i k / unit) (unit ^ k) (prodTo (weightOn x l i) k) unit
-        (exact-step (joint x l i k) (weightOn x l i k) (sumTo m k) (m k) (sums k h) (joint-multiple k (omega arith)) (each k h))
-        (joint-product k (omega arith)))
-      where
-        regroup : (j w r e p u : ℕ) → r * u ≡ j * w → j * e ≡ p * u → r * (e * u) ≡ p * w * u
-        regroup j w r e p u exact before = omega (arith, ap (λ (y : ℕ). y * e) exact, ap (λ (y : ℕ). y * w) before)
+  joint-product : (k : ℕ) → k ≤ d → joint w k * unit ^ k ≡ prodTo w k * unit
+  joint-product zero h = rw (joint-zero w, prodTo-zero w, pow-zero unit) (omega arith)
+  joint-product (suc k) h =
+      rw (joint-suc w k, prodTo-suc w k, pow-suc unit k)
+      (regroup (joint w k) (w k) (joint w k * w k / unit) (unit ^ k) (prodTo w k) unit
+      (exact-step (joint w k) (w k) (sumTo m k) (m k) (sums k h) (joint-multiple k (omega arith)) (each k h))
+      (joint-product k (omega arith)))
+    where
+      regroup : (j w r e p u : ℕ) → r * u ≡ j * w → j * e ≡ p * u → r * (e * u) ≡ p * w * u
+      regroup j w r e p u exact before = omega (arith, ap (λ (y : ℕ). y * e) exact, ap (λ (y : ℕ). y * w) before)
 
 -- ---- the points of a shape
 
-module _ (d n : ℕ) (few : n ≤ 8) (p q : ℕ) (p-in : p < points d n) (q-in : q < points d n) where
-  axis-multiple : (t : ℕ) → t < d → Multiple (weightOn (coordinatesOf d n q) (levelAt d n p) (indexAt d n p) t) (levelAt d n q t)
-  unfolding weightOn coordinatesOf
-  axis-multiple t axis =
-      let s = unit-splits (suc (levelAt d n q t)) (omega (arith, level-small d n few q q-in t axis)) in
-      rw (coordinate-is (levelAt d n q t) (indexAt d n q t) (levelAt d n q t) (indexAt d n q t) (s .share) (s .whole) refl)
-      (weight-multiple (levelAt d n p t) (indexAt d n p t) (levelAt d n q t) (indexAt d n q t) (s .share)
-      (point-of-number d n p p-in .odd t axis)
-      (s .whole))
+-- One more than the level on each axis.
+deeper : (ℕ → ℕ) → ℕ → ℕ
+deeper l t = suc (l t)
 
-  pub joint-exact : jointAt d n (coordinatesOf d n q) p * unit ^ d ≡ productAt d n (coordinatesOf d n q) p * unit
+deeper-sum : (l : ℕ → ℕ) (d : ℕ) → sumTo (deeper l) d ≡ sumTo l d + d
+unfolding deeper
+deeper-sum l zero = omega (arith, sumTo-zero (deeper l), sumTo-zero l)
+deeper-sum l (suc d) = omega (arith, sumTo-suc (deeper l) d, sumTo-suc l d, deeper-sum l d)
+
+module _ (s : Shape) (few : s .level + s .axes ≤ unitBits) (p q : ℕ) (p-in : p < pointsOf s) (q-in : q < pointsOf s) where
+  axis-multiple : (t : ℕ) → t < s .axes → Multiple (weightOn s (coordinatesOf s q) p t) (deeper (levelOn s q) t)
+  unfolding weightOn coordinatesOf deeper
+  axis-multiple t axis =
+      let part = unit-splits (suc (levelOn s q t)) (omega (arith, level-le s q q-in t axis)) in
+      rw (coordinate-is (levelOn s q t) (indexOn s q t) (levelOn s q t) (indexOn s q t) (part .share) (part .whole) refl)
+      (weight-multiple (levelOn s p t) (indexOn s p t) (levelOn s q t) (indexOn s q t) (part .share)
+      (index-odd s p p-in t axis)
+      (part .whole))
+
+  pub joint-exact : jointAt s (coordinatesOf s q) p * unit ^ (s .axes) ≡ productAt s (coordinatesOf s q) p * unit
   unfolding jointAt productAt
   joint-exact =
-      joint-product (coordinatesOf d n q) (levelAt d n p) (indexAt d n p) (levelAt d n q) d
-      (omega (arith, point-of-number d n q q-in .sum))
-      axis-multiple d (omega arith)
+      joint-product (weightOn s (coordinatesOf s q) p) (deeper (levelOn s q)) (s .axes)
+      (omega (arith, deeper-sum (levelOn s q) (s .axes), level-sum s q q-in))
+      axis-multiple (s .axes) (omega arith)

@@ -1,71 +1,41 @@
--- The zero-border grid has hat functions: the axis weights of its points at each other. A neighbour lies at the numerator beside its point's, a
+-- The grid of a shape has hat functions: the axis weights of its points at each other. A neighbour lies at the numerator beside its point's, a
 -- border there counting 0 as the weight at 0 and at the unit is, so the identity on one axis is that of the grid.
 -- Assumes nothing.
-use mathlib.Core.Path.{_≡_, refl, ap, ap₂, sym, _∙_, fun-ext}
+use mathlib.Core.Path.{_≡_, refl, ap, ap₂, sym, _∙_}
 use mathlib.Core.Bool.{Bool, true, false, _&&_, _||_, false≢true}
-use Prim.Native.Nat.{ℕ, zero, suc, _+_, _*_, _^_, _≤_, _<_}
+use Prim.Native.Nat.{ℕ, zero, suc, _+_, _*_, _^_, _<_}
 use native.Mathlib.Nat.{mul-comm, zero-mul}
 use native.Mathlib.Omega.{arith}
 use lib.Dec.{eqb}
 use borrow.Author.Tests.{eq-eqb, ne-eqb, eqb-true}
-use Rattle.naturals.proofs.Cases.{le-or-lt, eq-or-not}
-use Rattle.naturals.proofs.Sums.{term-le}
+use Rattle.naturals.proofs.Cases.{eq-or-not, true-or-false}
 use Rattle.naturals.proofs.Tests.{and-left, and-right}
 use Rattle.numbering.specs.declared.Side.{Side}
 use Rattle.numbering.specs.declared.Side.the-variants.{Left, Right}
-use Rattle.numbering.specs.Count.{points}
-use Rattle.numbering.specs.Number.{number}
-use Rattle.numbering.specs.Inverse.{levelAt, indexAt}
-use Rattle.numbering.specs.Parent.{numerator, isBorder, parentLevel, parentIndex, update}
-use Rattle.numbering.proofs.Numbering.{point-of-number, number-of-point, level-zero, index-zero}
-use Rattle.numbering.proofs.Named.{Named, named, levels-again, indices-again}
-use Rattle.numbering.proofs.Parents.{inside, update-same, update-other, parent-border, parent-inner}
+use Rattle.numbering.specs.Parent.{isBorder, parentLevel, parentIndex}
+use Rattle.numbering.proofs.Parents.{inside, update-same, update-other}
 use Rattle.numbering.proofs.Parents as P
-use Rattle.zero_border.specs.ZeroBorder.{codeOf, neighbour}
-use Rattle.zero_border.proofs.Instance.{code-border, code-inner, neighbour-at, named-parent, by-border}
+use Rattle.shapes.specs.declared.Shape.{Shape}
+use Rattle.shapes.specs.Shapes.{pointsOf}
+use Rattle.grids.specs.Grids.{numberOf, levelOn, indexOn, neighbour}
+use Rattle.grids.proofs.Points.{PointOf, levels-again, indices-again, index-odd, index-below, level-le, same-point}
+use Rattle.grids.proofs.Beside.{numeratorOn, parentLevels, parentIndices, to-border, to-parent, parent-there, off-border}
 use Rattle.interpolation.specs.Hats.{Hats, indicator}
-use Rattle.surfaces.specs.Weights.{unit, coordinate, weight, weightOn}
-use Rattle.surfaces.specs.Surface.{coordinatesOf}
+use Rattle.surfaces.specs.Weights.{unit, coordinate, weight}
+use Rattle.surfaces.specs.Surface.{coordinatesOf, weightOn}
 use Rattle.surfaces.specs.Lines.{sameOn}
-use Rattle.surfaces.proofs.Unit.{unit-splits, coordinate-is}
+use Rattle.surfaces.proofs.Unit.{unitBits, unit-splits, coordinate-is}
 use Rattle.surfaces.proofs.Hat.{weight-low, weight-high, hat-identity}
 
 -- The weight of point number p on axis t at a code: 0 at the border, at code q + 1 that at the coordinates of point number q.
-unfoldable pub gridWeight : ℕ → ℕ → ℕ → ℕ → ℕ → ℕ
-gridWeight d n t p zero = 0
-gridWeight d n t p (suc q) = weightOn (coordinatesOf d n q) (levelAt d n p) (indexAt d n p) t
+unfoldable pub gridWeight : Shape → ℕ → ℕ → ℕ → ℕ
+gridWeight s t p zero = 0
+gridWeight s t p (suc q) = weightOn s (coordinatesOf s q) p t
 
 -- Point number p and a code have the same level and index on axis t.
-unfoldable pub gridSame : ℕ → ℕ → ℕ → ℕ → ℕ → Bool
-gridSame d n t p zero = false
-gridSame d n t p (suc q) = sameOn d n p q t
-
-module _ (d n : ℕ) where
-  weight-border : (t p : ℕ) → gridWeight d n t p 0 ≡ 0
-  unfolding gridWeight
-  weight-border t p = refl
-
-  weight-at : (t p q : ℕ) →
-      gridWeight d n t p (suc q) ≡ weight (coordinate (levelAt d n q t) (indexAt d n q t)) (levelAt d n p t) (indexAt d n p t)
-  unfolding gridWeight weightOn coordinatesOf
-  weight-at t p q = refl
-
-  same-at : (t p q : ℕ) →
-      gridSame d n t p (suc q) ≡ eqb (levelAt d n p t) (levelAt d n q t) && eqb (indexAt d n p t) (indexAt d n q t)
-  unfolding gridSame sameOn
-  same-at t p q = refl
-
-  -- Both read the level and index of the code on axis t alone.
-  module _ (t p : ℕ) {l i : ℕ → ℕ} (s : Named d n l i) where
-    weight-named : gridWeight d n t p (suc (number d l i)) ≡ weight (coordinate (l t) (i t)) (levelAt d n p t) (indexAt d n p t)
-    weight-named =
-        weight-at t p (number d l i)
-        ∙ ap₂ (λ (m j : ℕ → ℕ). weight (coordinate (m t) (j t)) (levelAt d n p t) (indexAt d n p t)) (levels-again s) (indices-again s)
-
-    same-named : gridSame d n t p (suc (number d l i)) ≡ eqb (levelAt d n p t) (l t) && eqb (indexAt d n p t) (i t)
-    same-named =
-        same-at t p (number d l i)
-        ∙ ap₂ (λ (m j : ℕ → ℕ). eqb (levelAt d n p t) (m t) && eqb (indexAt d n p t) (j t)) (levels-again s) (indices-again s)
+unfoldable pub gridSame : Shape → ℕ → ℕ → ℕ → Bool
+gridSame s t p zero = false
+gridSame s t p (suc q) = sameOn s p q t
 
 -- A border is at 0 or at 1.
 is-border : {A : Type 0} (l m : ℕ) → isBorder l m ≡ true → (m ≡ 0 → A) → (m ≡ 2 ^ suc l → A) → A
@@ -76,142 +46,125 @@ is-border l m e low high =
     eq-or-not m (2 ^ suc l) high
     (λ nh. absurd (false≢true (sym (ap₂ (λ (a b : Bool). a || b) (ne-eqb m 0 nl) (ne-eqb m (2 ^ suc l) nh)) ∙ e))))
 
--- A level of a point is at most 8.
-pub level-small : (d n : ℕ) → n ≤ 8 → (q : ℕ) → q < points d n → (t : ℕ) → t < d → levelAt d n q t ≤ 8
-level-small d n few q h t axis = omega (arith, term-le (levelAt d n q) d t axis, point-of-number d n q h .sum)
+module _ (s : Shape) where
+  weight-border : (t p : ℕ) → gridWeight s t p 0 ≡ 0
+  unfolding gridWeight
+  weight-border t p = refl
 
-module _ (d n : ℕ) (few : n ≤ 8) where
-  -- ---- a move on axis s
+  weight-at : (t p q : ℕ) → gridWeight s t p (suc q) ≡ weight (coordinate (levelOn s q t) (indexOn s q t)) (levelOn s p t) (indexOn s p t)
+  unfolding gridWeight weightOn coordinatesOf
+  weight-at t p q = refl
 
-  module _ (s : ℕ) (b : Side) (q : ℕ) (h : q < points d n) (axis : s < d) where
-    -- The neighbour's level and index there.
-    abbrev beside : ℕ
-    beside = numerator b (indexAt d n q s)
+  same-at : (t p q : ℕ) → gridSame s t p (suc q) ≡ eqb (levelOn s p t) (levelOn s q t) && eqb (indexOn s p t) (indexOn s q t)
+  unfolding gridSame sameOn
+  same-at t p q = refl
 
-    abbrev levels : ℕ → ℕ
-    levels = update (levelAt d n q) s (parentLevel (levelAt d n q s) beside)
+  -- Both read the level and index of the code on axis t alone.
+  module _ (t p : ℕ) {l i : ℕ → ℕ} (x : PointOf s l i) where
+    weight-named : gridWeight s t p (suc (numberOf s l i)) ≡ weight (coordinate (l t) (i t)) (levelOn s p t) (indexOn s p t)
+    weight-named =
+        weight-at t p (numberOf s l i)
+        ∙ ap₂ (λ (m j : ℕ → ℕ). weight (coordinate (m t) (j t)) (levelOn s p t) (indexOn s p t)) (levels-again s x) (indices-again s x)
 
-    abbrev indices : ℕ → ℕ
-    indices = update (indexAt d n q) s (parentIndex beside)
+    same-named : gridSame s t p (suc (numberOf s l i)) ≡ eqb (levelOn s p t) (l t) && eqb (indexOn s p t) (i t)
+    same-named =
+        same-at t p (numberOf s l i)
+        ∙ ap₂ (λ (m j : ℕ → ℕ). eqb (levelOn s p t) (m t) && eqb (indexOn s p t) (j t)) (levels-again s x) (indices-again s x)
 
-    to-border : isBorder (levelAt d n q s) beside ≡ true → neighbour d n s b (suc q) ≡ 0
-    to-border e =
-        neighbour-at d n few s b q h axis
-        ∙ ap (codeOf d) (parent-border s b (levelAt d n q) (indexAt d n q) e)
-        ∙ code-border d
+  -- ---- a move on axis u
 
-    to-point : isBorder (levelAt d n q s) beside ≡ false → neighbour d n s b (suc q) ≡ suc (number d levels indices)
-    to-point e =
-        neighbour-at d n few s b q h axis
-        ∙ ap (codeOf d) (parent-inner s b (levelAt d n q) (indexAt d n q) e)
-        ∙ code-inner d levels indices
-
-    point-there : isBorder (levelAt d n q s) beside ≡ false → Named d n levels indices
-    point-there e = named-parent d n few s b (named d n q h) axis e
-
-    off-border : (neighbour d n s b (suc q) ≡ 0 → ⊥) → isBorder (levelAt d n q s) beside ≡ false
-    off-border ne = by-border d n few s b (levelAt d n q) (indexAt d n q) (λ e. absurd (ne (to-border e))) (λ e. e)
-
+  module _ (u : ℕ) (b : Side) (q : ℕ) (h : q < pointsOf s) (axis : u < s .axes) where
     -- On another axis nothing changes.
-    module _ (t p : ℕ) (other : t ≡ s → ⊥) (ne : neighbour d n s b (suc q) ≡ 0 → ⊥) where
-      weight-still : gridWeight d n t p (neighbour d n s b (suc q)) ≡ gridWeight d n t p (suc q)
-      weight-still =
-          ap (gridWeight d n t p) (to-point (off-border ne))
-          ∙ weight-named d n t p (point-there (off-border ne))
-          ∙ ap₂ (λ (l i : ℕ). weight (coordinate l i) (levelAt d n p t) (indexAt d n p t))
-          (update-other (levelAt d n q) s _ t other)
-          (update-other (indexAt d n q) s _ t other)
-          ∙ sym (weight-at d n t p q)
+    module _ (t p : ℕ) (other : t ≡ u → ⊥) (some : neighbour s u b (suc q) ≡ 0 → ⊥) where
+      off : isBorder (levelOn s q u) (numeratorOn s u b q) ≡ false
+      off = off-border s u b q h axis some
 
-      same-still : gridSame d n t p (neighbour d n s b (suc q)) ≡ gridSame d n t p (suc q)
+      weight-still : gridWeight s t p (neighbour s u b (suc q)) ≡ gridWeight s t p (suc q)
+      weight-still =
+          ap (gridWeight s t p) (to-parent s u b q h axis off)
+          ∙ weight-named t p (parent-there s u b q h axis off)
+          ∙ ap₂ (λ (l i : ℕ). weight (coordinate l i) (levelOn s p t) (indexOn s p t))
+          (update-other (levelOn s q) u _ t other)
+          (update-other (indexOn s q) u _ t other)
+          ∙ sym (weight-at t p q)
+
+      same-still : gridSame s t p (neighbour s u b (suc q)) ≡ gridSame s t p (suc q)
       same-still =
-          ap (gridSame d n t p) (to-point (off-border ne))
-          ∙ same-named d n t p (point-there (off-border ne))
-          ∙ ap₂ (λ (l i : ℕ). eqb (levelAt d n p t) l && eqb (indexAt d n p t) i)
-          (update-other (levelAt d n q) s _ t other)
-          (update-other (indexAt d n q) s _ t other)
-          ∙ sym (same-at d n t p q)
+          ap (gridSame s t p) (to-parent s u b q h axis off)
+          ∙ same-named t p (parent-there s u b q h axis off)
+          ∙ ap₂ (λ (l i : ℕ). eqb (levelOn s p t) l && eqb (indexOn s p t) i)
+          (update-other (levelOn s q) u _ t other)
+          (update-other (indexOn s q) u _ t other)
+          ∙ sym (same-at t p q)
 
     -- On its own axis the weight is that at the neighbour's numerator.
-    module _ (p v : ℕ) (p-in : p < points d n) (whole : v * 2 ^ suc (levelAt d n q s) ≡ unit) where
-      border-weight : (m : ℕ) → isBorder (levelAt d n q s) m ≡ true → 0 ≡ weight (m * v) (levelAt d n p s) (indexAt d n p s)
+    module _ (p v : ℕ) (p-in : p < pointsOf s) (whole : v * 2 ^ suc (levelOn s q u) ≡ unit) where
+      border-weight : (m : ℕ) → isBorder (levelOn s q u) m ≡ true → 0 ≡ weight (m * v) (levelOn s p u) (indexOn s p u)
       border-weight m e =
-          is-border (levelAt d n q s) m e
-          (λ low. rw (low, zero-mul v) (sym (weight-low (levelAt d n p s) (indexAt d n p s) (omega (arith, point-of-number d n p p-in .odd s axis)))))
+          is-border (levelOn s q u) m e
+          (λ low. rw (low, zero-mul v) (sym (weight-low (levelOn s p u) (indexOn s p u) (omega (arith, index-odd s p p-in u axis)))))
           (λ high.
-          rw (high, mul-comm (2 ^ suc (levelAt d n q s)) v, whole)
-          (sym (weight-high (levelAt d n p s) (indexAt d n p s) (point-of-number d n p p-in .below s axis))))
+          rw (high, mul-comm (2 ^ suc (levelOn s q u)) v, whole) (sym (weight-high (levelOn s p u) (indexOn s p u) (index-below s p p-in u axis))))
 
-      inner-weight : isBorder (levelAt d n q s) beside ≡ false →
-          weight (coordinate (levels s) (indices s)) (levelAt d n p s) (indexAt d n p s)
-          ≡ weight (beside * v) (levelAt d n p s) (indexAt d n p s)
+      inner-weight : isBorder (levelOn s q u) (numeratorOn s u b q) ≡ false →
+          weight (coordinate (parentLevels s u b q u) (parentIndices s u b q u)) (levelOn s p u) (indexOn s p u)
+          ≡ weight (numeratorOn s u b q * v) (levelOn s p u) (indexOn s p u)
       inner-weight e =
-          ap (λ (x : ℕ). weight x (levelAt d n p s) (indexAt d n p s))
-          (ap₂ coordinate (update-same (levelAt d n q) s _) (update-same (indexAt d n q) s _)
-          ∙ coordinate-is (levelAt d n q s) beside (parentLevel (levelAt d n q s) beside) (parentIndex beside) v whole
-          (P.coordinate (levelAt d n q s) beside (level-small d n few q h s axis)
-          (inside b (levelAt d n q s) (indexAt d n q s)
-          (point-of-number d n q h .odd s axis)
-          (point-of-number d n q h .below s axis)
-          e)))
+          let l : ℕ = levelOn s q u in
+          let m : ℕ = numeratorOn s u b q in
+          ap (λ (x : ℕ). weight x (levelOn s p u) (indexOn s p u))
+          (ap₂ coordinate (update-same (levelOn s q) u _) (update-same (indexOn s q) u _)
+          ∙ coordinate-is l m (parentLevel l m) (parentIndex m) v whole
+          (P.coordinate l m (inside b l (indexOn s q u) (index-odd s q h u axis) (index-below s q h u axis) e)))
 
-      weight-beside : gridWeight d n s p (neighbour d n s b (suc q)) ≡ weight (beside * v) (levelAt d n p s) (indexAt d n p s)
+      weight-beside : gridWeight s u p (neighbour s u b (suc q)) ≡ weight (numeratorOn s u b q * v) (levelOn s p u) (indexOn s p u)
       weight-beside =
-          by-border d n few s b (levelAt d n q) (indexAt d n q)
-          (λ e. ap (gridWeight d n s p) (to-border e) ∙ weight-border d n s p ∙ border-weight beside e)
-          (λ e. ap (gridWeight d n s p) (to-point e) ∙ weight-named d n s p (point-there e) ∙ inner-weight e)
+          true-or-false (isBorder (levelOn s q u) (numeratorOn s u b q))
+          (λ e. ap (gridWeight s u p) (to-border s u b q h axis e) ∙ weight-border u p ∙ border-weight (numeratorOn s u b q) e)
+          (λ e. ap (gridWeight s u p) (to-parent s u b q h axis e) ∙ weight-named u p (parent-there s u b q h axis e) ∙ inner-weight e)
 
   -- ---- the record
 
-  grid-hat : (t p q : ℕ) → t < d → p < points d n → q < points d n →
-      gridWeight d n t p (suc q) + gridWeight d n t p (suc q)
-      ≡ gridWeight d n t p (neighbour d n t Left (suc q)) + gridWeight d n t p (neighbour d n t Right (suc q))
-      + indicator (gridSame d n t p (suc q)) * (unit + unit)
-  grid-hat t p q axis p-in q-in =
-      let s = unit-splits (suc (levelAt d n q t)) (omega (arith, level-small d n few q q-in t axis)) in
+  grid-hat : s .level < unitBits → (t p q : ℕ) → t < s .axes → p < pointsOf s → q < pointsOf s →
+      gridWeight s t p (suc q) + gridWeight s t p (suc q)
+      ≡ gridWeight s t p (neighbour s t Left (suc q)) + gridWeight s t p (neighbour s t Right (suc q))
+      + indicator (gridSame s t p (suc q)) * (unit + unit)
+  grid-hat few t p q axis p-in q-in =
+      let part = unit-splits (suc (levelOn s q t)) (omega (arith, level-le s q q-in t axis)) in
+      let v : ℕ = part .share in
       rw (
-        weight-at d n t p q,
-        same-at d n t p q,
-        weight-beside t Left q q-in axis p (s .share) p-in (s .whole),
-        weight-beside t Right q q-in axis p (s .share) p-in (s .whole),
-        coordinate-is (levelAt d n q t) (indexAt d n q t) (levelAt d n q t) (indexAt d n q t) (s .share) (s .whole) refl,
+        weight-at t p q,
+        same-at t p q,
+        weight-beside t Left q q-in axis p v p-in (part .whole),
+        weight-beside t Right q q-in axis p v p-in (part .whole),
+        coordinate-is (levelOn s q t) (indexOn s q t) (levelOn s q t) (indexOn s q t) v (part .whole) refl,
       )
-      (hat-identity (levelAt d n p t) (indexAt d n p t) (levelAt d n q t) (indexAt d n q t) (s .share)
-      (point-of-number d n p p-in .odd t axis)
-      (point-of-number d n q q-in .odd t axis)
-      (s .whole))
+      (hat-identity (levelOn s p t) (indexOn s p t) (levelOn s q t) (indexOn s q t) v
+      (index-odd s p p-in t axis)
+      (index-odd s q q-in t axis)
+      (part .whole))
 
-  agree-itself : (t p : ℕ) → gridSame d n t p (suc p) ≡ true
+  agree-itself : (t p : ℕ) → gridSame s t p (suc p) ≡ true
   agree-itself t p =
-      same-at d n t p p
-      ∙ ap₂ (λ (a b : Bool). a && b) (eq-eqb (levelAt d n p t) (levelAt d n p t) refl) (eq-eqb (indexAt d n p t) (indexAt d n p t) refl)
+      same-at t p p
+      ∙ ap₂ (λ (a b : Bool). a && b) (eq-eqb (levelOn s p t) (levelOn s p t) refl) (eq-eqb (indexOn s p t) (indexOn s p t) refl)
 
-  agree-one : (p q : ℕ) → p < points d n → q < points d n → ((t : ℕ) → t < d → gridSame d n t p (suc q) ≡ true) → p ≡ q
+  agree-one : (p q : ℕ) → p < pointsOf s → q < pointsOf s → ((t : ℕ) → t < s .axes → gridSame s t p (suc q) ≡ true) → p ≡ q
   agree-one p q p-in q-in agree =
-      sym (number-of-point d n p p-in) ∙ ap₂ (number d) (fun-ext same-level) (fun-ext same-index) ∙ number-of-point d n q q-in
+      same-point s p q p-in q-in
+      (λ t axis. eqb-true (levelOn s p t) (levelOn s q t) (and-left _ _ (both t axis)))
+      (λ t axis. eqb-true (indexOn s p t) (indexOn s q t) (and-right (eqb (levelOn s p t) (levelOn s q t)) _ (both t axis)))
     where
-      both : (t : ℕ) → t < d → eqb (levelAt d n p t) (levelAt d n q t) && eqb (indexAt d n p t) (indexAt d n q t) ≡ true
-      both t axis = sym (same-at d n t p q) ∙ agree t axis
+      both : (t : ℕ) → t < s .axes → eqb (levelOn s p t) (levelOn s q t) && eqb (indexOn s p t) (indexOn s q t) ≡ true
+      both t axis = sym (same-at t p q) ∙ agree t axis
 
-      same-level : (t : ℕ) → levelAt d n p t ≡ levelAt d n q t
-      same-level t =
-          le-or-lt d t
-          (λ past. level-zero d n p t past ∙ sym (level-zero d n q t past))
-          (λ axis. eqb-true (levelAt d n p t) (levelAt d n q t) (and-left _ _ (both t axis)))
-
-      same-index : (t : ℕ) → indexAt d n p t ≡ indexAt d n q t
-      same-index t =
-          le-or-lt d t
-          (λ past. index-zero d n p t past ∙ sym (index-zero d n q t past))
-          (λ axis. eqb-true (indexAt d n p t) (indexAt d n q t) (and-right (eqb (levelAt d n p t) (levelAt d n q t)) _ (both t axis)))
-
-  pub zero-border-hats : Hats (points d n) d unit (neighbour d n) (gridWeight d n) (gridSame d n)
-  zero-border-hats =
+  pub hats : s .level < unitBits → Hats (pointsOf s) (s .axes) unit (neighbour s) (gridWeight s) (gridSame s)
+  hats few =
       record {
-        none = weight-border d n;
-        still = λ t s b p q axis other ne p-in q-in off. weight-still s b q q-in other t p ne off;
-        still-same = λ t s b p q axis other ne p-in q-in off. same-still s b q q-in other t p ne off;
-        hat = grid-hat;
+        none = weight-border;
+        still = λ t u b p q axis other ne p-in q-in some. weight-still u b q q-in other t p ne some;
+        still-same = λ t u b p q axis other ne p-in q-in some. same-still u b q q-in other t p ne some;
+        hat = grid-hat few;
         itself = λ t p axis p-in. agree-itself t p;
         one-point = agree-one;
       }

@@ -6,26 +6,31 @@ use Prim.Native.Nat.{ℕ, _^_}
 use lib.IntN.{ℤ, pos, _*ℤ_}
 use Rattle.naturals.specs.Sum.{prodTo}
 use Rattle.integers.specs.Floor.{floor}
-use Rattle.numbering.specs.Count.{points}
-use Rattle.numbering.specs.Inverse.{levelAt, indexAt}
+use Rattle.shapes.specs.declared.Shape.{Shape}
+use Rattle.shapes.specs.Shapes.{pointsOf}
+use Rattle.grids.specs.Grids.{levelOn, indexOn}
 use Rattle.interpolation.specs.Weighted.{weightedSum}
-use Rattle.surfaces.specs.Weights.{unit, coordinate, weightOn, joint}
+use Rattle.surfaces.specs.Weights.{unit, coordinate, weight, joint}
 
-module _ (d n : ℕ) where
+module _ (s : Shape) where
   -- The coordinates of point number q.
   unfoldable pub coordinatesOf : ℕ → ℕ → ℕ
-  coordinatesOf q t = coordinate (levelAt d n q t) (indexAt d n q t)
+  coordinatesOf q t = coordinate (levelOn s q t) (indexOn s q t)
+
+  -- The weight of point number p on axis t at the coordinates x.
+  unfoldable pub weightOn : (ℕ → ℕ) → ℕ → ℕ → ℕ
+  weightOn x p t = weight (x t) (levelOn s p t) (indexOn s p t)
 
   -- The product of the axis weights of point number p at the coordinates x, and its joint weight.
   unfoldable pub productAt : (ℕ → ℕ) → ℕ → ℕ
-  productAt x p = prodTo (weightOn x (levelAt d n p) (indexAt d n p)) d
+  productAt x p = prodTo (weightOn x p) (s .axes)
 
   unfoldable pub jointAt : (ℕ → ℕ) → ℕ → ℕ
-  jointAt x p = joint x (levelAt d n p) (indexAt d n p) d
+  jointAt x p = joint (weightOn x p) (s .axes)
 
   -- The sum over all points of coefficient times product of axis weights.
   unfoldable pub surface : (ℕ → ℤ) → (ℕ → ℕ) → ℤ
-  surface c x = weightedSum (points d n) c (productAt x)
+  surface c x = weightedSum (pointsOf s) c (productAt x)
 
 -- A fraction of two whole numbers.
 pub record Fraction : Type 0 where
@@ -37,13 +42,13 @@ abbrev pub Exactly : Fraction → ℤ → Type 0
 Exactly f z = f .numerator ≡ z *ℤ pos (f .denominator)
 
 -- The exact value of the surface at the coordinates x: the sum over the unit to the d.
-abbrev pub exactValue : ℕ → ℕ → (ℕ → ℤ) → (ℕ → ℕ) → Fraction
-exactValue d n c x = record { numerator = surface d n c x; denominator = unit ^ d }
+abbrev pub exactValue : Shape → (ℕ → ℤ) → (ℕ → ℕ) → Fraction
+exactValue s c x = record { numerator = surface s c x; denominator = unit ^ (s .axes) }
 
 -- The last division of an estimate, by the unit, rounded down, also below zero.
 unfoldable pub rounded : ℤ → ℤ
 rounded z = floor unit z
 
 -- The estimate at the coordinates x: the sum over all points of coefficient times joint weight, divided once.
-unfoldable pub estimateAt : ℕ → ℕ → (ℕ → ℤ) → (ℕ → ℕ) → ℤ
-estimateAt d n c x = rounded (weightedSum (points d n) c (jointAt d n x))
+unfoldable pub estimateAt : Shape → (ℕ → ℤ) → (ℕ → ℕ) → ℤ
+estimateAt s c x = rounded (weightedSum (pointsOf s) c (jointAt s x))

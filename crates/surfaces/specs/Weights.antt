@@ -12,7 +12,7 @@ unit = 65536
 unfoldable pub isCoordinate : ℕ → Bool
 isCoordinate x = leb x unit
 
--- The coordinate of a point on one axis: i / 2^(l+1) in units. For the levels that a shape has the division loses nothing, since 2^(l+1) divides the unit.
+-- The coordinate of a point on one axis: i / 2^(l+1) in units. For levels below 16 the division loses nothing, since 2^(l+1) divides the unit.
 unfoldable pub coordinate : ℕ → ℕ → ℕ
 coordinate l i = i * unit / 2 ^ suc l
 
@@ -25,12 +25,8 @@ distance a b = (a - b) + (b - a)
 unfoldable pub weight : ℕ → ℕ → ℕ → ℕ
 weight x l i = unit - distance (x * 2 ^ suc l) (i * unit)
 
--- The same on axis t, of a point of the levels l and indices i at the coordinates x.
-unfoldable pub weightOn : (ℕ → ℕ) → (ℕ → ℕ) → (ℕ → ℕ) → ℕ → ℕ
-weightOn x l i t = weight (x t) (l t) (i t)
-
--- The joint weight over the first k axes: it starts at the unit; for each axis in turn it is multiplied by the axis weight, divided by the unit and
--- rounded down.
-unfoldable pub joint : (ℕ → ℕ) → (ℕ → ℕ) → (ℕ → ℕ) → ℕ → ℕ
-joint x l i zero = unit
-joint x l i (suc k) = joint x l i k * weightOn x l i k / unit
+-- The joint weight over the first k axes, w t being the weight on axis t: it starts at the unit; for each axis in turn it is multiplied by the axis weight,
+-- divided by the unit and rounded down.
+unfoldable pub joint : (ℕ → ℕ) → ℕ → ℕ
+joint w zero = unit
+joint w (suc k) = joint w k * w k / unit

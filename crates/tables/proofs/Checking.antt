@@ -11,9 +11,8 @@ use Rattle.refusals.specs.declared.Refusal.the-variants.{TableLength, Rate}
 use Rattle.refusals.specs.declared.Verdict.the-variants.{Passed}
 use Rattle.refusals.specs.Checks.{unless}
 use Rattle.refusals.proofs.Passing.{first-passed, next-passed, test-passed}
-use Rattle.numbering.specs.Count.{points}
 use Rattle.shapes.specs.declared.Shape.{Shape}
-use Rattle.shapes.specs.Shapes.{checkShape}
+use Rattle.shapes.specs.Shapes.{checkShape, pointsOf}
 use Rattle.shapes.proofs.Checked.{InRange, passed-in-range, in-range-passed}
 use Rattle.tables.specs.Tables.{firstFailing, checkTable, rateAt, checkRates}
 use Rattle.tables.specs.Steps.{Passes}
@@ -21,23 +20,23 @@ use Rattle.tables.proofs.FirstFailing.{first-none, none-first}
 
 pub record Opens (s : Shape) (xs : List ℤ) : Type 0 where
   pub range : InRange s
-  pub long : length xs ≡ points (s .axes) (s .level)
+  pub long : length xs ≡ pointsOf s
 
 module _ (s : Shape) (xs : List ℤ) where
   pub table-passed : checkTable s xs ≡ Passed → Opens s xs
   unfolding checkTable
   table-passed e =
-      let long = unless (eqb (length xs) (points (s .axes) (s .level))) TableLength in
+      let long = unless (eqb (length xs) (pointsOf s)) TableLength in
       record {
         range = passed-in-range s (first-passed (checkShape s) long e);
         long =
-            eqb-true (length xs) (points (s .axes) (s .level))
-            (test-passed (eqb (length xs) (points (s .axes) (s .level))) TableLength (next-passed (checkShape s) long e));
+            eqb-true (length xs) (pointsOf s)
+            (test-passed (eqb (length xs) (pointsOf s)) TableLength (next-passed (checkShape s) long e));
       }
 
   pub table-passes : Opens s xs → checkTable s xs ≡ Passed
   unfolding checkTable
-  table-passes o = rw (in-range-passed s (o .range), eq-eqb (length xs) (points (s .axes) (s .level)) (o .long))
+  table-passes o = rw (in-range-passed s (o .range), eq-eqb (length xs) (pointsOf s) (o .long))
 
 module _ (xs : List ℤ) where
   pub rates-passed : checkRates xs ≡ Passed → Passes (rateAt xs) (length xs)

@@ -24,11 +24,10 @@ use Rattle.refusals.specs.declared.Verdict.the-variants.{Passed}
 use Rattle.refusals.specs.Checks.{unless, _andThen_, answer}
 use Rattle.refusals.proofs.Passing.{first-passed, next-passed, test-passed}
 use Rattle.integers.specs.Half.{isRate}
-use Rattle.numbering.specs.Count.{points}
 use Rattle.hierarchy.specs.Turns.{valueAt}
 use Rattle.hierarchy.proofs.Values.{value-suc}
 use Rattle.shapes.specs.declared.Shape.{Shape}
-use Rattle.shapes.specs.Shapes.{checkShape}
+use Rattle.shapes.specs.Shapes.{checkShape, pointsOf}
 use Rattle.shapes.proofs.Checked.{passed-in-range, in-range-passed}
 use Rattle.states.specs.declared.State.{State}
 use Rattle.states.specs.declared.Answer.the-variants.{Done, Refused}
@@ -72,7 +71,7 @@ module _ (s : Shape) (xs : List ℤ) (opens : Opens s xs) (rates : Passes (rateA
       rw (
         in-range-passed s (opens .range),
         lt-ltb 0 (2 ^ (s .axes)) (pow-pos (s .axes)),
-        eq-eqb (length scaled) (points (s .axes) (s .level)) (length-map xs (times (s .axes)) ∙ opens .long),
+        eq-eqb (length scaled) (pointsOf s) (length-map xs (times (s .axes)) ∙ opens .long),
       )
 
   none-forward : checkSampled loaded ≡ Passed
@@ -166,7 +165,7 @@ module _ (st : State) (xs : List ℤ) where
     unfolding checkState checkContents
     opens =
         let bits = unless (ltb (st .forward) (2 ^ (st .shape .axes))) StrayBit in
-        let n = points (st .shape .axes) (st .shape .level) in
+        let n = pointsOf (st .shape) in
         let long = unless (eqb (length xs) n) TableLength in
         record {
           range = passed-in-range (st .shape) (first-passed (checkShape (st .shape)) (checkContents st (length xs)) (u .state));
@@ -179,7 +178,7 @@ module _ (st : State) (xs : List ℤ) where
     unfolding checkContents
     few-bits =
         let few = ltb (st .forward) (2 ^ (st .shape .axes)) in
-        let long = unless (eqb (length xs) (points (st .shape .axes) (st .shape .level))) TableLength in
+        let long = unless (eqb (length xs) (pointsOf (st .shape))) TableLength in
         ltb-true (st .forward) (2 ^ (st .shape .axes)) (test-passed few StrayBit (first-passed (unless few StrayBit) long contents-passed))
 
     no-forward : st .forward ≡ 0

@@ -12,10 +12,9 @@ use Rattle.refusals.specs.declared.Verdict.{Verdict}
 use Rattle.refusals.specs.Checks.{unless, _andThen_, answer}
 use Rattle.integers.specs.Half.{inLimit, isRate}
 use Rattle.integers.specs.Floor.{floor}
-use Rattle.numbering.specs.Count.{points}
 use Rattle.hierarchy.specs.Turns.{valueAt}
 use Rattle.shapes.specs.declared.Shape.{Shape}
-use Rattle.shapes.specs.Shapes.{checkShape}
+use Rattle.shapes.specs.Shapes.{checkShape, pointsOf}
 use Rattle.states.specs.declared.State.{State}
 use Rattle.states.specs.declared.Answer.{Answer}
 use Rattle.states.specs.declared.Answer.the-variants.{Done, Refused}
@@ -33,7 +32,7 @@ firstFailing f (suc m) = further (firstFailing f m) m (f m)
 
 -- A table handed in with a shape: refused with 1, 2 or 3.
 unfoldable pub checkTable : Shape → List ℤ → Verdict
-checkTable s xs = checkShape s andThen unless (eqb (length xs) (points (s .axes) (s .level))) TableLength
+checkTable s xs = checkShape s andThen unless (eqb (length xs) (pointsOf s)) TableLength
 
 -- The value at point p is a rate.
 unfoldable pub rateAt : List ℤ → ℕ → Bool

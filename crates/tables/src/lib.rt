@@ -22,9 +22,7 @@ fn check_table(shape: Shape, table: &[i64]) -> Verdict
     if let Verdict::Refused(r) = shapes::check_shape(shape) {
         return Verdict::Refused(r);
     }
-    let axes = shape.axes;
-    let level = shape.level;
-    if table.len() as u64 != shapes::first_number(axes, level + 1) {
+    if table.len() as u64 != shapes::points_of(shape) {
         return Verdict::Refused(Refusal::TableLength);
     }
     Verdict::Passed

@@ -18,20 +18,19 @@ use Rattle.naturals.proofs.Tests.{all-from}
 use Rattle.refusals.specs.declared.Verdict.the-variants.{Passed}
 use Rattle.integers.specs.Half.{inLimit}
 use Rattle.integers.proofs.Sizes.{rate-size}
-use Rattle.numbering.specs.Count.{points}
 use Rattle.numbering.specs.Point.{at}
-use Rattle.numbering.specs.Inverse.{levelAt, indexAt}
-use Rattle.numbering.proofs.Numbering.{index-zero, point-of-number}
 use Rattle.hierarchy.specs.Turns.{valueAt}
 use Rattle.hierarchy.specs.Sets.{everyAxis}
 use Rattle.hierarchy.proofs.Values.{value-zero, value-suc, value-past}
 use Rattle.hierarchy.proofs.Bounds.{table-in-limit}
-use Rattle.zero_border.specs.ZeroBorder.{neighbour}
+use Rattle.shapes.specs.declared.Shape.{Shape}
+use Rattle.shapes.specs.Shapes.{pointsOf}
+use Rattle.shapes.proofs.Checked.{InRange, passed-in-range}
+use Rattle.grids.specs.Grids.{levelOn, indexOn, neighbour}
+use Rattle.grids.proofs.Points.{index-below, index-past}
 use Rattle.surfaces.specs.Weights.{unit, isCoordinate, coordinate}
 use Rattle.surfaces.specs.Surface.{coordinatesOf, estimateAt}
 use Rattle.surfaces.proofs.Interpolates.{estimate-through}
-use Rattle.shapes.specs.declared.Shape.{Shape}
-use Rattle.shapes.proofs.Checked.{InRange, passed-in-range}
 use Rattle.states.specs.declared.Answer.the-variants.{Done}
 use Rattle.states.specs.States.{has, checkContents, checkState}
 use Rattle.states.proofs.Bits.{all-bits-in}
@@ -71,37 +70,37 @@ first-at (suc k) f t h =
 module _ (s : Shape) (q : ℕ) where
   list-length : length (coordinateList s q) ≡ s .axes
   unfolding coordinateList
-  list-length = first-length (s .axes) (coordinatesOf (s .axes) (s .level) q)
+  list-length = first-length (s .axes) (coordinatesOf s q)
 
   -- Past the last axis a point's level and index are 0, and so is what a list holds there.
-  none-past : (t : ℕ) → s .axes ≤ t → coordinatesOf (s .axes) (s .level) q t ≡ 0
+  none-past : (t : ℕ) → s .axes ≤ t → coordinatesOf s q t ≡ 0
   unfolding coordinatesOf coordinate
   none-past t past =
-      rw (index-zero (s .axes) (s .level) q t past, zero-mul unit) (zero-div (2 ^ suc (levelAt (s .axes) (s .level) q t)))
+      rw (index-past s q t past, zero-mul unit) (zero-div (2 ^ suc (levelOn s q t)))
 
-  list-holds : at (coordinateList s q) ≡ coordinatesOf (s .axes) (s .level) q
+  list-holds : at (coordinateList s q) ≡ coordinatesOf s q
   unfolding coordinateList
   list-holds =
       fun-ext λ t.
       le-or-lt (s .axes) t
       (λ past. List·getD-eq-default (coordinateList s q) 0 (omega (arith, list-length)) ∙ sym (none-past t past))
-      (λ h. first-at (s .axes) (coordinatesOf (s .axes) (s .level) q) t h)
+      (λ h. first-at (s .axes) (coordinatesOf s q) t h)
 
   -- A point's coordinate is at most the unit.
-  coordinate-small : q < points (s .axes) (s .level) → (t : ℕ) → t < s .axes → coordinatesOf (s .axes) (s .level) q t ≤ unit
+  coordinate-small : q < pointsOf s → (t : ℕ) → t < s .axes → coordinatesOf s q t ≤ unit
   unfolding coordinatesOf coordinate
   coordinate-small h t axis =
-      let l = levelAt (s .axes) (s .level) q t in
-      let i = indexAt (s .axes) (s .level) q t in
+      let l = levelOn s q t in
+      let i = indexOn s q t in
       div-le-of-le-mul (2 ^ suc l) {m = i * unit} {n = unit}
-      (mul-le-mul-right unit (omega (arith, point-of-number (s .axes) (s .level) q h .below t axis)))
+      (mul-le-mul-right unit (omega (arith, index-below s q h t axis)))
 
-  module _ (h : q < points (s .axes) (s .level)) where
+  module _ (h : q < pointsOf s) where
     is-coordinate : (t : ℕ) → t < s .axes → insideAt (coordinateList s q) t ≡ true
     unfolding insideAt isCoordinate
     is-coordinate t axis =
         ap (λ (x : ℕ → ℕ). isCoordinate (x t)) list-holds
-        ∙ le-leb (coordinatesOf (s .axes) (s .level) q t) unit (coordinate-small h t axis)
+        ∙ le-leb (coordinatesOf s q t) unit (coordinate-small h t axis)
 
     coordinates-pass : checkCoordinates (s .axes) (coordinateList s q) ≡ Passed
     unfolding checkCoordinates firstOutside
@@ -124,7 +123,7 @@ module _ (s : Shape) (rs : List ℤ) (a : Accepted s rs) where
       rw (
         a .shape,
         lt-ltb (2 ^ (s .axes) - 1) (2 ^ (s .axes)) (ones-lt (s .axes)),
-        eq-eqb (length (coefficientsOf s rs)) (points (s .axes) (s .level)) (coefficients-length s (range .top) rs),
+        eq-eqb (length (coefficientsOf s rs)) (pointsOf s) (coefficients-length s rs),
       )
 
   forward-passes : checkForward (adopted s) ≡ Passed
@@ -138,7 +137,7 @@ module _ (s : Shape) (rs : List ℤ) (a : Accepted s rs) where
   rate-small : (p : ℕ) → natAbs (valueAt rs p) ≤ 2 ^ 31
   rate-small zero = rw (value-zero rs) (omega arith)
   rate-small (suc p) =
-      le-or-lt (points (s .axes) (s .level)) p
+      le-or-lt (pointsOf s) p
       (λ past. rw (value-past rs (suc p) (omega (arith, a .long))) (omega arith))
       (λ h. rw (value-suc rs p) (rate-size (getD rs p (pos 0)) (a .each p h)))
 
@@ -147,24 +146,24 @@ module _ (s : Shape) (rs : List ℤ) (a : Accepted s rs) where
   contents-pass =
       all-from (contentAt (coefficientsOf s rs)) (length (coefficientsOf s rs))
       (λ p h.
-      ap inLimit (coefficient-at s rs p (omega (arith, coefficients-length s (range .top) rs)))
-      ∙ table-in-limit (neighbour (s .axes) (s .level)) everyAxis (s .axes) (valueAt rs) (range .high) rate-small (suc p))
+      ap inLimit (coefficient-at s rs p (omega (arith, coefficients-length s rs)))
+      ∙ table-in-limit (neighbour s) everyAxis (s .axes) (valueAt rs) (range .high) rate-small (suc p))
 
   -- The coefficients can be adopted.
   pub adopted-coefficients : adopt s (coefficientsOf s rs) ≡ Done (adopted s)
   adopted-coefficients =
       adopt-done s (coefficientsOf s rs)
-      (table-passes s (coefficientsOf s rs) (record { range = range; long = coefficients-length s (range .top) rs }))
+      (table-passes s (coefficientsOf s rs) (record { range = range; long = coefficients-length s rs }))
       contents-pass
 
   -- The estimate at a point is the rate there times 2^d.
-  pub estimate-is-rate : (q : ℕ) → q < points (s .axes) (s .level) →
+  pub estimate-is-rate : (q : ℕ) → q < pointsOf s →
       estimate (adopted s) (coefficientsOf s rs) (coordinateList s q) ≡ Value (times (s .axes) (getD rs q (pos 0)))
   unfolding times
   estimate-is-rate q h =
       estimated (adopted s) (coefficientsOf s rs) (coordinateList s q) state-passes forward-passes (coordinates-pass s q h) contents-pass
       ∙ ap Value
-      (ap (estimateAt (s .axes) (s .level) (valueAt (coefficientsOf s rs))) (list-holds s q)
-      ∙ estimate-through (s .axes) (s .level) (range .low) (range .top) (valueAt (coefficientsOf s rs)) (valueAt rs) (value-zero rs)
+      (ap (estimateAt s (valueAt (coefficientsOf s rs))) (list-holds s q)
+      ∙ estimate-through s (range .low) (omega (arith, range)) (valueAt (coefficientsOf s rs)) (valueAt rs) (value-zero rs)
       (coefficient-at s rs) q h
       ∙ ap (times (s .axes)) (value-suc rs q))

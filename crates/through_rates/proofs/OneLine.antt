@@ -8,36 +8,37 @@ use lib.Dec.{eqb}
 use borrow.Author.Tests.{eqb-true, ne-eqb}
 use Rattle.naturals.proofs.Cases.{le-or-lt}
 use Rattle.naturals.proofs.Tests.{and-left, and-right, all-at}
-use Rattle.numbering.specs.Inverse.{levelAt, indexAt}
-use Rattle.numbering.proofs.Numbering.{level-zero, index-zero}
+use Rattle.shapes.specs.declared.Shape.{Shape}
+use Rattle.grids.specs.Grids.{levelOn, indexOn}
+use Rattle.grids.proofs.Points.{level-past, index-past}
 use Rattle.surfaces.specs.Lines.{sameOn, sameBeside, onLine}
 use Rattle.turns.proofs.Lines.{OnLine}
 
-module _ (d n t p q : ℕ) (e : onLine d n t p q ≡ true) where
-  same-on : (u : ℕ) → u < d → (u ≡ t → ⊥) → sameOn d n p q u ≡ true
+module _ (s : Shape) (t p q : ℕ) (e : onLine s t p q ≡ true) where
+  same-on : (u : ℕ) → u < s .axes → (u ≡ t → ⊥) → sameOn s p q u ≡ true
   unfolding onLine sameBeside
   same-on u h ne =
-      sym (ap (λ (b : Bool). b || sameOn d n p q u) (ne-eqb u t ne)) ∙ all-at (sameBeside d n t p q) d e u h
+      sym (ap (λ (b : Bool). b || sameOn s p q u) (ne-eqb u t ne)) ∙ all-at (sameBeside s t p q) (s .axes) e u h
 
-  same-level : (u : ℕ) → u < d → (u ≡ t → ⊥) → levelAt d n p u ≡ levelAt d n q u
+  same-level : (u : ℕ) → u < s .axes → (u ≡ t → ⊥) → levelOn s p u ≡ levelOn s q u
   unfolding sameOn
   same-level u h ne =
-      eqb-true (levelAt d n p u) (levelAt d n q u)
-      (and-left (eqb (levelAt d n p u) (levelAt d n q u)) (eqb (indexAt d n p u) (indexAt d n q u)) (same-on u h ne))
+      eqb-true (levelOn s p u) (levelOn s q u)
+      (and-left (eqb (levelOn s p u) (levelOn s q u)) (eqb (indexOn s p u) (indexOn s q u)) (same-on u h ne))
 
-  same-index : (u : ℕ) → u < d → (u ≡ t → ⊥) → indexAt d n p u ≡ indexAt d n q u
+  same-index : (u : ℕ) → u < s .axes → (u ≡ t → ⊥) → indexOn s p u ≡ indexOn s q u
   unfolding sameOn
   same-index u h ne =
-      eqb-true (indexAt d n p u) (indexAt d n q u)
-      (and-right (eqb (levelAt d n p u) (levelAt d n q u)) (eqb (indexAt d n p u) (indexAt d n q u)) (same-on u h ne))
+      eqb-true (indexOn s p u) (indexOn s q u)
+      (and-right (eqb (levelOn s p u) (levelOn s q u)) (eqb (indexOn s p u) (indexOn s q u)) (same-on u h ne))
 
-  pub on-line-means : OnLine d n t q p
+  pub on-line-means : OnLine s t q p
   on-line-means =
       record {
         levels =
             λ u ne.
-            le-or-lt d u (λ past. level-zero d n p u past ∙ sym (level-zero d n q u past)) (λ h. same-level u h ne);
+            le-or-lt (s .axes) u (λ past. level-past s p u past ∙ sym (level-past s q u past)) (λ h. same-level u h ne);
         indices =
             λ u ne.
-            le-or-lt d u (λ past. index-zero d n p u past ∙ sym (index-zero d n q u past)) (λ h. same-index u h ne);
+            le-or-lt (s .axes) u (λ past. index-past s p u past ∙ sym (index-past s q u past)) (λ h. same-index u h ne);
       }

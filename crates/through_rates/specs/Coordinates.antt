@@ -12,4 +12,4 @@ firstValues (suc k) f = firstValues k f ++ (f k ∷ [])
 
 -- The coordinates of point number q, one for each axis.
 unfoldable pub coordinateList : Shape → ℕ → List ℕ
-coordinateList s q = firstValues (s .axes) (coordinatesOf (s .axes) (s .level) q)
+coordinateList s q = firstValues (s .axes) (coordinatesOf s q)

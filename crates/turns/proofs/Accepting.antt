@@ -12,10 +12,11 @@ use Rattle.naturals.specs.Test.{all}
 use Rattle.naturals.proofs.Cases.{le-or-lt, true-or-false}
 use Rattle.naturals.proofs.Tests.{and-left, all-at, all-from, all-fails}
 use Rattle.integers.specs.Half.{inLimit}
-use Rattle.numbering.specs.Count.{points}
 use Rattle.hierarchy.specs.Turns.{valueAt, acceptedAt, accepted}
 use Rattle.hierarchy.proofs.Values.{value-zero, value-past}
-use Rattle.zero_border.specs.ZeroBorder.{neighbour}
+use Rattle.shapes.specs.Shapes.{pointsOf}
+use Rattle.shapes.specs.declared.Shape.{Shape}
+use Rattle.grids.specs.Grids.{neighbour}
 use Rattle.tables.specs.Tables.{contentAt}
 use Rattle.turns.specs.Steps.{Limited, movesOn}
 use Rattle.turns.proofs.AtPoint.{zero-in-limit}
@@ -40,8 +41,8 @@ passed-limited xs e = all-at (contentAt xs) (length xs) e
 
 -- ---- all points
 
-module _ (d n t : ℕ) (xs : List ℤ) (long : length xs ≡ points d n) where
-  parts : (p : ℕ) → acceptedAt (neighbour d n) t (valueAt xs) p ≡ inLimit (valueAt xs (suc p)) && movesOn d n t xs p
+module _ (sh : Shape) (t : ℕ) (xs : List ℤ) (long : length xs ≡ pointsOf sh) where
+  parts : (p : ℕ) → acceptedAt (neighbour sh) t (valueAt xs) p ≡ inLimit (valueAt xs (suc p)) && movesOn sh t xs p
   unfolding acceptedAt movesOn
   parts p = regroup (inLimit (valueAt xs (suc p))) _ _
     where
@@ -49,31 +50,31 @@ module _ (d n t : ℕ) (xs : List ℤ) (long : length xs ≡ points d n) where
       regroup true b c = refl
       regroup false b c = refl
 
-  pub accepted-limited : accepted (neighbour d n) (points d n) t (valueAt xs) ≡ true → Limited xs (length xs)
+  pub accepted-limited : accepted (neighbour sh) (pointsOf sh) t (valueAt xs) ≡ true → Limited xs (length xs)
   unfolding accepted
   accepted-limited e p h =
-      and-left (inLimit (valueAt xs (suc p))) (movesOn d n t xs p)
-      (sym (parts p) ∙ all-at (acceptedAt (neighbour d n) t (valueAt xs)) (points d n) e p (omega arith))
+      and-left (inLimit (valueAt xs (suc p))) (movesOn sh t xs p)
+      (sym (parts p) ∙ all-at (acceptedAt (neighbour sh) t (valueAt xs)) (pointsOf sh) e p (omega arith))
 
-  pub limit-refuses : all (contentAt xs) (length xs) ≡ false → accepted (neighbour d n) (points d n) t (valueAt xs) ≡ false
+  pub limit-refuses : all (contentAt xs) (length xs) ≡ false → accepted (neighbour sh) (pointsOf sh) t (valueAt xs) ≡ false
   limit-refuses e =
-      true-or-false (accepted (neighbour d n) (points d n) t (valueAt xs))
+      true-or-false (accepted (neighbour sh) (pointsOf sh) t (valueAt xs))
       (λ yes. absurd (false≢true (sym e ∙ limited-passes xs (accepted-limited yes))))
       (λ no. no)
 
-  pub point-refuses : (p : ℕ) → p < length xs → movesOn d n t xs p ≡ false → accepted (neighbour d n) (points d n) t (valueAt xs) ≡ false
+  pub point-refuses : (p : ℕ) → p < length xs → movesOn sh t xs p ≡ false → accepted (neighbour sh) (pointsOf sh) t (valueAt xs) ≡ false
   unfolding accepted
   point-refuses p h e =
-      all-fails (acceptedAt (neighbour d n) t (valueAt xs)) (points d n) p (omega arith)
-      (parts p ∙ neither (inLimit (valueAt xs (suc p))) (movesOn d n t xs p) e)
+      all-fails (acceptedAt (neighbour sh) t (valueAt xs)) (pointsOf sh) p (omega arith)
+      (parts p ∙ neither (inLimit (valueAt xs (suc p))) (movesOn sh t xs p) e)
     where
       neither : (a b : Bool) → b ≡ false → a && b ≡ false
       neither true b e = e
       neither false b e = refl
 
-  pub all-accepted : Limited xs (length xs) → ((p : ℕ) → p < length xs → movesOn d n t xs p ≡ true) →
-      accepted (neighbour d n) (points d n) t (valueAt xs) ≡ true
+  pub all-accepted : Limited xs (length xs) → ((p : ℕ) → p < length xs → movesOn sh t xs p ≡ true) →
+      accepted (neighbour sh) (pointsOf sh) t (valueAt xs) ≡ true
   unfolding accepted
   all-accepted limited moves =
-      all-from (acceptedAt (neighbour d n) t (valueAt xs)) (points d n)
+      all-from (acceptedAt (neighbour sh) t (valueAt xs)) (pointsOf sh)
       (λ p h. parts p ∙ rw (limited p (omega arith), moves p (omega arith)))

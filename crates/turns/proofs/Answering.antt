@@ -13,8 +13,8 @@ use Rattle.refusals.specs.declared.Verdict.the-variants as verdict
 use Rattle.states.specs.declared.State.{State}
 use Rattle.states.specs.States.{has, marked, cleared}
 use Rattle.states.specs.declared.Answer.the-variants.{Done}
-use Rattle.turns.specs.Steps.{OnAxis}
 use Rattle.states.specs.After.{after, kept}
+use Rattle.turns.specs.Steps.{OnAxis}
 use Rattle.turns.specs.Turns.{turnedTable, formerTable, isAccepted, checkTurn, forwardTurn, backTurn}
 use Rattle.turns.proofs.Checking.{MayTurn, place-of}
 
@@ -57,5 +57,5 @@ module _ (s : State) (xs : List ℤ) (axis : ℕ) where
     back-done h a = rw (e, h, a)
 
 -- What the passed checks tell the steps of a turn.
-pub on-axis : {s : State} {xs : List ℤ} {axis : ℕ} → MayTurn s (length xs) axis → OnAxis (s .shape .axes) (s .shape .level) (axis - 1) xs
+pub on-axis : {s : State} {xs : List ℤ} {axis : ℕ} → MayTurn s (length xs) axis → OnAxis (s .shape) (axis - 1) xs
 on-axis m = record { few = m .range .high; low = m .range .top; place = place-of m; long = m .long }

@@ -1,20 +1,23 @@
--- What a step of a turn reads at a point: a value that a call gave, and the values of the point's parents, which have smaller numbers
--- since they are less deep on the axis.
+-- What a step of a turn reads at a point: a value that a call gave, and the values of the point's parents.
 -- Assumes nothing.
 use mathlib.Core.Path.{_≡_, refl, _∙_}
+use mathlib.Core.Logic.{_⊎_}
 use mathlib.Core.Bool.{true}
 use mathlib.Core.List.{List}
-use Prim.Native.Nat.{ℕ, suc, _≤_, _<_}
+use Prim.Native.Nat.{ℕ, suc, _≤_}
 use lib.IntN.{ℤ, pos}
 use mir.Syntax.{w64}
 use mir.Val.{SFits, toZ, ofZ}
 use mir.ValLaws.{toZ-ofZ}
 use Rattle.integers.specs.Half.{inLimit}
-use Rattle.numbering.specs.declared.Side.{Side}
 use Rattle.numbering.specs.declared.Side.the-variants.{Left, Right}
+use Rattle.hierarchy.specs.Grid.{Still}
 use Rattle.hierarchy.specs.Turns.{valueAt}
-use Rattle.zero_border.specs.ZeroBorder.{neighbour}
-use Rattle.zero_border.proofs.Instance.{nearer}
+use Rattle.hierarchy.proofs.Still.{back-still}
+use Rattle.hierarchy.proofs.Values.{value-zero}
+use Rattle.shapes.specs.declared.Shape.{Shape}
+use Rattle.grids.specs.Grids.{neighbour}
+use Rattle.turns.specs.Steps.{raised}
 
 pub zero-in-limit : inLimit (pos 0) ≡ true
 unfolding inLimit
@@ -25,10 +28,15 @@ pub given-is : (v w : ℤ) → SFits w64 v → v ≡ w → toZ w64 (ofZ w64 v) �
 given-is v w fits e = toZ-ofZ w64 v fits ∙ e
 
 -- What the table holds at the parents of point number k.
-pub record AtParents (d n t : ℕ) (ys : List ℤ) (k : ℕ) (a b : ℤ) : Type 0 where
-  pub left : a ≡ valueAt ys (neighbour d n t Left (suc k))
-  pub right : b ≡ valueAt ys (neighbour d n t Right (suc k))
+pub record AtParents (sh : Shape) (t : ℕ) (ys : List ℤ) (k : ℕ) (a b : ℤ) : Type 0 where
+  pub left : a ≡ valueAt ys (neighbour sh t Left (suc k))
+  pub right : b ≡ valueAt ys (neighbour sh t Right (suc k))
 
--- A point's parents have smaller numbers.
-pub earlier : (d n t : ℕ) → n ≤ 8 → (b : Side) (p : ℕ) → (neighbour d n t b p ≡ 0 → ⊥) → neighbour d n t b p < p
-earlier d n t low b p ne = nearer d n low t b p ne .smaller
+-- A code that steps back from number p on leave alone: it stands before p, or does not move on the axis.
+abbrev pub LeftAlone : Shape → ℕ → ℕ → ℕ → Type 0
+LeftAlone sh t p q = (q ≤ p) ⊎ Still (neighbour sh) t q
+
+-- A step back does not change what does not move.
+pub raised-still : (sh : Shape) (t : ℕ) (xs : List ℤ) (q : ℕ) → Still (neighbour sh) t q → raised sh t xs q ≡ valueAt xs q
+unfolding raised
+raised-still sh t xs q still = back-still (neighbour sh) t (valueAt xs) (value-zero xs) q still

@@ -27,9 +27,14 @@ module _ (lo hi : ℕ) (f g : ℕ → ℤ) where
   unfolding between
   between-high q from past = mixed-high lo g (mixed hi f g) q from ∙ mixed-high hi f g q past
 
+  -- Where the two tables hold the same, it does not matter which.
+  pub between-same : (q : ℕ) → (lo < q → q ≤ hi → f q ≡ g q) → between lo hi f g q ≡ g q
+  between-same q same =
+      le-or-lt q lo (between-low q) (λ from. le-or-lt q hi (λ to. between-inside q from to ∙ same from to) (between-high q from))
+
   -- Nothing lies between a number and itself.
   pub between-none : hi ≤ lo → (q : ℕ) → g q ≡ between lo hi f g q
-  between-none none q = le-or-lt q lo (λ low. sym (between-low q low)) (λ high. sym (between-high q high (omega arith)))
+  between-none none q = sym (between-same q (λ from to. absurd (omega arith)))
 
 -- The list of such a table, within a list of m values.
 pub between-held : (m lo hi : ℕ) (f : ℕ → ℤ) (ys zs : List ℤ) → length ys ≡ m → hi ≤ m → zs ≡ valuesOf m (between lo hi f (valueAt ys)) →

@@ -4,7 +4,7 @@
 use mathlib.Core.Path.{_≡_, refl, ap, sym, _∙_}
 use mathlib.Core.Bool.{true, false, not}
 use mathlib.Core.List.{List}
-use Prim.Native.Nat.{ℕ, _-_, _^_, _≤_}
+use Prim.Native.Nat.{ℕ, _-_, _^_}
 use native.Mathlib.Nat.{add-sub-cancel, sub-add-cancel}
 use native.Mathlib.Omega.{arith}
 use lib.IntN.{ℤ}
@@ -98,14 +98,14 @@ forward-then-back s next xs ys axis e =
     let w = went-forward s next xs ys axis e in
     let t = axis - 1 in
     let m = w .0 .may in
-    let again : formerTable (s .shape) t (turnedTable (s .shape) t xs) ≡ xs = former-of-turned (s .shape) (m .range .top) t xs (m .long) in
+    let again : formerTable (s .shape) t (turnedTable (s .shape) t xs) ≡ xs = former-of-turned (s .shape) t xs (m .long) in
     rw (← w .1, ← w .2)
     (rw (
       may-turn (marked s t) (length (turnedTable (s .shape) t xs)) axis
           (record {
             range = m .range;
             few = marked-small (s .forward) t (s .shape .axes) (m .few) (place-of m) (w .0 .clear);
-            long = turned-length (s .shape) (m .range .top) t xs;
+            long = turned-length (s .shape) t xs;
             first = m .first;
             last = m .last;
           }),
@@ -129,21 +129,21 @@ back-then-forward s next xs ys axis e =
           (record {
             range = m .range;
             few = cleared-small (s .forward) t (s .shape .axes) (m .few);
-            long = former-length (s .shape) (m .range .top) t xs;
+            long = former-length (s .shape) t xs;
             first = m .first;
             last = m .last;
           }),
       has-cleared-same (s .forward) t (w .0 .marked),
       w .0 .accepted,
-      turned-of-former (s .shape) (m .range .top) t xs (m .long),
+      turned-of-former (s .shape) t xs (m .long),
       sub-add-cancel (bit-le (s .forward) t (w .0 .marked)),
     ))
 
 -- Refusal 10 on back, as the call answers it: where the checks before it pass, if and only if no table with an accepted forward turn leads to the present one.
 pub refused-none-leads : (s : State) (xs : List ℤ) (axis : ℕ) → checkTurn s (length xs) axis ≡ verdict.Passed → has (s .forward) (axis - 1) ≡ true →
-    backTurn s xs axis ≡ kept xs Contents → (low : s .shape .level ≤ 8) (ys : List ℤ) → LeadsTo (s .shape) low (axis - 1) ys xs → ⊥
-refused-none-leads s xs axis passed there e low =
-    none-leads (s .shape) low (axis - 1) xs
+    backTurn s xs axis ≡ kept xs Contents → (ys : List ℤ) → LeadsTo (s .shape) (axis - 1) ys xs → ⊥
+refused-none-leads s xs axis passed there e =
+    none-leads (s .shape) (axis - 1) xs
     (true-or-false (isAccepted (s .shape) (axis - 1) (formerTable (s .shape) (axis - 1) xs))
     (λ good. absurd (refused-done (cleared s (axis - 1)) (ap (λ (a : After). a .answer) (sym e ∙ back-done s xs axis passed there good))))
     (λ bad. bad))
@@ -152,7 +152,7 @@ refused-none-leads s xs axis passed there e low =
     refused-done next f = let z : _≡_ {A = ℕ} 0 1 = cc in omega arith
 
 pub none-leads-refused : (s : State) (xs : List ℤ) (axis : ℕ) → checkTurn s (length xs) axis ≡ verdict.Passed → has (s .forward) (axis - 1) ≡ true →
-    (low : s .shape .level ≤ 8) → ((ys : List ℤ) → LeadsTo (s .shape) low (axis - 1) ys xs → ⊥) → backTurn s xs axis ≡ kept xs Contents
-none-leads-refused s xs axis passed there low none =
+    ((ys : List ℤ) → LeadsTo (s .shape) (axis - 1) ys xs → ⊥) → backTurn s xs axis ≡ kept xs Contents
+none-leads-refused s xs axis passed there none =
     back-refused s xs axis passed there
-    (refused-where-none (s .shape) low (axis - 1) xs (turn-passed s (length xs) axis passed .long) none)
+    (refused-where-none (s .shape) (axis - 1) xs (turn-passed s (length xs) axis passed .long) none)

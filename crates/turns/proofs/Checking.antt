@@ -10,8 +10,7 @@ use Rattle.refusals.specs.declared.Refusal.the-variants.{StrayBit, TableLength}
 use Rattle.refusals.specs.declared.Verdict.the-variants.{Passed}
 use Rattle.refusals.specs.Checks.{unless, _andThen_}
 use Rattle.refusals.proofs.Passing.{first-passed, next-passed, test-passed}
-use Rattle.numbering.specs.Count.{points}
-use Rattle.shapes.specs.Shapes.{checkShape, checkAxis}
+use Rattle.shapes.specs.Shapes.{checkShape, checkAxis, pointsOf}
 use Rattle.shapes.proofs.Checked.{InRange, passed-in-range, in-range-passed, axis-in-range}
 use Rattle.states.specs.declared.State.{State}
 use Rattle.states.specs.States.{checkContents, checkState}
@@ -20,7 +19,7 @@ use Rattle.turns.specs.Turns.{checkTurn}
 pub record MayTurn (s : State) (places axis : ℕ) : Type 0 where
   pub range : InRange (s .shape)
   pub few : s .forward < 2 ^ (s .shape .axes)
-  pub long : places ≡ points (s .shape .axes) (s .shape .level)
+  pub long : places ≡ pointsOf (s .shape)
   pub first : 1 ≤ axis
   pub last : axis ≤ s .shape .axes
 
@@ -33,7 +32,7 @@ unfolding checkTurn checkState checkContents
 turn-passed s places axis e =
     let axes = s .shape .axes in
     let bits = unless (ltb (s .forward) (2 ^ axes)) StrayBit in
-    let long = unless (eqb places (points axes (s .shape .level))) TableLength in
+    let long = unless (eqb places (pointsOf (s .shape))) TableLength in
     let state = first-passed (checkShape (s .shape) andThen (bits andThen long)) (checkAxis (s .shape) axis) e in
     let contents = next-passed (checkShape (s .shape)) (bits andThen long) state in
     let one = axis-in-range (s .shape) axis (next-passed (checkShape (s .shape) andThen (bits andThen long)) (checkAxis (s .shape) axis) e) in
@@ -41,8 +40,8 @@ turn-passed s places axis e =
       range = passed-in-range (s .shape) (first-passed (checkShape (s .shape)) (bits andThen long) state);
       few = ltb-true (s .forward) (2 ^ axes) (test-passed (ltb (s .forward) (2 ^ axes)) StrayBit (first-passed bits long contents));
       long =
-          eqb-true places (points axes (s .shape .level))
-          (test-passed (eqb places (points axes (s .shape .level))) TableLength (next-passed bits long contents));
+          eqb-true places (pointsOf (s .shape))
+          (test-passed (eqb places (pointsOf (s .shape))) TableLength (next-passed bits long contents));
       first = one .0;
       last = one .1;
     }
@@ -53,7 +52,7 @@ may-turn s places axis m =
     rw (
       in-range-passed (s .shape) (m .range),
       lt-ltb (s .forward) (2 ^ (s .shape .axes)) (m .few),
-      eq-eqb places (points (s .shape .axes) (s .shape .level)) (m .long),
+      eq-eqb places (pointsOf (s .shape)) (m .long),
       le-leb 1 axis (m .first),
       le-leb axis (s .shape .axes) (m .last),
     )

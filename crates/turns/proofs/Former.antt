@@ -13,64 +13,56 @@ use Rattle.naturals.specs.Test.{all}
 use Rattle.naturals.proofs.Cases.{eq-or-not, le-or-lt, true-or-false}
 use Rattle.naturals.proofs.Tests.{and-right, all-at, all-from, all-fails}
 use Rattle.integers.specs.Half.{half, isEven, inLimit}
-use Rattle.numbering.specs.Count.{points}
+use Rattle.hierarchy.specs.Grid.{Still}
 use Rattle.hierarchy.specs.Turns.{valueAt, valuesOf, sumOn, forward, acceptedAt, accepted, backward}
-use Rattle.hierarchy.proofs.Inverse.{backward-zero, forward-past, forward-of-back}
-use Rattle.hierarchy.proofs.Values.{value-zero, value-past, value-of-values, values-of-value}
+use Rattle.hierarchy.proofs.Still.{forward-still}
+use Rattle.hierarchy.proofs.Inverse.{backward-zero, forward-of-back}
+use Rattle.hierarchy.proofs.Values.{value-zero, values-of-value}
 use Rattle.hierarchy.proofs.Sweeps as sweeps
 use Rattle.hierarchy.proofs.Sweeps.{list-of-values}
-use Rattle.zero_border.specs.ZeroBorder.{neighbour, depth}
-use Rattle.zero_border.proofs.Instance.{zero-border, depth-le}
+use Rattle.shapes.specs.Shapes.{pointsOf}
+use Rattle.shapes.specs.declared.Shape.{Shape}
+use Rattle.grids.specs.Grids.{neighbour, depth, height}
+use Rattle.grids.proofs.Instance.{grid, shallow}
 use Rattle.tables.specs.Tables.{contentAt}
-use Rattle.turns.specs.Steps.{OnAxis, Limited, movesOn, between, LoweredBetween, raised, raisesOn, RaisedFrom}
+use Rattle.turns.specs.Turns.{formerTable}
+use Rattle.turns.specs.Steps.{Limited, movesOn, between, LoweredBetween, raised, raisesOn, RaisedFrom}
 use Rattle.turns.proofs.Accepting.{limited-passes}
-use Rattle.turns.proofs.AtPoint.{earlier}
 use Rattle.turns.proofs.Between.{between-inside, between-high}
+use Rattle.turns.proofs.Rising.{risen-still}
+use Rattle.turns.proofs.Undoing as undoing
 use Rattle.turns.proofs.Turned.{values-same, sum-before}
 
 -- The table that a forward turn takes to this one.
-abbrev former : ℕ → ℕ → ℕ → List ℤ → ℕ → ℤ
-former d n t xs = backward (neighbour d n) (suc n) t (valueAt xs)
-
--- No code lies deeper than the steps back go.
-shallow : (d n t p : ℕ) → depth d n t p < suc n
-shallow d n t p = omega (arith, depth-le d n t p)
+abbrev former : Shape → ℕ → List ℤ → ℕ → ℤ
+former sh t xs = backward (neighbour sh) (height sh) t (valueAt xs)
 
 -- The value that an accepted point has after the turn is within the limit.
-after-limited : (d n t : ℕ) (f : ℕ → ℤ) (p : ℕ) → acceptedAt (neighbour d n) t f p ≡ true → inLimit (forward (neighbour d n) t f (suc p)) ≡ true
+after-limited : (sh : Shape) (t : ℕ) (f : ℕ → ℤ) (p : ℕ) → acceptedAt (neighbour sh) t f p ≡ true → inLimit (forward (neighbour sh) t f (suc p)) ≡ true
 unfolding acceptedAt
-after-limited d n t f p e = and-right (inLimit (f (suc p)) && isEven (sumOn (neighbour d n) t f (suc p))) _ e
+after-limited sh t f p e = and-right (inLimit (f (suc p)) && isEven (sumOn (neighbour sh) t f (suc p))) _ e
 
-module _ (d n t : ℕ) (xs : List ℤ) (axis : OnAxis d n t xs) where
-  forward-former : (p : ℕ) → forward (neighbour d n) t (former d n t xs) p ≡ valueAt xs p
+module _ (sh : Shape) (t : ℕ) (xs : List ℤ) (long : length xs ≡ pointsOf sh) where
+  forward-former : (p : ℕ) → forward (neighbour sh) t (former sh t xs) p ≡ valueAt xs p
   forward-former p =
-      forward-of-back (points d n) (neighbour d n) (depth d n) (zero-border d n (axis .low)) t (suc n) (valueAt xs) (value-zero xs) p
-      (shallow d n t p)
+      forward-of-back (pointsOf sh) (neighbour sh) (depth sh) (grid sh) t (height sh) (valueAt xs) (value-zero xs) p
+      (shallow sh t p)
 
-  former-zero : former d n t xs 0 ≡ pos 0
-  former-zero = backward-zero (points d n) (neighbour d n) (depth d n) (zero-border d n (axis .low)) t (suc n) (valueAt xs) (value-zero xs)
-
-  past-zero : (p : ℕ) → points d n < p → valueAt xs p ≡ pos 0
-  past-zero p h = value-past xs p (omega (arith, axis .long))
-
-  former-past : (p : ℕ) → points d n < p → former d n t xs p ≡ pos 0
-  former-past p h =
-      sym
-      (forward-past (points d n) (neighbour d n) (depth d n) (zero-border d n (axis .low)) t (former d n t xs) former-zero p h)
-      ∙ forward-former p
-      ∙ past-zero p h
+  former-zero : former sh t xs 0 ≡ pos 0
+  former-zero = backward-zero (pointsOf sh) (neighbour sh) (depth sh) (grid sh) t (height sh) (valueAt xs) (value-zero xs)
 
   -- The list of the former table holds it.
-  former-holds : valueAt (valuesOf (points d n) (former d n t xs)) ≡ former d n t xs
-  former-holds = value-of-values (points d n) (former d n t xs) former-zero former-past
+  former-holds : valueAt (valuesOf (pointsOf sh) (former sh t xs)) ≡ former sh t xs
+  unfolding formerTable
+  former-holds = undoing.former-holds sh t xs long
 
   -- A value past the limit is that of no accepted turn.
   pub past-limit-refuses : all (contentAt xs) (length xs) ≡ false →
-      accepted (neighbour d n) (points d n) t (valueAt (valuesOf (points d n) (former d n t xs))) ≡ false
+      accepted (neighbour sh) (pointsOf sh) t (valueAt (valuesOf (pointsOf sh) (former sh t xs))) ≡ false
   unfolding accepted
   past-limit-refuses e =
       rw former-holds
-      (true-or-false (all (acceptedAt (neighbour d n) t (former d n t xs)) (points d n))
+      (true-or-false (all (acceptedAt (neighbour sh) t (former sh t xs)) (pointsOf sh))
       (λ yes.
       absurd
       (false≢true
@@ -78,41 +70,46 @@ module _ (d n t : ℕ) (xs : List ℤ) (axis : OnAxis d n t xs) where
       ∙ limited-passes xs
       (λ p h.
       ap inLimit (sym (forward-former (suc p)))
-      ∙ after-limited d n t (former d n t xs) p
-      (all-at (acceptedAt (neighbour d n) t (former d n t xs)) (points d n) yes p (omega (arith, axis .long)))))))
+      ∙ after-limited sh t (former sh t xs) p
+      (all-at (acceptedAt (neighbour sh) t (former sh t xs)) (pointsOf sh) yes p (omega (arith, long)))))))
       (λ no. no))
 
-  module _ (limited : Limited xs (length xs)) (k : ℕ) (ys : List ℤ) (way : RaisedFrom d n t 0 xs k ys) where
+  module _ (limited : Limited xs (length xs)) (k : ℕ) (ys : List ℤ) (way : RaisedFrom sh t 0 xs k ys) where
     pub raised-limited : Limited ys (length ys)
     raised-limited q h =
         le-or-lt (suc q) k
         (λ done. way .up .small q (omega arith) done)
-        (λ later. ap inLimit (way .up .rest (suc q) later) ∙ limited q (omega (arith, way .up .long, axis .long)))
+        (λ later. ap inLimit (way .up .rest (suc q) later) ∙ limited q (omega (arith, way .up .long, long)))
+
+    -- What does not move holds the former table, reached or not.
+    still-former : (q : ℕ) → Still (neighbour sh) t q → valueAt ys q ≡ former sh t xs q
+    still-former q still =
+        risen-still (way .up) q still ∙ sym (forward-former q) ∙ forward-still (neighbour sh) t (former sh t xs) former-zero q still
 
     -- The points that were reached hold the former table, each by those before it.
-    reached-to : (m q : ℕ) → q < m → q ≤ k → valueAt ys q ≡ former d n t xs q
+    reached-to : (m q : ℕ) → q < m → q ≤ k → valueAt ys q ≡ former sh t xs q
     reached-to zero q h to = absurd (omega arith)
     reached-to (suc m) zero h to = value-zero ys ∙ sym former-zero
     reached-to (suc m) (suc q) h to =
         way .up .made (suc q) (omega arith) to
         ∙ ap (λ (w : ℤ). valueAt xs (suc q) +ℤ half w)
-        (sum-before d n t (axis .low) (valueAt ys) (former d n t xs) (suc q) (value-zero ys ∙ sym former-zero)
-        (λ u below. reached-to m u (omega arith) (omega arith)))
+        (sum-before sh t (valueAt ys) (former sh t xs) (suc q) (value-zero ys ∙ sym former-zero)
+        (λ u below. reached-to m u (omega arith) (omega arith)) still-former)
         ∙ sym
-        (sweeps.result-at (points d n) (neighbour d n) (depth d n) (zero-border d n (axis .low)) t (earlier d n t (axis .low))
-        (suc n) (shallow d n t) (valueAt xs) (value-zero xs) (suc q))
+        (sweeps.result-at (pointsOf sh) (neighbour sh) (depth sh) (grid sh) t (height sh) (shallow sh t) (valueAt xs)
+        (value-zero xs) (suc q))
 
-    reached : (q : ℕ) → q ≤ k → valueAt ys q ≡ former d n t xs q
+    reached : (q : ℕ) → q ≤ k → valueAt ys q ≡ former sh t xs q
     reached q h = reached-to (suc q) q (omega arith) h
 
-    sum-reached : (q : ℕ) → q ≤ suc k → sumOn (neighbour d n) t (valueAt ys) q ≡ sumOn (neighbour d n) t (former d n t xs) q
+    sum-reached : (q : ℕ) → q ≤ suc k → sumOn (neighbour sh) t (valueAt ys) q ≡ sumOn (neighbour sh) t (former sh t xs) q
     sum-reached q h =
-        sum-before d n t (axis .low) (valueAt ys) (former d n t xs) q (value-zero ys ∙ sym former-zero) (λ u below. reached u (omega arith))
+        sum-before sh t (valueAt ys) (former sh t xs) q (value-zero ys ∙ sym former-zero) (λ u below. reached u (omega arith)) still-former
 
-    turned-limited : (p : ℕ) → p < points d n → inLimit (forward (neighbour d n) t (former d n t xs) (suc p)) ≡ true
-    turned-limited p h = ap inLimit (forward-former (suc p)) ∙ limited p (omega (arith, axis .long))
+    turned-limited : (p : ℕ) → p < pointsOf sh → inLimit (forward (neighbour sh) t (former sh t xs) (suc p)) ≡ true
+    turned-limited p h = ap inLimit (forward-former (suc p)) ∙ limited p (omega (arith, long))
 
-    accepted-at : (p : ℕ) → p < k → acceptedAt (neighbour d n) t (former d n t xs) p ≡ true
+    accepted-at : (p : ℕ) → p < k → acceptedAt (neighbour sh) t (former sh t xs) p ≡ true
     unfolding acceptedAt
     accepted-at p h =
         rw (
@@ -122,19 +119,19 @@ module _ (d n t : ℕ) (xs : List ℤ) (axis : OnAxis d n t xs) where
         )
 
     -- A point that stopped the way up is not accepted.
-    raised-former : raised d n t ys (suc k) ≡ former d n t xs (suc k)
+    raised-former : raised sh t ys (suc k) ≡ former sh t xs (suc k)
     unfolding raised
     raised-former =
         ap₂ (λ (v w : ℤ). v +ℤ half w) (way .up .rest (suc k) (omega arith)) (sum-reached (suc k) (omega arith))
         ∙ sym
-        (sweeps.result-at (points d n) (neighbour d n) (depth d n) (zero-border d n (axis .low)) t (earlier d n t (axis .low))
-        (suc n) (shallow d n t) (valueAt xs) (value-zero xs) (suc k))
+        (sweeps.result-at (pointsOf sh) (neighbour sh) (depth sh) (grid sh) t (height sh) (shallow sh t) (valueAt xs)
+        (value-zero xs) (suc k))
 
-    stopped-at : k < points d n → acceptedAt (neighbour d n) t (former d n t xs) k ≡ false
+    stopped-at : k < pointsOf sh → acceptedAt (neighbour sh) t (former sh t xs) k ≡ false
     unfolding acceptedAt raisesOn
     stopped-at h =
         rw (turned-limited k h)
-        (exchanged (inLimit (former d n t xs (suc k))) (isEven (sumOn (neighbour d n) t (former d n t xs) (suc k)))
+        (exchanged (inLimit (former sh t xs (suc k))) (isEven (sumOn (neighbour sh) t (former sh t xs) (suc k)))
         (ap₂ (λ (w v : ℤ). isEven w && inLimit v) (sym (sum-reached (suc k) (omega arith))) (sym raised-former) ∙ way .stopped h))
       where
         exchanged : (a b : Bool) → b && a ≡ false → a && b && true ≡ false
@@ -143,36 +140,36 @@ module _ (d n t : ℕ) (xs : List ℤ) (axis : OnAxis d n t xs) where
         exchanged false true e = refl
         exchanged false false e = refl
 
-    pub stopped-refuses : k < points d n →
-        accepted (neighbour d n) (points d n) t (valueAt (valuesOf (points d n) (former d n t xs))) ≡ false
+    pub stopped-refuses : k < pointsOf sh →
+        accepted (neighbour sh) (pointsOf sh) t (valueAt (valuesOf (pointsOf sh) (former sh t xs))) ≡ false
     unfolding accepted
-    stopped-refuses h = rw former-holds (all-fails (acceptedAt (neighbour d n) t (former d n t xs)) (points d n) k h (stopped-at h))
+    stopped-refuses h = rw former-holds (all-fails (acceptedAt (neighbour sh) t (former sh t xs)) (pointsOf sh) k h (stopped-at h))
 
     -- At the end of the way the table is the former one, and it is accepted.
-    pub end-holds : points d n ≤ k → ys ≡ valuesOf (points d n) (former d n t xs)
+    pub end-holds : pointsOf sh ≤ k → ys ≡ valuesOf (pointsOf sh) (former sh t xs)
     end-holds h =
-        list-of-values (points d n) ys (valueAt ys) (way .up .long) (λ q. refl)
-        ∙ values-same (points d n) (valueAt ys) (former d n t xs) (λ p below. reached (suc p) (omega arith))
+        list-of-values (pointsOf sh) ys (valueAt ys) (way .up .long) (λ q. refl)
+        ∙ values-same (pointsOf sh) (valueAt ys) (former sh t xs) (λ p below. reached (suc p) (omega arith))
 
-    pub end-accepted : points d n ≤ k →
-        accepted (neighbour d n) (points d n) t (valueAt (valuesOf (points d n) (former d n t xs))) ≡ true
+    pub end-accepted : pointsOf sh ≤ k →
+        accepted (neighbour sh) (pointsOf sh) t (valueAt (valuesOf (pointsOf sh) (former sh t xs))) ≡ true
     unfolding accepted
     end-accepted h =
         rw former-holds
-        (all-from (acceptedAt (neighbour d n) t (former d n t xs)) (points d n) (λ p below. accepted-at p (omega arith)))
+        (all-from (acceptedAt (neighbour sh) t (former sh t xs)) (pointsOf sh) (λ p below. accepted-at p (omega arith)))
 
     -- The steps down of the points that were reached are all accepted and give back the table.
-    module _ (r : ℕ) (zs : List ℤ) (low : LoweredBetween d n t 0 k ys r zs) where
-      taken-back : (q : ℕ) → 0 < q → q ≤ k → forward (neighbour d n) t (valueAt ys) q ≡ valueAt xs q
+    module _ (r : ℕ) (zs : List ℤ) (low : LoweredBetween sh t 0 k ys r zs) where
+      taken-back : (q : ℕ) → 0 < q → q ≤ k → forward (neighbour sh) t (valueAt ys) q ≡ valueAt xs q
       unfolding forward
       taken-back q from to =
-          ap (λ (v : ℤ). v -ℤ half (sumOn (neighbour d n) t (valueAt ys) q)) (way .up .made q from to)
-          ∙ +ℤ-negℤ-cancel (valueAt xs q) (half (sumOn (neighbour d n) t (valueAt ys) q))
+          ap (λ (v : ℤ). v -ℤ half (sumOn (neighbour sh) t (valueAt ys) q)) (way .up .made q from to)
+          ∙ +ℤ-negℤ-cancel (valueAt xs q) (half (sumOn (neighbour sh) t (valueAt ys) q))
 
-      moves-back : (p : ℕ) → p < k → movesOn d n t ys p ≡ true
+      moves-back : (p : ℕ) → p < k → movesOn sh t ys p ≡ true
       unfolding movesOn
       moves-back p h =
-          rw (way .up .even p (omega arith) h, taken-back (suc p) (omega arith) h, limited p (omega (arith, axis .long, way .up .within)))
+          rw (way .up .even p (omega arith) h, taken-back (suc p) (omega arith) h, limited p (omega (arith, long, way .up .within)))
 
       to-first : r ≡ 0
       to-first =
@@ -182,15 +179,15 @@ module _ (d n t : ℕ) (xs : List ℤ) (axis : OnAxis d n t xs) where
       pub given-back : zs ≡ xs
       given-back =
           low .holds
-          ∙ values-same (points d n) _ (valueAt xs) each
-          ∙ values-of-value (points d n) xs (axis .long)
+          ∙ values-same (pointsOf sh) _ (valueAt xs) each
+          ∙ values-of-value (pointsOf sh) xs long
         where
-          each : (p : ℕ) → p < points d n → between r k (forward (neighbour d n) t (valueAt ys)) (valueAt ys) (suc p) ≡ valueAt xs (suc p)
+          each : (p : ℕ) → p < pointsOf sh → between r k (forward (neighbour sh) t (valueAt ys)) (valueAt ys) (suc p) ≡ valueAt xs (suc p)
           each p h =
               le-or-lt (suc p) k
               (λ done.
-              between-inside r k (forward (neighbour d n) t (valueAt ys)) (valueAt ys) (suc p) (omega (arith, to-first)) done
+              between-inside r k (forward (neighbour sh) t (valueAt ys)) (valueAt ys) (suc p) (omega (arith, to-first)) done
               ∙ taken-back (suc p) (omega arith) done)
               (λ later.
-              between-high r k (forward (neighbour d n) t (valueAt ys)) (valueAt ys) (suc p) (omega (arith, to-first)) later
+              between-high r k (forward (neighbour sh) t (valueAt ys)) (valueAt ys) (suc p) (omega (arith, to-first)) later
               ∙ way .up .rest (suc p) later)

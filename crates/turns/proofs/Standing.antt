@@ -16,6 +16,8 @@ use Rattle.numbering.specs.Number.{firstOf}
 use Rattle.numbering.specs.Inverse.{sumAt, within, levelAt}
 use Rattle.numbering.proofs.Numbering.{points-is, start-mono, level-zero, levels-sum}
 use Rattle.numbering.proofs.Subspaces.{first-is, number-behind-first}
+use Rattle.shapes.specs.Shapes.{sparse, pointsOf}
+use Rattle.grids.proofs.Sparse.{points-sparse}
 use Rattle.points.specs.Points.{eight}
 use Rattle.points.proofs.Eight.{eight-length, eight-whole}
 use Rattle.vectors.specs.Vectors.{VectorIn, NextVector, PreviousVector}
@@ -26,7 +28,7 @@ pub record Standing (d sum : ℕ) (ls : List ℕ) (start : ℕ) : Type 0 where
   pub first : start ≡ firstOf d (at ls)
 
 -- Where the first number is one of the table, the level sum is one of the shape.
-pub sum-inside : (d n sum : ℕ) (ls : List ℕ) (start : ℕ) → Standing d sum ls start → start < points d n → sum ≤ n
+pub sum-inside : (d n sum : ℕ) (ls : List ℕ) (start : ℕ) → Standing d sum ls start → start < pointsOf (sparse d n) → sum ≤ n
 sum-inside d n sum ls start s inside =
     le-or-lt sum n (λ low. low)
     (λ high.
@@ -34,18 +36,22 @@ sum-inside d n sum ls start s inside =
       arith,
       s .first,
       first-is d (at ls),
+      points-sparse d n,
       points-is d n,
       start-mono d (suc n) (sumTo (at ls) d) (omega (arith, s .vector .total)),
     )))
 
 -- The one that point number p lies in.
-module _ (d n p : ℕ) (few : d ≤ 8) (lt : p < points d n) (ls : List ℕ) (sum q : ℕ)
+module _ (d n p : ℕ) (few : d ≤ 8) (lt : p < pointsOf (sparse d n)) (ls : List ℕ) (sum q : ℕ)
     (sum-is : sum ≡ sumAt d n p) (ls-is : ls ≡ eight (levelAt d n p)) (q-is : q ≡ within d n p % 2 ^ sumAt d n p) where
+  inside-table : p < points d n
+  inside-table = omega (arith, points-sparse d n)
+
   whole : at ls ≡ levelAt d n p
   whole = ap at ls-is ∙ eight-whole (levelAt d n p) (λ u h. level-zero d n p u (omega arith))
 
   behind : firstOf d (levelAt d n p) + q ≡ p
-  behind = ap (λ (x : ℕ). firstOf d (levelAt d n p) + x) q-is ∙ number-behind-first d n p lt
+  behind = ap (λ (x : ℕ). firstOf d (levelAt d n p) + x) q-is ∙ number-behind-first d n p inside-table
 
   pub position-le : q ≤ p
   position-le = omega (arith, behind)
@@ -56,7 +62,7 @@ module _ (d n p : ℕ) (few : d ≤ 8) (lt : p < points d n) (ls : List ℕ) (su
         vector =
             record {
               long = ap length ls-is ∙ eight-length (levelAt d n p);
-              total = ap (λ (f : ℕ → ℕ). sumTo f d) whole ∙ levels-sum d n p lt ∙ sym sum-is;
+              total = ap (λ (f : ℕ → ℕ). sumTo f d) whole ∙ levels-sum d n p inside-table ∙ sym sum-is;
               rest = λ t past. ap (λ (f : ℕ → ℕ). f t) whole ∙ level-zero d n p t past;
             };
         first = omega (arith, behind, ap (firstOf d) whole);

@@ -4,82 +4,77 @@
 use mathlib.Core.Path.{_≡_, ap, sym, _∙_, fun-ext}
 use mathlib.Core.Bool.{true, false, true≢false}
 use mathlib.Core.List.{List}
-use Prim.Native.Nat.{ℕ, suc, _≤_, _<_}
+use Prim.Native.Nat.{ℕ}
 use native.Mathlib.Omega.{arith}
 use lib.IntN.{ℤ}
 use lib.ListN.{length}
 use Rattle.naturals.proofs.Cases.{true-or-false}
-use Rattle.numbering.specs.Count.{points}
 use Rattle.hierarchy.specs.Turns.{valueAt, valuesOf, forward, backward}
 use Rattle.hierarchy.proofs.Inverse.{forward-zero, forward-past, backward-zero, backward-past, back-of-forward, forward-of-back}
 use Rattle.hierarchy.proofs.Values.{value-zero, value-past, values-length, value-of-values, values-of-value}
-use Rattle.zero_border.specs.ZeroBorder.{neighbour, depth}
-use Rattle.zero_border.proofs.Instance.{zero-border, depth-le}
+use Rattle.shapes.specs.Shapes.{pointsOf}
 use Rattle.shapes.specs.declared.Shape.{Shape}
+use Rattle.grids.specs.Grids.{neighbour, depth, height}
+use Rattle.grids.proofs.Instance.{grid, shallow}
 use Rattle.turns.specs.Turns.{turnedTable, formerTable, isAccepted}
 
-module _ (s : Shape) (low : s .level ≤ 8) (t : ℕ) where
-  shallow : (p : ℕ) → depth (s .axes) (s .level) t p < suc (s .level)
-  shallow p = omega (arith, depth-le (s .axes) (s .level) t p)
-
+module _ (s : Shape) (t : ℕ) where
   -- What the lists of the turned and of the former table hold.
-  pub turned-holds : (xs : List ℤ) → length xs ≡ points (s .axes) (s .level) →
-      valueAt (turnedTable s t xs) ≡ forward (neighbour (s .axes) (s .level)) t (valueAt xs)
+  pub turned-holds : (xs : List ℤ) → length xs ≡ pointsOf s →
+      valueAt (turnedTable s t xs) ≡ forward (neighbour s) t (valueAt xs)
   unfolding turnedTable
   turned-holds xs len =
-      let m = points (s .axes) (s .level) in
-      let nb = neighbour (s .axes) (s .level) in
-      let grid = zero-border (s .axes) (s .level) low in
+      let m = pointsOf s in
+      let nb = neighbour s in
       value-of-values m (forward nb t (valueAt xs))
-      (forward-zero m nb (depth (s .axes) (s .level)) grid t (valueAt xs) (value-zero xs))
-      (λ p h. forward-past m nb (depth (s .axes) (s .level)) grid t (valueAt xs) (value-zero xs) p h ∙ value-past xs p (omega arith))
+      (forward-zero m nb (depth s) (grid s) t (valueAt xs) (value-zero xs))
+      (λ p h. forward-past m nb (depth s) (grid s) t (valueAt xs) (value-zero xs) p h ∙ value-past xs p (omega arith))
 
-  pub former-holds : (xs : List ℤ) → length xs ≡ points (s .axes) (s .level) →
-      valueAt (formerTable s t xs) ≡ backward (neighbour (s .axes) (s .level)) (suc (s .level)) t (valueAt xs)
+  pub former-holds : (xs : List ℤ) → length xs ≡ pointsOf s →
+      valueAt (formerTable s t xs) ≡ backward (neighbour s) (height s) t (valueAt xs)
   unfolding formerTable
   former-holds xs len =
-      let m = points (s .axes) (s .level) in
-      let nb = neighbour (s .axes) (s .level) in
-      let grid = zero-border (s .axes) (s .level) low in
-      value-of-values m (backward nb (suc (s .level)) t (valueAt xs))
-      (backward-zero m nb (depth (s .axes) (s .level)) grid t (suc (s .level)) (valueAt xs) (value-zero xs))
+      let m = pointsOf s in
+      let nb = neighbour s in
+      value-of-values m (backward nb (height s) t (valueAt xs))
+      (backward-zero m nb (depth s) (grid s) t (height s) (valueAt xs) (value-zero xs))
       (λ p h.
-      backward-past m nb (depth (s .axes) (s .level)) grid t (suc (s .level)) (valueAt xs) (value-zero xs) p h ∙ value-past xs p (omega arith))
+      backward-past m nb (depth s) (grid s) t (height s) (valueAt xs) (value-zero xs) p h ∙ value-past xs p (omega arith))
 
-  pub turned-length : (xs : List ℤ) → length (turnedTable s t xs) ≡ points (s .axes) (s .level)
+  pub turned-length : (xs : List ℤ) → length (turnedTable s t xs) ≡ pointsOf s
   unfolding turnedTable
-  turned-length xs = values-length (points (s .axes) (s .level)) (forward (neighbour (s .axes) (s .level)) t (valueAt xs))
+  turned-length xs = values-length (pointsOf s) (forward (neighbour s) t (valueAt xs))
 
-  pub former-length : (xs : List ℤ) → length (formerTable s t xs) ≡ points (s .axes) (s .level)
+  pub former-length : (xs : List ℤ) → length (formerTable s t xs) ≡ pointsOf s
   unfolding formerTable
-  former-length xs = values-length (points (s .axes) (s .level)) (backward (neighbour (s .axes) (s .level)) (suc (s .level)) t (valueAt xs))
+  former-length xs = values-length (pointsOf s) (backward (neighbour s) (height s) t (valueAt xs))
 
   -- Forward of back, and back of forward.
-  pub turned-of-former : (xs : List ℤ) → length xs ≡ points (s .axes) (s .level) → turnedTable s t (formerTable s t xs) ≡ xs
+  pub turned-of-former : (xs : List ℤ) → length xs ≡ pointsOf s → turnedTable s t (formerTable s t xs) ≡ xs
   unfolding turnedTable
   turned-of-former xs len =
-      let m = points (s .axes) (s .level) in
-      let nb = neighbour (s .axes) (s .level) in
+      let m = pointsOf s in
+      let nb = neighbour s in
       ap (λ (f : ℕ → ℤ). valuesOf m (forward nb t f)) (former-holds xs len)
       ∙ ap (valuesOf m)
       (fun-ext λ p.
-      forward-of-back m nb (depth (s .axes) (s .level)) (zero-border (s .axes) (s .level) low) t (suc (s .level)) (valueAt xs) (value-zero xs) p (shallow p))
+      forward-of-back m nb (depth s) (grid s) t (height s) (valueAt xs) (value-zero xs) p (shallow s t p))
       ∙ values-of-value m xs len
 
-  pub former-of-turned : (xs : List ℤ) → length xs ≡ points (s .axes) (s .level) → formerTable s t (turnedTable s t xs) ≡ xs
+  pub former-of-turned : (xs : List ℤ) → length xs ≡ pointsOf s → formerTable s t (turnedTable s t xs) ≡ xs
   unfolding formerTable
   former-of-turned xs len =
-      let m = points (s .axes) (s .level) in
-      let nb = neighbour (s .axes) (s .level) in
-      ap (λ (f : ℕ → ℤ). valuesOf m (backward nb (suc (s .level)) t f)) (turned-holds xs len)
+      let m = pointsOf s in
+      let nb = neighbour s in
+      ap (λ (f : ℕ → ℤ). valuesOf m (backward nb (height s) t f)) (turned-holds xs len)
       ∙ ap (valuesOf m)
       (fun-ext λ p.
-      back-of-forward m nb (depth (s .axes) (s .level)) (zero-border (s .axes) (s .level) low) t (suc (s .level)) (valueAt xs) (value-zero xs) p (shallow p))
+      back-of-forward m nb (depth s) (grid s) t (height s) (valueAt xs) (value-zero xs) p (shallow s t p))
       ∙ values-of-value m xs len
 
   -- A table of the shape whose accepted forward turn leads to xs.
   pub record LeadsTo (ys xs : List ℤ) : Type 0 where
-    pub long : length ys ≡ points (s .axes) (s .level)
+    pub long : length ys ≡ pointsOf s
     pub accepted : isAccepted s t ys ≡ true
     pub leads : turnedTable s t ys ≡ xs
 
@@ -88,7 +83,7 @@ module _ (s : Shape) (low : s .level ≤ 8) (t : ℕ) where
   only-former ys xs l = sym (former-of-turned ys (l .long)) ∙ ap (formerTable s t) (l .leads)
 
   -- The contents of a back turn are accepted if and only if there is one.
-  pub former-leads : (xs : List ℤ) → length xs ≡ points (s .axes) (s .level) → isAccepted s t (formerTable s t xs) ≡ true → LeadsTo (formerTable s t xs) xs
+  pub former-leads : (xs : List ℤ) → length xs ≡ pointsOf s → isAccepted s t (formerTable s t xs) ≡ true → LeadsTo (formerTable s t xs) xs
   former-leads xs len e = record { long = former-length xs; accepted = e; leads = turned-of-former xs len }
 
   pub leads-former : (ys xs : List ℤ) → LeadsTo ys xs → isAccepted s t (formerTable s t xs) ≡ true
@@ -98,7 +93,7 @@ module _ (s : Shape) (low : s .level ≤ 8) (t : ℕ) where
   pub none-leads : (xs : List ℤ) → isAccepted s t (formerTable s t xs) ≡ false → (ys : List ℤ) → LeadsTo ys xs → ⊥
   none-leads xs e ys l = true≢false (sym (leads-former ys xs l) ∙ e)
 
-  pub refused-where-none : (xs : List ℤ) → length xs ≡ points (s .axes) (s .level) → ((ys : List ℤ) → LeadsTo ys xs → ⊥) →
+  pub refused-where-none : (xs : List ℤ) → length xs ≡ pointsOf s → ((ys : List ℤ) → LeadsTo ys xs → ⊥) →
       isAccepted s t (formerTable s t xs) ≡ false
   refused-where-none xs len none =
       true-or-false (isAccepted s t (formerTable s t xs)) (λ e. absurd (none (formerTable s t xs) (former-leads xs len e))) (λ e. e)

@@ -2,17 +2,16 @@
 -- Assumes nothing.
 use mathlib.Core.Bool.{Bool, not}
 use mathlib.Core.List.{List}
-use Prim.Native.Nat.{ℕ, suc, _-_}
+use Prim.Native.Nat.{ℕ, _-_}
 use lib.IntN.{ℤ}
 use lib.ListN.{length}
 use Rattle.refusals.specs.declared.Refusal.the-variants.{Contents, AlreadyForward, NotForward}
 use Rattle.refusals.specs.declared.Verdict.{Verdict}
 use Rattle.refusals.specs.Checks.{unless, _andThen_, answer}
-use Rattle.numbering.specs.Count.{points}
 use Rattle.hierarchy.specs.Turns.{valueAt, valuesOf, forward, accepted, backward}
-use Rattle.zero_border.specs.ZeroBorder.{neighbour}
+use Rattle.shapes.specs.Shapes.{pointsOf, checkAxis}
 use Rattle.shapes.specs.declared.Shape.{Shape}
-use Rattle.shapes.specs.Shapes.{checkAxis}
+use Rattle.grids.specs.Grids.{neighbour, height}
 use Rattle.states.specs.declared.State.{State}
 use Rattle.states.specs.declared.Answer.the-variants.{Done}
 use Rattle.states.specs.After.{After, after, kept}
@@ -20,15 +19,15 @@ use Rattle.states.specs.States.{has, marked, cleared, checkState}
 
 -- The table of a shape after the forward turn on place t (axis t + 1), and the one that a forward turn takes to it.
 unfoldable pub turnedTable : Shape → ℕ → List ℤ → List ℤ
-turnedTable s t xs = valuesOf (points (s .axes) (s .level)) (forward (neighbour (s .axes) (s .level)) t (valueAt xs))
+turnedTable s t xs = valuesOf (pointsOf s) (forward (neighbour s) t (valueAt xs))
 
 unfoldable pub formerTable : Shape → ℕ → List ℤ → List ℤ
 formerTable s t xs =
-    valuesOf (points (s .axes) (s .level)) (backward (neighbour (s .axes) (s .level)) (suc (s .level)) t (valueAt xs))
+    valuesOf (pointsOf s) (backward (neighbour s) (height s) t (valueAt xs))
 
 -- The forward turn on place t is accepted: every sum is even, and all values before and after are within the content limit.
 unfoldable pub isAccepted : Shape → ℕ → List ℤ → Bool
-isAccepted s t xs = accepted (neighbour (s .axes) (s .level)) (points (s .axes) (s .level)) t (valueAt xs)
+isAccepted s t xs = accepted (neighbour s) (pointsOf s) t (valueAt xs)
 
 -- A state, a table of that many places and an axis: refused with 1, 2, 14, 3 or 5.
 unfoldable pub checkTurn : State → ℕ → ℕ → Verdict

@@ -8,10 +8,10 @@ use states::State;
 ghost use mathlib.Core.Path.{_≡_};
 ghost use Prim.Native.Nat.{_+_, _^_, _≤_};
 ghost use lib.ListN.{length};
-ghost use Rattle.numbering.specs.Count.{points};
 ghost use Rattle.hierarchy.specs.Turns.{valueAt};
-ghost use Rattle.neighbours.specs.Subspaces.{Seen, Coarser};
+ghost use Rattle.shapes.specs.Shapes.{pointsOf};
 ghost use Rattle.states.specs.After.{after};
+ghost use Rattle.neighbours.specs.Subspaces.{sparseOf, Seen, Coarser};
 ghost use Rattle.turns.specs.Turns.{checkTurn, forwardTurn, backTurn};
 ghost use Rattle.turns.specs.Steps.{OnAxis, Limited, VectorOf, LoweredBetween, RaisedBetween, RaisedFrom};
 
@@ -32,8 +32,8 @@ fn value(table: &[i64], code: u64) -> i64
 // The forward steps of the points of a level vector below number `count`, from the last down, as long as they are accepted. Answers the number from which
 // on the points were lowered. A point's parents have smaller numbers and have not moved yet.
 fn lower_subspace(v: Subspace, coarser: &[u64; 8], table: &mut [i64], count: u64) -> u64
-    requires { ⌜ Seen v × Coarser v (v .own) (now coarser) × OnAxis (v .line .axes) (v .line .level) (v .line .place) (now table) × Limited (now table) (length (now table)) × (v .start ≤ count) × (count ≤ v .end) ⌝ }
-    ensures { λ r. ⌜ LoweredBetween (v .line .axes) (v .line .level) (v .line .place) (v .start) count (now (table .entry)) r (now (table .exit)) ⌝ }
+    requires { ⌜ Seen v × Coarser v (v .own) (now coarser) × OnAxis (sparseOf (v .line)) (v .line .place) (now table) × Limited (now table) (length (now table)) × (v .start ≤ count) × (count ≤ v .end) ⌝ }
+    ensures { λ r. ⌜ LoweredBetween (sparseOf (v .line)) (v .line .place) (v .start) count (now (table .entry)) r (now (table .exit)) ⌝ }
 {
     let mut p = count;
     while v.start < p {
@@ -63,8 +63,8 @@ fn lower_vector(
     table: &mut [i64],
     count: u64,
 ) -> u64
-    requires { ⌜ OnAxis (line .axes) (line .level) (line .place) (now table) × Limited (now table) (length (now table)) × VectorOf (line .axes) (line .level) sum levels start × (start ≤ count) × (count ≤ start + 2 ^ sum) ⌝ }
-    ensures { λ r. ⌜ LoweredBetween (line .axes) (line .level) (line .place) start count (now (table .entry)) r (now (table .exit)) ⌝ }
+    requires { ⌜ OnAxis (sparseOf line) (line .place) (now table) × Limited (now table) (length (now table)) × VectorOf (line .axes) (line .level) sum levels start × (start ≤ count) × (count ≤ start + 2 ^ sum) ⌝ }
+    ensures { λ r. ⌜ LoweredBetween (sparseOf line) (line .place) start count (now (table .entry)) r (now (table .exit)) ⌝ }
 {
     let v = neighbours::subspace_on(line, sum, levels, start);
     if v.own == 0 {
@@ -77,8 +77,8 @@ fn lower_vector(
 // The forward steps of the first `count` points, from the last down, a level vector at a time, as long as they are accepted. Answers how many points are
 // left that were not lowered.
 fn lower(line: Line, table: &mut [i64], count: u64) -> u64
-    requires { ⌜ OnAxis (line .axes) (line .level) (line .place) (now table) × Limited (now table) (length (now table)) × (count ≤ points (line .axes) (line .level)) ⌝ }
-    ensures { λ r. ⌜ LoweredBetween (line .axes) (line .level) (line .place) 0 count (now (table .entry)) r (now (table .exit)) ⌝ }
+    requires { ⌜ OnAxis (sparseOf line) (line .place) (now table) × Limited (now table) (length (now table)) × (count ≤ pointsOf (sparseOf line)) ⌝ }
+    ensures { λ r. ⌜ LoweredBetween (sparseOf line) (line .place) 0 count (now (table .entry)) r (now (table .exit)) ⌝ }
 {
     if count == 0 {
         return count;
@@ -107,8 +107,8 @@ fn lower(line: Line, table: &mut [i64], count: u64) -> u64
 // The steps back of the points of a level vector from number `from` up, as long as they are accepted. Answers the number up to which the points were
 // raised. A point's parents have smaller numbers and are raised already.
 fn raise_subspace(v: Subspace, coarser: &[u64; 8], table: &mut [i64], from: u64) -> u64
-    requires { ⌜ Seen v × Coarser v (v .own) (now coarser) × OnAxis (v .line .axes) (v .line .level) (v .line .place) (now table) × Limited (now table) (length (now table)) × (v .start ≤ from) × (from ≤ v .end) ⌝ }
-    ensures { λ r. ⌜ RaisedBetween (v .line .axes) (v .line .level) (v .line .place) from (v .end) (now (table .entry)) r (now (table .exit)) ⌝ }
+    requires { ⌜ Seen v × Coarser v (v .own) (now coarser) × OnAxis (sparseOf (v .line)) (v .line .place) (now table) × Limited (now table) (length (now table)) × (v .start ≤ from) × (from ≤ v .end) ⌝ }
+    ensures { λ r. ⌜ RaisedBetween (sparseOf (v .line)) (v .line .place) from (v .end) (now (table .entry)) r (now (table .exit)) ⌝ }
 {
     let mut p = from;
     while p < v.end {
@@ -138,8 +138,8 @@ fn raise_vector(
     table: &mut [i64],
     from: u64,
 ) -> u64
-    requires { ⌜ OnAxis (line .axes) (line .level) (line .place) (now table) × Limited (now table) (length (now table)) × VectorOf (line .axes) (line .level) sum levels start × (start ≤ from) × (from ≤ start + 2 ^ sum) ⌝ }
-    ensures { λ r. ⌜ RaisedBetween (line .axes) (line .level) (line .place) from (start + 2 ^ sum) (now (table .entry)) r (now (table .exit)) ⌝ }
+    requires { ⌜ OnAxis (sparseOf line) (line .place) (now table) × Limited (now table) (length (now table)) × VectorOf (line .axes) (line .level) sum levels start × (start ≤ from) × (from ≤ start + 2 ^ sum) ⌝ }
+    ensures { λ r. ⌜ RaisedBetween (sparseOf line) (line .place) from (start + 2 ^ sum) (now (table .entry)) r (now (table .exit)) ⌝ }
 {
     let v = neighbours::subspace_on(line, sum, levels, start);
     if v.own == 0 {
@@ -152,8 +152,8 @@ fn raise_vector(
 // The steps back of the points from number `from` up, a level vector at a time, as long as they are accepted. Answers the number up to which the points
 // were raised.
 fn raise(line: Line, table: &mut [i64], from: u64) -> u64
-    requires { ⌜ OnAxis (line .axes) (line .level) (line .place) (now table) × Limited (now table) (length (now table)) × (from ≤ points (line .axes) (line .level)) ⌝ }
-    ensures { λ r. ⌜ RaisedFrom (line .axes) (line .level) (line .place) from (now (table .entry)) r (now (table .exit)) ⌝ }
+    requires { ⌜ OnAxis (sparseOf line) (line .place) (now table) × Limited (now table) (length (now table)) × (from ≤ pointsOf (sparseOf line)) ⌝ }
+    ensures { λ r. ⌜ RaisedFrom (sparseOf line) (line .place) from (now (table .entry)) r (now (table .exit)) ⌝ }
 {
     if table.len() as u64 <= from {
         return from;

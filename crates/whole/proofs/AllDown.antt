@@ -13,8 +13,8 @@ use Rattle.refusals.specs.declared.Refusal.the-variants.{Contents, NotForward}
 use Rattle.refusals.specs.declared.Verdict.{Verdict}
 use Rattle.refusals.specs.declared.Verdict.the-variants as verdict
 use Rattle.refusals.specs.Checks.{unless, _andThen_, answer}
-use Rattle.numbering.specs.Count.{points}
 use Rattle.shapes.specs.declared.Shape.{Shape}
+use Rattle.shapes.specs.Shapes.{pointsOf}
 use Rattle.shapes.proofs.Checked.{InRange}
 use Rattle.states.specs.declared.State.{State}
 use Rattle.states.specs.declared.Answer.{Answer}
@@ -42,7 +42,7 @@ back-kept s xs axis r e =
     (checkTurn s (length xs) axis andThen unless (has (s .forward) (axis - 1)) (NotForward axis) andThen unless (isAccepted (s .shape) (axis - 1) former) Contents)
     xs former (cleared s (axis - 1)) r e
 
-module _ (s : Shape) (range : InRange s) (xs₀ : List ℤ) (len : length xs₀ ≡ points (s .axes) (s .level)) where
+module _ (s : Shape) (range : InRange s) (xs₀ : List ℤ) (len : length xs₀ ≡ pointsOf s) where
   pub record Ended (g : Gone) : Type 0 where
     pub byte : ℕ
     pub state : g .descent .state ≡ stateOf s byte

@@ -7,12 +7,12 @@ use Prim.Native.Nat.{ℕ, zero, suc, _+_, _-_, _≤_}
 use native.Mathlib.Omega.{arith}
 use lib.IntN.{ℤ}
 use lib.ListN.{length}
-use Rattle.numbering.specs.Count.{points}
 use Rattle.hierarchy.specs.Turns.{valueAt, valuesOf}
 use Rattle.hierarchy.specs.Sets.{tableOf, everyAxis}
-use Rattle.zero_border.specs.ZeroBorder.{neighbour}
 use Rattle.shapes.specs.declared.Shape.{Shape}
+use Rattle.shapes.specs.Shapes.{pointsOf}
 use Rattle.shapes.proofs.Checked.{InRange}
+use Rattle.grids.specs.Grids.{neighbour}
 use Rattle.tables.specs.Tables.{times}
 use Rattle.turns.specs.Turns.{forwardTurn}
 use Rattle.runs.proofs.Calls.{stateOf, Rates, Agrees}
@@ -25,9 +25,9 @@ use Rattle.whole.proofs.Climbing.{upTo, climb, climb-starts, climb-ends
 use Rattle.whole.proofs.Descending.{Undo, top, up}
 
 module _ (s : Shape) (range : InRange s) where
-  module _ (r : ℕ → ℤ) (rates : Rates (points (s .axes) (s .level)) r) where
+  module _ (r : ℕ → ℤ) (rates : Rates (pointsOf s) r) where
     climbs : (m k byte : ℕ) (xs : List ℤ) → k + m ≡ s .axes → Agrees s range r rates (upTo k) byte xs →
-        ascent m k (stateOf s byte) xs ≡ valuesOf (points (s .axes) (s .level)) (tableOf (neighbour (s .axes) (s .level)) (s .axes) everyAxis r)
+        ascent m k (stateOf s byte) xs ≡ valuesOf (pointsOf s) (tableOf (neighbour s) (s .axes) everyAxis r)
     climbs zero k byte xs e a =
         let all : k ≡ s .axes = omega arith in
         ascent-none k (stateOf s byte) xs ∙ climb-ends s range r rates byte xs (rw all at a)
@@ -44,7 +44,7 @@ module _ (s : Shape) (range : InRange s) where
       (climb-starts s range (valueAt xs) (rates-of-list s xs a) 0 (map (times (s .axes)) xs) (loaded-agrees s range xs a))
 
   -- Back to the start.
-  module _ (xs₀ : List ℤ) (len : length xs₀ ≡ points (s .axes) (s .level)) where
+  module _ (xs₀ : List ℤ) (len : length xs₀ ≡ pointsOf s) where
     within : (a byte : ℕ) (xs : List ℤ) → Undo s range xs₀ len a byte xs → a ≤ s .axes
     within a byte xs (top b) = omega arith
     within a byte xs (up b c next ys zs e rest) = omega (arith, within (suc b) next zs rest)

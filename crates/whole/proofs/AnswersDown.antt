@@ -18,14 +18,14 @@ use Rattle.refusals.specs.declared.Verdict.the-variants.{Passed}
 use Rattle.refusals.specs.declared.Verdict.the-variants as verdict
 use Rattle.refusals.specs.Checks.{unless}
 use Rattle.integers.specs.Half.{inLimit}
-use Rattle.numbering.specs.Count.{points}
 use Rattle.hierarchy.specs.Turns.{valueAt}
 use Rattle.hierarchy.specs.Sets.{tableOf, everyAxis}
 use Rattle.hierarchy.proofs.Bounds.{in-limit}
 use Rattle.hierarchy.proofs.Closed.{table-closed}
 use Rattle.hierarchy.proofs.Values.{value-suc, values-at}
-use Rattle.zero_border.specs.ZeroBorder.{neighbour}
 use Rattle.shapes.specs.declared.Shape.{Shape}
+use Rattle.shapes.specs.Shapes.{pointsOf}
+use Rattle.grids.specs.Grids.{neighbour}
 use Rattle.states.specs.declared.State.{State}
 use Rattle.states.specs.declared.Answer.the-variants.{Done, Refused}
 use Rattle.states.specs.After.{Left, left, leftBy}
@@ -58,11 +58,11 @@ left-refused ys zs qs true r e =
 left-refused ys zs qs false r e = (refl, ap (λ (l : Left). l .table) e)
 
 -- What the list of coefficients holds at a point.
-pub coefficient-at : (s : Shape) (rs : List ℤ) (p : ℕ) → p < points (s .axes) (s .level) →
-    valueAt (coefficientsOf s rs) (suc p) ≡ tableOf (neighbour (s .axes) (s .level)) (s .axes) everyAxis (valueAt rs) (suc p)
+pub coefficient-at : (s : Shape) (rs : List ℤ) (p : ℕ) → p < pointsOf s →
+    valueAt (coefficientsOf s rs) (suc p) ≡ tableOf (neighbour s) (s .axes) everyAxis (valueAt rs) (suc p)
 unfolding coefficientsOf
 coefficient-at s rs p h =
-    value-suc (coefficientsOf s rs) p ∙ values-at (points (s .axes) (s .level)) (tableOf (neighbour (s .axes) (s .level)) (s .axes) everyAxis (valueAt rs)) p h
+    value-suc (coefficientsOf s rs) p ∙ values-at (pointsOf s) (tableOf (neighbour s) (s .axes) everyAxis (valueAt rs)) p h
 
 module _ (s : Shape) (xs : List ℤ) where
   pub refused-rates : checkTable s xs ≡ Passed → hasRates s xs ≡ false → coefficientsToRates s xs ≡ left (verdict.Refused Contents) xs
@@ -85,14 +85,14 @@ module _ (s : Shape) (xs : List ℤ) where
       rs = ratesOf s xs
 
       there : AreRates s rs × (coefficientsOf s rs ≡ xs)
-      there = has-rates s (o .range .top) xs (o .long) e
+      there = has-rates s xs (o .long) e
 
-      at-place : (p : ℕ) → p < points (s .axes) (s .level) → contentAt xs p ≡ true
+      at-place : (p : ℕ) → p < pointsOf s → contentAt xs p ≡ true
       at-place p h =
           content-means xs p
           ∙ ap (λ (l : List ℤ). inLimit (valueAt l (suc p))) (sym (there .1))
-          ∙ ap inLimit (coefficient-at s rs p h ∙ ap (λ (f : ℕ → ℤ). f (suc p)) (table-closed (neighbour (s .axes) (s .level)) (s .axes) everyAxis (valueAt rs)))
-          ∙ in-limit (neighbour (s .axes) (s .level)) everyAxis (s .axes) (valueAt rs) (o .range .high) (rates-of-list s rs (there .0) .small) (suc p)
+          ∙ ap inLimit (coefficient-at s rs p h ∙ ap (λ (f : ℕ → ℤ). f (suc p)) (table-closed (neighbour s) (s .axes) everyAxis (valueAt rs)))
+          ∙ in-limit (neighbour s) everyAxis (s .axes) (valueAt rs) (o .range .high) (rates-of-list s rs (there .0) .small) (suc p)
 
   not-limited : Opens s xs → all (contentAt xs) (length xs) ≡ false → hasRates s xs ≡ false
   not-limited o e = true-or-false (hasRates s xs) (λ yes. absurd (true≢false (sym (limited o yes) ∙ e))) (λ no-rates. no-rates)

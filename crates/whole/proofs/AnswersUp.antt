@@ -13,8 +13,8 @@ use Rattle.refusals.specs.declared.Verdict.the-variants.{Passed}
 use Rattle.refusals.specs.declared.Verdict.the-variants as verdict
 use Rattle.refusals.specs.Checks.{_andThen_, answer}
 use Rattle.refusals.proofs.Passing.{first-passed, next-passed}
-use Rattle.numbering.specs.Count.{points}
 use Rattle.shapes.specs.declared.Shape.{Shape}
+use Rattle.shapes.specs.Shapes.{pointsOf}
 use Rattle.states.specs.declared.State.{State}
 use Rattle.states.specs.declared.Answer.the-variants.{Done, Refused}
 use Rattle.states.specs.After.{After, after, kept, left, leftBy}
@@ -58,7 +58,7 @@ module _ (s : Shape) (xs ys : List ℤ) where
         opens,
         record {
           long = opens .long;
-          each = all-from (rateAt xs) (points (s .axes) (s .level)) (λ p h. rates p (omega (arith, opens .long)));
+          each = all-from (rateAt xs) (pointsOf s) (λ p h. rates p (omega (arith, opens .long)));
         },
       )
 

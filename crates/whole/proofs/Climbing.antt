@@ -12,16 +12,16 @@ use borrow.Author.Tests.{lt-ltb, le-ltb, le-leb}
 use Rattle.naturals.proofs.Cases.{eq-or-not, le-or-lt}
 use Rattle.refusals.specs.declared.Refusal.{Refusal}
 use Rattle.refusals.specs.declared.Verdict.the-variants as verdict
-use Rattle.numbering.specs.Count.{points}
 use Rattle.hierarchy.specs.declared.Turn.the-variants.{Forward, Back}
 use Rattle.hierarchy.specs.Turns.{valuesOf}
 use Rattle.hierarchy.specs.Sets.{tableOf, noAxis, everyAxis}
 use Rattle.hierarchy.specs.Work.{put}
 use Rattle.hierarchy.proofs.Closed.{table-cong}
 use Rattle.hierarchy.proofs.Work.{put-same, put-other}
-use Rattle.zero_border.specs.ZeroBorder.{neighbour}
 use Rattle.shapes.specs.declared.Shape.{Shape}
+use Rattle.shapes.specs.Shapes.{pointsOf}
 use Rattle.shapes.proofs.Checked.{InRange}
+use Rattle.grids.specs.Grids.{neighbour}
 use Rattle.states.specs.declared.State.{State}
 use Rattle.states.specs.declared.Answer.{Answer}
 use Rattle.states.specs.declared.Answer.the-variants.{Done, Refused}
@@ -63,14 +63,14 @@ up-less k t =
     (λ le. up-out (suc k) t (omega arith) ∙ sym (up-out k t le))
     (λ lt. up-in (suc k) t (omega arith) ∙ sym (up-in k t lt)))
 
-module _ (s : Shape) (range : InRange s) (r : ℕ → ℤ) (rates : Rates (points (s .axes) (s .level)) r) where
+module _ (s : Shape) (range : InRange s) (r : ℕ → ℤ) (rates : Rates (pointsOf s) r) where
   -- A table that agrees with a set agrees with every equal set.
   pub agrees-as : (set other : Axes) (byte : ℕ) (xs : List ℤ) → ((t : ℕ) → set t ≡ other t) → Agrees s range r rates set byte xs → Agrees s range r rates other byte xs
   agrees-as set other byte xs same a =
       record {
         few = a .few;
         bits = λ t. a .bits t ∙ same t;
-        table = a .table ∙ ap (valuesOf (points (s .axes) (s .level))) (table-cong (neighbour (s .axes) (s .level)) (s .axes) set other r (λ t h. same t));
+        table = a .table ∙ ap (valuesOf (pointsOf s)) (table-cong (neighbour s) (s .axes) set other r (λ t h. same t));
       }
 
   refused-passed : (w : Refusal) → verdict.Refused w ≡ verdict.Passed → ⊥
@@ -119,11 +119,11 @@ module _ (s : Shape) (range : InRange s) (r : ℕ → ℤ) (rates : Rates (point
   climb-starts byte xs a = agrees-as noAxis (upTo 0) byte xs (λ t. sym (up-out 0 t (omega arith))) a
 
   pub climb-ends : (byte : ℕ) (xs : List ℤ) → Agrees s range r rates (upTo (s .axes)) byte xs →
-      xs ≡ valuesOf (points (s .axes) (s .level)) (tableOf (neighbour (s .axes) (s .level)) (s .axes) everyAxis r)
+      xs ≡ valuesOf (pointsOf s) (tableOf (neighbour s) (s .axes) everyAxis r)
   climb-ends byte xs a =
       a .table
-      ∙ ap (valuesOf (points (s .axes) (s .level)))
-      (table-cong (neighbour (s .axes) (s .level)) (s .axes) (upTo (s .axes)) everyAxis r (λ t h. up-in (s .axes) t h))
+      ∙ ap (valuesOf (pointsOf s))
+      (table-cong (neighbour s) (s .axes) (upTo (s .axes)) everyAxis r (λ t h. up-in (s .axes) t h))
 
   -- One turn down, of a table that agrees: it is not refused.
   down-passes : (k : ℕ) → k < s .axes → modelAnswer (s .axes) (upTo (suc k)) (Back (suc k)) ≡ verdict.Passed

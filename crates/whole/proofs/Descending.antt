@@ -10,11 +10,11 @@ use lib.IntN.{ℤ}
 use lib.ListN.{length}
 use Rattle.naturals.proofs.Cases.{eq-or-not, le-or-lt, true-or-false}
 use Rattle.refusals.specs.declared.Refusal.{Refusal}
-use Rattle.numbering.specs.Count.{points}
 use Rattle.hierarchy.specs.Turns.{valueAt, backward}
-use Rattle.zero_border.specs.ZeroBorder.{neighbour}
 use Rattle.shapes.specs.declared.Shape.{Shape}
+use Rattle.shapes.specs.Shapes.{pointsOf}
 use Rattle.shapes.proofs.Checked.{InRange}
+use Rattle.grids.specs.Grids.{neighbour, height}
 use Rattle.states.specs.declared.State.{State}
 use Rattle.states.specs.declared.Answer.the-variants.{Done, Refused}
 use Rattle.states.specs.After.{After, after, kept}
@@ -29,7 +29,7 @@ use Rattle.whole.proofs.Inverse.{AreRates, has-rates}
 use Rattle.whole.proofs.Loading.{rates-of-list}
 use Rattle.whole.proofs.Climbing.{upTo, up-in, up-out, descend}
 
-module _ (s : Shape) (range : InRange s) (xs₀ : List ℤ) (len : length xs₀ ≡ points (s .axes) (s .level)) where
+module _ (s : Shape) (range : InRange s) (xs₀ : List ℤ) (len : length xs₀ ≡ pointsOf s) where
   -- The forward turns of the axes from place a up lead from a state and a table to the ones at the start.
   pub data Undo : ℕ → ℕ → List ℤ → Type 0 where
     top : (byte : ℕ) → Undo (s .axes) byte xs₀
@@ -37,18 +37,18 @@ module _ (s : Shape) (range : InRange s) (xs₀ : List ℤ) (len : length xs₀ 
 
   -- Where the table has rates, they are accepted.
   pub rates-there : hasRates s xs₀ ≡ true → AreRates s (ratesOf s xs₀)
-  rates-there e = has-rates s (range .top) xs₀ len e .0
+  rates-there e = has-rates s xs₀ len e .0
 
   -- The first a axes are still forward.
   pub record Going (a byte : ℕ) (xs : List ℤ) : Type 0 where
     pub few : byte < 2 ^ (s .axes)
     pub bits : (t : ℕ) → has byte t ≡ upTo a t
-    pub long : length xs ≡ points (s .axes) (s .level)
+    pub long : length xs ≡ pointsOf s
     pub rest : backAll s a (valueAt xs) ≡ backAll s (s .axes) (valueAt xs₀)
     pub undo : Undo a byte xs
     pub model : (e : hasRates s xs₀ ≡ true) → Agrees s range (valueAt (ratesOf s xs₀)) (rates-of-list s (ratesOf s xs₀) (rates-there e)) (upTo a) byte xs
 
-  back-suc : (a : ℕ) (f : ℕ → ℤ) → backAll s (suc a) f ≡ backAll s a (backward (neighbour (s .axes) (s .level)) (suc (s .level)) a f)
+  back-suc : (a : ℕ) (f : ℕ → ℤ) → backAll s (suc a) f ≡ backAll s a (backward (neighbour s) (height s) a f)
   unfolding backAll
   back-suc a f = refl
 
@@ -90,10 +90,10 @@ module _ (s : Shape) (range : InRange s) (xs₀ : List ℤ) (len : length xs₀ 
         record {
           few = cleared-small byte a (s .axes) (g .few);
           bits = bits-less a byte (g .bits);
-          long = ap length table ∙ former-length s (range .top) a xs;
+          long = ap length table ∙ former-length s a xs;
           rest =
               ap (λ (l : List ℤ). backAll s a (valueAt l)) table
-              ∙ ap (backAll s a) (former-holds s (range .top) a xs (g .long))
+              ∙ ap (backAll s a) (former-holds s a xs (g .long))
               ∙ sym (back-suc a (valueAt xs))
               ∙ g .rest;
           undo =

@@ -17,14 +17,14 @@ use Rattle.naturals.proofs.Tests.{and-left, and-right, all-at, all-from}
 use Rattle.refusals.specs.declared.Refusal.the-variants.{Contents}
 use Rattle.refusals.specs.Checks.{unless}
 use Rattle.integers.specs.Half.{isRate}
-use Rattle.numbering.specs.Count.{points}
 use Rattle.hierarchy.specs.Turns.{valueAt, valuesOf}
 use Rattle.hierarchy.specs.Sets.{scaled, swept, tableOf, noAxis, everyAxis}
 use Rattle.hierarchy.proofs.Closed.{table-cong}
 use Rattle.hierarchy.proofs.Values.{value-zero, value-suc, value-past, values-at, values-of-value}
-use Rattle.zero_border.specs.ZeroBorder.{neighbour}
 use Rattle.shapes.specs.declared.Shape.{Shape}
+use Rattle.shapes.specs.Shapes.{pointsOf}
 use Rattle.shapes.proofs.Checked.{InRange, in-range-passed}
+use Rattle.grids.specs.Grids.{neighbour}
 use Rattle.states.specs.States.{has, checkContents, checkState}
 use Rattle.states.specs.After.{leftBy}
 use Rattle.states.proofs.Bits.{all-bits-in, all-bits-out}
@@ -56,20 +56,20 @@ times-scaled : (d : ℕ) (z : ℤ) → isRate z ≡ true → isScaled d (times d
 unfolding isScaled
 times-scaled d z rate = rw (eq-eqb (natAbs (times d z) % 2 ^ d) 0 (times-divisible d z), quotient-times d z, rate)
 
-module _ (s : Shape) (range : InRange s) (xs₀ : List ℤ) (len : length xs₀ ≡ points (s .axes) (s .level)) where
+module _ (s : Shape) (range : InRange s) (xs₀ : List ℤ) (len : length xs₀ ≡ pointsOf s) where
   all-forward : (t : ℕ) → has (2 ^ (s .axes) - 1) t ≡ upTo (s .axes) t
   all-forward t =
       le-or-lt (s .axes) t
       (λ past. all-bits-out (s .axes) t past ∙ sym (up-out (s .axes) t past))
       (λ h. all-bits-in (s .axes) t h ∙ sym (up-in (s .axes) t h))
 
-  coefficients-are : (rs : List ℤ) → coefficientsOf s rs ≡ valuesOf (points (s .axes) (s .level)) (tableOf (neighbour (s .axes) (s .level)) (s .axes) everyAxis (valueAt rs))
+  coefficients-are : (rs : List ℤ) → coefficientsOf s rs ≡ valuesOf (pointsOf s) (tableOf (neighbour s) (s .axes) everyAxis (valueAt rs))
   unfolding coefficientsOf
   coefficients-are rs = refl
 
   table-swept : (rs : List ℤ) →
-      tableOf (neighbour (s .axes) (s .level)) (s .axes) everyAxis (valueAt rs)
-      ≡ swept (neighbour (s .axes) (s .level)) everyAxis (s .axes) (scaled (s .axes) (valueAt rs))
+      tableOf (neighbour s) (s .axes) everyAxis (valueAt rs)
+      ≡ swept (neighbour s) everyAxis (s .axes) (scaled (s .axes) (valueAt rs))
   unfolding tableOf
   table-swept rs = refl
 
@@ -88,10 +88,10 @@ module _ (s : Shape) (range : InRange s) (xs₀ : List ℤ) (len : length xs₀ 
               few = ones-lt (s .axes);
               bits = all-forward;
               table =
-                  sym (has-rates s (range .top) xs₀ len e .1)
+                  sym (has-rates s xs₀ len e .1)
                   ∙ coefficients-are (ratesOf s xs₀)
-                  ∙ ap (valuesOf (points (s .axes) (s .level)))
-                  (table-cong (neighbour (s .axes) (s .level)) (s .axes) everyAxis (upTo (s .axes)) (valueAt (ratesOf s xs₀)) (λ t h. sym (up-in (s .axes) t h)));
+                  ∙ ap (valuesOf (pointsOf s))
+                  (table-cong (neighbour s) (s .axes) everyAxis (upTo (s .axes)) (valueAt (ratesOf s xs₀)) (λ t h. sym (up-in (s .axes) t h)));
             };
       }
 
@@ -111,7 +111,7 @@ module _ (s : Shape) (range : InRange s) (xs₀ : List ℤ) (len : length xs₀ 
         rw (
           in-range-passed s range,
           lt-ltb byte (2 ^ (s .axes)) (g .few),
-          eq-eqb (length xs) (points (s .axes) (s .level)) (g .long),
+          eq-eqb (length xs) (pointsOf s) (g .long),
           first-none (notForward byte) (s .axes) none-forward,
           le-leb (s .axes) (s .axes) (omega arith),
         )
@@ -121,9 +121,9 @@ module _ (s : Shape) (range : InRange s) (xs₀ : List ℤ) (len : length xs₀ 
     unfolding ratesOf
     divided =
         ap (map (quotient (s .axes)))
-        (sym (values-of-value (points (s .axes) (s .level)) xs (g .long)) ∙ ap (valuesOf (points (s .axes) (s .level))) held)
+        (sym (values-of-value (pointsOf s) xs (g .long)) ∙ ap (valuesOf (pointsOf s)) held)
 
-    value-scaled : all (scaledAt (s .axes) xs) (length xs) ≡ true → (p : ℕ) → p < points (s .axes) (s .level) → isScaled (s .axes) (valueAt xs (suc p)) ≡ true
+    value-scaled : all (scaledAt (s .axes) xs) (length xs) ≡ true → (p : ℕ) → p < pointsOf s → isScaled (s .axes) (valueAt xs (suc p)) ≡ true
     unfolding scaledAt
     value-scaled e p h = all-at (scaledAt (s .axes) xs) (length xs) e p (omega (arith, g .long))
 
@@ -134,23 +134,23 @@ module _ (s : Shape) (range : InRange s) (xs₀ : List ℤ) (len : length xs₀ 
       and-right (eqb (natAbs z % 2 ^ (s .axes)) 0) (isRate (quotient (s .axes) z)) e,
     )
 
-    rate-there : (p : ℕ) → p < points (s .axes) (s .level) → valueAt (ratesOf s xs₀) (suc p) ≡ quotient (s .axes) (valueAt xs (suc p))
+    rate-there : (p : ℕ) → p < pointsOf s → valueAt (ratesOf s xs₀) (suc p) ≡ quotient (s .axes) (valueAt xs (suc p))
     rate-there p h =
         value-suc (ratesOf s xs₀) p
-        ∙ rates-at s (range .top) xs₀ p h
+        ∙ rates-at s xs₀ p h
         ∙ ap (λ (f : ℕ → ℤ). quotient (s .axes) (f (suc p))) (sym held)
 
     module _ (e : all (scaledAt (s .axes) xs) (length xs) ≡ true) where
       are-rates : AreRates s (ratesOf s xs₀)
       are-rates =
           record {
-            long = rates-length s (range .top) xs₀;
+            long = rates-length s xs₀;
             each =
-                all-from (rateAt (ratesOf s xs₀)) (points (s .axes) (s .level))
+                all-from (rateAt (ratesOf s xs₀)) (pointsOf s)
                 (λ p h. is-rate p h);
           }
         where
-          is-rate : (p : ℕ) → p < points (s .axes) (s .level) → rateAt (ratesOf s xs₀) p ≡ true
+          is-rate : (p : ℕ) → p < pointsOf s → rateAt (ratesOf s xs₀) p ≡ true
           is-rate p h =
               rate-means (ratesOf s xs₀) p
               ∙ ap isRate (rate-there p h)
@@ -161,15 +161,15 @@ module _ (s : Shape) (range : InRange s) (xs₀ : List ℤ) (len : length xs₀ 
           scaled-is (s .axes) (valueAt (ratesOf s xs₀)) 0
           ∙ ap (times (s .axes)) (value-zero (ratesOf s xs₀))
           ∙ times-zero (s .axes)
-          ∙ sym (back-zero s (range .top) (s .axes) (valueAt xs₀) (value-zero xs₀))
+          ∙ sym (back-zero s (s .axes) (valueAt xs₀) (value-zero xs₀))
       scaled-back (suc p) =
           scaled-is (s .axes) (valueAt (ratesOf s xs₀)) (suc p)
-          ∙ le-or-lt (points (s .axes) (s .level)) p
+          ∙ le-or-lt (pointsOf s) p
           (λ past.
-          ap (times (s .axes)) (value-past (ratesOf s xs₀) (suc p) (omega (arith, rates-length s (range .top) xs₀)))
+          ap (times (s .axes)) (value-past (ratesOf s xs₀) (suc p) (omega (arith, rates-length s xs₀)))
           ∙ times-zero (s .axes)
           ∙ sym
-          (back-past s (range .top) (s .axes) (valueAt xs₀) (value-zero xs₀) (suc p) (omega arith)
+          (back-past s (s .axes) (valueAt xs₀) (value-zero xs₀) (suc p) (omega arith)
           ∙ value-past xs₀ (suc p) (omega arith)))
           (λ h.
           ap (times (s .axes)) (rate-there p h)
@@ -179,13 +179,13 @@ module _ (s : Shape) (range : InRange s) (xs₀ : List ℤ) (len : length xs₀ 
       -- Unloaded, the table has rates.
       pub unloaded : hasRates s xs₀ ≡ true
       unloaded =
-          coefficients-have-rates s (range .top) (ratesOf s xs₀) xs₀ are-rates
+          coefficients-have-rates s (ratesOf s xs₀) xs₀ are-rates
           (coefficients-are (ratesOf s xs₀)
-          ∙ ap (valuesOf (points (s .axes) (s .level)))
+          ∙ ap (valuesOf (pointsOf s))
           (table-swept (ratesOf s xs₀)
-          ∙ ap (swept (neighbour (s .axes) (s .level)) everyAxis (s .axes)) (fun-ext scaled-back)
-          ∙ swept-of-back s (range .top) (s .axes) (valueAt xs₀) (value-zero xs₀))
-          ∙ values-of-value (points (s .axes) (s .level)) xs₀ len)
+          ∙ ap (swept (neighbour s) everyAxis (s .axes)) (fun-ext scaled-back)
+          ∙ swept-of-back s (s .axes) (valueAt xs₀) (value-zero xs₀))
+          ∙ values-of-value (pointsOf s) xs₀ len)
 
     -- Where the table has rates, unloading succeeds.
     pub unloads : hasRates s xs₀ ≡ true → all (scaledAt (s .axes) xs) (length xs) ≡ true
@@ -196,21 +196,21 @@ module _ (s : Shape) (range : InRange s) (xs₀ : List ℤ) (len : length xs₀ 
         a : Agrees s range (valueAt (ratesOf s xs₀)) (rates-of-list s (ratesOf s xs₀) (rates-there s range xs₀ len has-them)) (upTo 0) byte xs
         a = g .model has-them
 
-        is-times : (p : ℕ) → p < points (s .axes) (s .level) → valueAt xs (suc p) ≡ times (s .axes) (valueAt (ratesOf s xs₀) (suc p))
+        is-times : (p : ℕ) → p < pointsOf s → valueAt xs (suc p) ≡ times (s .axes) (valueAt (ratesOf s xs₀) (suc p))
         is-times p h =
             ap (λ (l : List ℤ). valueAt l (suc p)) (a .table)
-            ∙ value-suc (valuesOf (points (s .axes) (s .level)) (tableOf (neighbour (s .axes) (s .level)) (s .axes) (upTo 0) (valueAt (ratesOf s xs₀)))) p
-            ∙ values-at (points (s .axes) (s .level)) (tableOf (neighbour (s .axes) (s .level)) (s .axes) (upTo 0) (valueAt (ratesOf s xs₀))) p h
+            ∙ value-suc (valuesOf (pointsOf s) (tableOf (neighbour s) (s .axes) (upTo 0) (valueAt (ratesOf s xs₀)))) p
+            ∙ values-at (pointsOf s) (tableOf (neighbour s) (s .axes) (upTo 0) (valueAt (ratesOf s xs₀))) p h
             ∙ ap (λ (f : ℕ → ℤ). f (suc p))
-            (table-cong (neighbour (s .axes) (s .level)) (s .axes) (upTo 0) noAxis (valueAt (ratesOf s xs₀)) (λ t lt. up-out 0 t (omega arith)))
+            (table-cong (neighbour s) (s .axes) (upTo 0) noAxis (valueAt (ratesOf s xs₀)) (λ t lt. up-out 0 t (omega arith)))
             ∙ table-of-none s (valueAt (ratesOf s xs₀)) (suc p)
 
-        is-scaled : (p : ℕ) → p < points (s .axes) (s .level) → scaledAt (s .axes) xs p ≡ true
+        is-scaled : (p : ℕ) → p < pointsOf s → scaledAt (s .axes) xs p ≡ true
         is-scaled p h =
             scaled-means (s .axes) xs p
             ∙ ap (isScaled (s .axes)) (is-times p h)
             ∙ times-scaled (s .axes) (valueAt (ratesOf s xs₀) (suc p))
-            (rate-at (ratesOf s xs₀) (points (s .axes) (s .level)) (rates-there s range xs₀ len has-them .each) p h)
+            (rate-at (ratesOf s xs₀) (pointsOf s) (rates-there s range xs₀ len has-them .each) p h)
 
     -- Not unloaded, it has none.
     pub not-unloaded : all (scaledAt (s .axes) xs) (length xs) ≡ false → hasRates s xs₀ ≡ false

@@ -11,11 +11,11 @@ use Rattle.refusals.specs.declared.Verdict.{Verdict}
 use Rattle.refusals.specs.declared.Verdict.the-variants as verdict
 use Rattle.refusals.specs.Checks.{_andThen_, answer}
 use Rattle.refusals.proofs.Passing.{first-passed, next-passed}
-use Rattle.numbering.specs.Count.{points}
 use Rattle.hierarchy.specs.declared.Turn.{Turn}
 use Rattle.hierarchy.specs.Turns.{valueAt}
 use Rattle.hierarchy.specs.Sets.{noAxis}
 use Rattle.shapes.specs.declared.Shape.{Shape}
+use Rattle.shapes.specs.Shapes.{pointsOf}
 use Rattle.shapes.proofs.Checked.{InRange}
 use Rattle.states.specs.declared.State.{State}
 use Rattle.states.specs.declared.Answer.the-variants.{Done, Refused}
@@ -58,7 +58,7 @@ demand-3-of-load s xs ys st e calls =
     record {
       long = opens .long;
       each =
-          all-from (rateAt xs) (points (s .axes) (s .level))
+          all-from (rateAt xs) (pointsOf s)
           (λ p h. rates-passed xs (next-passed (checkTable s xs) (checkRates xs) (d .0)) p (omega (arith, opens .long)));
     } in
     rw (← d .1, ← d .2)

@@ -12,19 +12,18 @@ use Rattle.naturals.proofs.Tests.{all-at, all-from}
 use Rattle.refusals.specs.declared.Refusal.the-variants.{Contents}
 use Rattle.refusals.specs.declared.Verdict.the-variants.{Passed, Refused}
 use Rattle.integers.specs.Half.{isRate}
-use Rattle.numbering.specs.Count.{points}
 use Rattle.hierarchy.proofs.Values.{value-suc}
 use Rattle.shapes.specs.declared.Shape.{Shape}
+use Rattle.shapes.specs.Shapes.{pointsOf}
 use Rattle.shapes.proofs.Checked.{InRange, passed-in-range, in-range-passed}
 use Rattle.states.specs.After.{Left, left}
 use Rattle.tables.specs.Tables.{checkTable, rateAt}
 use Rattle.tables.proofs.Checking.{table-passed, table-passes, rates-pass}
-use Rattle.whole.specs.Accepted.{Accepted, sums}
+use Rattle.whole.specs.Accepted.{Accepted}
 use Rattle.whole.specs.Whole.{coefficientsOf, ratesToCoefficients, ratesOf, hasRates, coefficientsToRates}
 use Rattle.whole.proofs.Inverse.{AreRates, coefficients-length, coefficients-have-rates, has-rates, rates-of-coefficients}
 use Rattle.whole.proofs.AnswersUp.{passes-so}
 use Rattle.whole.proofs.AnswersDown.{refused-rates, passed-rates}
-use Rattle.whole.proofs.Sums.{coefficients-sum}
 
 rate-place : (rs : List ℤ) (p : ℕ) → rateAt rs p ≡ isRate (getD rs p (pos 0))
 unfolding rateAt
@@ -35,7 +34,7 @@ accepted s rs range a =
     record {
       shape = in-range-passed s range;
       long = a .long;
-      each = λ p h. sym (rate-place rs p) ∙ all-at (rateAt rs) (points (s .axes) (s .level)) (a .each) p h;
+      each = λ p h. sym (rate-place rs p) ∙ all-at (rateAt rs) (pointsOf s) (a .each) p h;
     }
 
 module _ (s : Shape) (rs : List ℤ) (a : Accepted s rs) where
@@ -46,7 +45,7 @@ module _ (s : Shape) (rs : List ℤ) (a : Accepted s rs) where
   are-rates =
       record {
         long = a .long;
-        each = all-from (rateAt rs) (points (s .axes) (s .level)) (λ p h. rate-place rs p ∙ a .each p h);
+        each = all-from (rateAt rs) (pointsOf s) (λ p h. rate-place rs p ∙ a .each p h);
       }
 
   -- Accepted rates have coefficients.
@@ -61,12 +60,11 @@ module _ (s : Shape) (rs : List ℤ) (a : Accepted s rs) where
   -- And these go back to the same rates.
   pub and-back : coefficientsToRates s (coefficientsOf s rs) ≡ left Passed rs
   and-back =
-      let low = in-range .top in
       let xs = coefficientsOf s rs in
       passed-rates s xs
-      (table-passes s xs (record { range = in-range; long = coefficients-length s low rs }))
-      (coefficients-have-rates s low rs xs are-rates refl)
-      ∙ ap (left Passed) (rates-of-coefficients s low rs (a .long))
+      (table-passes s xs (record { range = in-range; long = coefficients-length s rs }))
+      (coefficients-have-rates s rs xs are-rates refl)
+      ∙ ap (left Passed) (rates-of-coefficients s rs (a .long))
 
 -- Refused with 10: no accepted rates have these coefficients.
 pub refused-means : (s : Shape) (xs : List ℤ) → coefficientsToRates s xs .verdict ≡ Refused Contents → (rs : List ℤ) → Accepted s rs → coefficientsOf s rs ≡ xs → ⊥
@@ -82,11 +80,6 @@ refused-where s xs e none =
     let o = table-passed s xs e in
     true-or-false (hasRates s xs)
     (λ yes.
-    let there = has-rates s (o .range .top) xs (o .long) yes in
+    let there = has-rates s xs (o .long) yes in
     absurd (none (ratesOf s xs) (accepted s (ratesOf s xs) (o .range) (there .0)) (there .1)))
     (λ no-rates. refused-rates s xs e no-rates)
-
--- Coefficients of a sum.
-pub of-a-sum : (s : Shape) (xs ys : List ℤ) → Accepted s xs → Accepted s ys → Accepted s (sums xs ys) →
-    coefficientsOf s (sums xs ys) ≡ sums (coefficientsOf s xs) (coefficientsOf s ys)
-of-a-sum s xs ys a b c = coefficients-sum s xs ys (a .long ∙ sym (b .long))

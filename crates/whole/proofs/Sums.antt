@@ -7,14 +7,14 @@ use native.Mathlib.Omega.{arith}
 use lib.IntN.{ℤ, pos, _+ℤ_}
 use lib.ListN.{length, getD}
 use lib.Seq.{ext-getD}
-use Rattle.numbering.specs.Count.{points}
 use Rattle.hierarchy.specs.Turns.{valueAt, valuesOf}
 use Rattle.hierarchy.specs.Sets.{tableOf, everyAxis}
 use Rattle.hierarchy.proofs.Turned.{plus}
 use Rattle.hierarchy.proofs.Sums.{table-plus}
 use Rattle.hierarchy.proofs.Values.{values-length, values-at}
-use Rattle.zero_border.specs.ZeroBorder.{neighbour}
 use Rattle.shapes.specs.declared.Shape.{Shape}
+use Rattle.shapes.specs.Shapes.{pointsOf}
+use Rattle.grids.specs.Grids.{neighbour}
 use Rattle.whole.specs.Accepted.{sums}
 use Rattle.whole.specs.Whole.{coefficientsOf}
 
@@ -51,11 +51,12 @@ values-plus m f g =
     at-place same i h =
         values-at m (plus f g) i h ∙ sym (sums-at (valuesOf m f) (valuesOf m g) same i ∙ rw (values-at m f i h, values-at m g i h))
 
+-- Coefficients of a sum of two tables of one length are, place by place, the sums of theirs.
 pub coefficients-sum : (s : Shape) (xs ys : List ℤ) → length xs ≡ length ys → coefficientsOf s (sums xs ys) ≡ sums (coefficientsOf s xs) (coefficientsOf s ys)
 unfolding coefficientsOf
 coefficients-sum s xs ys e =
-    let m = points (s .axes) (s .level) in
-    let nb = neighbour (s .axes) (s .level) in
+    let m = pointsOf s in
+    let nb = neighbour s in
     ap (λ (f : ℕ → ℤ). valuesOf m (tableOf nb (s .axes) everyAxis f)) (fun-ext (sums-held-at xs ys e))
     ∙ ap (valuesOf m) (table-plus nb (s .axes) everyAxis (valueAt xs) (valueAt ys))
     ∙ values-plus m (tableOf nb (s .axes) everyAxis (valueAt xs)) (tableOf nb (s .axes) everyAxis (valueAt ys))

@@ -8,15 +8,14 @@ use lib.IntN.{ℤ, pos, _+ℤ_}
 use lib.ListN.{length, getD}
 use Rattle.refusals.specs.declared.Verdict.the-variants.{Passed}
 use Rattle.integers.specs.Half.{isRate}
-use Rattle.numbering.specs.Count.{points}
 use Rattle.shapes.specs.declared.Shape.{Shape}
-use Rattle.shapes.specs.Shapes.{checkShape}
+use Rattle.shapes.specs.Shapes.{pointsOf, checkShape}
 
 -- Rates are accepted where the shape is not refused and there are N numbers, each a rate.
 pub record Accepted (s : Shape) (rs : List ℤ) : Type 0 where
   pub shape : checkShape s ≡ Passed
-  pub long : length rs ≡ points (s .axes) (s .level)
-  pub each : (p : ℕ) → p < points (s .axes) (s .level) → isRate (getD rs p (pos 0)) ≡ true
+  pub long : length rs ≡ pointsOf s
+  pub each : (p : ℕ) → p < pointsOf s → isRate (getD rs p (pos 0)) ≡ true
 
 -- Two tables of one length, added place by place.
 unfoldable pub sums : List ℤ → List ℤ → List ℤ

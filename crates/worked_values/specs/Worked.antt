@@ -8,7 +8,7 @@ use lib.ListN.{replicate}
 use Rattle.refusals.specs.declared.Verdict.the-variants.{Passed}
 use Rattle.shapes.specs.declared.Shape.{Shape}
 use Rattle.shapes.specs.declared.Counted.the-variants.{Points}
-use Rattle.shapes.specs.Shapes.{counted}
+use Rattle.shapes.specs.Shapes.{sparse, counted}
 use Rattle.numbers.specs.declared.Numbered.the-variants.{At}
 use Rattle.numbers.specs.Numbers.{numberOfPoint}
 use Rattle.states.specs.declared.Answer.the-variants.{Done}
@@ -40,24 +40,20 @@ abbrev pub AllHold : List Example → Type 0
 AllHold [] = Unit {0}
 AllHold (e ∷ es) = Holds e × AllHold es
 
--- d axes and top level n.
-abbrev pub shape : ℕ → ℕ → Shape
-shape d n = record { axes = d; level = n }
-
 abbrev pub examples : List Example
 examples =
-    count (shape 1 0) 1
-    ∷ count (shape 2 2) 17
-    ∷ count (shape 3 2) 31
-    ∷ number (shape 2 3) (1 ∷ 2 ∷ []) (3 ∷ 1 ∷ []) 34
-    ∷ coefficients (shape 1 1) (pos 3 ∷ pos 5 ∷ pos 7 ∷ []) (pos 6 ∷ pos 7 ∷ pos 11 ∷ [])
-    ∷ coefficients (shape 1 0) (negsuc 0 ∷ []) (negsuc 1 ∷ [])
-    ∷ coefficients (shape 2 1) (pos 4 ∷ pos 3 ∷ pos 5 ∷ pos 2 ∷ pos 6 ∷ []) (pos 16 ∷ pos 4 ∷ pos 12 ∷ pos 0 ∷ pos 16 ∷ [])
-    ∷ coefficients (shape 2 2) (replicate 17 (pos 1))
+    count (sparse 1 0) 1
+    ∷ count (sparse 2 2) 17
+    ∷ count (sparse 3 2) 31
+    ∷ number (sparse 2 3) (1 ∷ 2 ∷ []) (3 ∷ 1 ∷ []) 34
+    ∷ coefficients (sparse 1 1) (pos 3 ∷ pos 5 ∷ pos 7 ∷ []) (pos 6 ∷ pos 7 ∷ pos 11 ∷ [])
+    ∷ coefficients (sparse 1 0) (negsuc 0 ∷ []) (negsuc 1 ∷ [])
+    ∷ coefficients (sparse 2 1) (pos 4 ∷ pos 3 ∷ pos 5 ∷ pos 2 ∷ pos 6 ∷ []) (pos 16 ∷ pos 4 ∷ pos 12 ∷ pos 0 ∷ pos 16 ∷ [])
+    ∷ coefficients (sparse 2 2) (replicate 17 (pos 1))
     (map pos (4 ∷ 2 ∷ 2 ∷ 2 ∷ 2 ∷ 2 ∷ 0 ∷ 0 ∷ 2 ∷ 1 ∷ 1 ∷ 1 ∷ 1 ∷ 2 ∷ 0 ∷ 0 ∷ 2 ∷ []))
-    ∷ estimate (shape 1 1) (pos 6 ∷ pos 7 ∷ pos 11 ∷ []) (16384 ∷ []) (pos 10)
-    ∷ estimate (shape 1 1) (pos 6 ∷ pos 7 ∷ pos 11 ∷ []) (8192 ∷ []) (pos 5)
-    ∷ estimate (shape 1 1) (pos 6 ∷ pos 7 ∷ pos 11 ∷ []) (0 ∷ []) (pos 0)
-    ∷ estimate (shape 1 1) (pos 6 ∷ pos 7 ∷ pos 11 ∷ []) (1 ∷ []) (pos 0)
-    ∷ estimate (shape 1 1) (negsuc 5 ∷ negsuc 6 ∷ negsuc 10 ∷ []) (1 ∷ []) (negsuc 0)
+    ∷ estimate (sparse 1 1) (pos 6 ∷ pos 7 ∷ pos 11 ∷ []) (16384 ∷ []) (pos 10)
+    ∷ estimate (sparse 1 1) (pos 6 ∷ pos 7 ∷ pos 11 ∷ []) (8192 ∷ []) (pos 5)
+    ∷ estimate (sparse 1 1) (pos 6 ∷ pos 7 ∷ pos 11 ∷ []) (0 ∷ []) (pos 0)
+    ∷ estimate (sparse 1 1) (pos 6 ∷ pos 7 ∷ pos 11 ∷ []) (1 ∷ []) (pos 0)
+    ∷ estimate (sparse 1 1) (negsuc 5 ∷ negsuc 6 ∷ negsuc 10 ∷ []) (1 ∷ []) (negsuc 0)
     ∷ []

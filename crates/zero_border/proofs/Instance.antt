@@ -9,7 +9,6 @@ use lib.Dec.{ltb}
 use borrow.Author.Tests.{lt-ltb, le-ltb}
 use Rattle.naturals.specs.Test.{if_then_else_}
 use Rattle.naturals.proofs.Cases.{le-or-lt, eq-or-not, true-or-false}
-use Rattle.naturals.proofs.Sums.{term-le}
 use Rattle.numbering.specs.declared.Side.{Side}
 use Rattle.numbering.specs.Count.{shell, points}
 use Rattle.numbering.specs.Number.{number}
@@ -39,9 +38,9 @@ beyond-inner : (t : ℕ) (b : Side) (l i : ℕ → ℕ) → beyond t b (inner l 
 unfolding beyond
 beyond-inner t b l i = refl
 
-module _ (d n : ℕ) (few : n ≤ 8) where
+module _ (d n : ℕ) where
   -- The neighbour's clauses.
-  pub neighbour-border : (t : ℕ) (b : Side) → neighbour d n t b 0 ≡ 0
+  neighbour-border : (t : ℕ) (b : Side) → neighbour d n t b 0 ≡ 0
   unfolding neighbour
   neighbour-border t b = refl
 
@@ -63,7 +62,7 @@ module _ (d n : ℕ) (few : n ≤ 8) where
       neither true = refl
       neither false = refl
 
-  pub neighbour-named : (t : ℕ) (b : Side) {l i : ℕ → ℕ} → Named d n l i → t < d → neighbour d n t b (suc (number d l i)) ≡ codeOf d (parent t b l i)
+  neighbour-named : (t : ℕ) (b : Side) {l i : ℕ → ℕ} → Named d n l i → t < d → neighbour d n t b (suc (number d l i)) ≡ codeOf d (parent t b l i)
   neighbour-named t b {l} {i} s axis =
       neighbour-at t b (number d l i) (number-lt (s .point)) axis
       ∙ ap₂ (λ (m j : ℕ → ℕ). codeOf d (parent t b m j)) (levels-again s) (indices-again s)
@@ -73,13 +72,13 @@ module _ (d n : ℕ) (few : n ≤ 8) where
     pub named-parent : Named d n (update l t (parentLevel (l t) (numerator b (i t)))) (update i t (parentIndex (numerator b (i t))))
     named-parent =
         record {
-          point = parent-is-point (s .point) few t axis b e;
+          point = parent-is-point (s .point) t axis b e;
           levels = λ u past. update-other l t _ u (λ same. omega arith) ∙ s .levels u past;
           indices = λ u past. update-other i t _ u (λ same. omega arith) ∙ s .indices u past;
         }
 
   -- Either way.
-  pub by-border : {A : Type 0} (t : ℕ) (b : Side) (l i : ℕ → ℕ) →
+  by-border : {A : Type 0} (t : ℕ) (b : Side) (l i : ℕ → ℕ) →
       (isBorder (l t) (numerator b (i t)) ≡ true → A) → (isBorder (l t) (numerator b (i t)) ≡ false → A) → A
   by-border t b l i = true-or-false (isBorder (l t) (numerator b (i t)))
 
@@ -148,7 +147,7 @@ module _ (d n : ℕ) (few : n ≤ 8) where
       let s = named d n p h in
       let q = named-parent t b s axis e in
       record {
-        smaller = omega (arith, parent-number (s .point) few t axis b e, number-of-point d n p h);
+        smaller = omega (arith, parent-number (s .point) t axis b e, number-of-point d n p h);
         inside = omega (arith, number-lt (q .point));
         shallower =
             omega (
@@ -157,7 +156,6 @@ module _ (d n : ℕ) (few : n ≤ 8) where
               depth-at t p,
               update-same (levelAt d n p) t (parentLevel (levelAt d n p t) (numerator b (indexAt d n p t))),
               level-falls (levelAt d n p t) (numerator b (indexAt d n p t))
-                  (omega (arith, term-le (levelAt d n p) d t axis, s .point .sum))
                   (inside b (levelAt d n p t) (indexAt d n p t) (s .point .odd t axis) (s .point .below t axis) e),
             );
       }

@@ -2,11 +2,9 @@
 -- Assumes nothing.
 use mathlib.Core.Path.{_≡_, sym, ap, _∙_}
 use native.Mathlib.Omega.{arith}
-use native.Mathlib.Numerals.{add-one}
-use borrow.Author.Needs.{needs}
 use lib.ListN.{length, drop}
+use borrow.Author.Needs.{needs}
 use Rattle.refusals.specs.declared.Verdict.the-variants.{Passed}
-use Rattle.numbering.specs.Count.{start, points}
 use Rattle.house_file.specs.declared.Opened.the-variants.{Holds}
 use Rattle.house_file.specs.Reading.{_next_}
 use Rattle.house_file.specs.Files.{readRates, ended, readTable, afterReading, filledWith}
@@ -41,29 +39,18 @@ returns c =
 enum-told : tie.Need-enum-told
 enum-told c = search needs
 
-add-first-number : tie.Need-add-first-number
-add-first-number c = omega (arith, fitting (c .before) .range)
-
-first-number-requires : tie.Need-first-number-requires
-first-number-requires c κs = omega (arith, fitting (c .before) .range)
-
--- the count of the rates
-counted : (c : tie.After-first-number) →
-    let s = c .before .before .before .before .before .before .args .shape in c .first-number .result ≡ points (s .axes) (s .level)
-unfolding points
-counted c =
-    let s = c .before .before .before .before .before .before .args .shape in
-    c .first-number .ensures ∙ ap (start (s .axes)) (add-one (s .level))
+points-of-requires : tie.Need-points-of-requires
+points-of-requires c κs = fitting c .shape
 
 -- what the table is, once the places passed
-rated : (c : tie.After-first-number) →
-    let a = c .before .before .before .before .before .before .args in
+rated : (c : tie.After-points-of) →
+    let a = c .before .before .before .before .before .args in
     let rest = drop (a .from) (a .bytes .now) in
-    readTable (length (a .table .now)) (a .shape) rest ≡ readRates (c .first-number .result) rest next ended (a .shape)
+    readTable (length (a .table .now)) (a .shape) rest ≡ readRates (c .points-of .result) rest next ended (a .shape)
 rated c =
-    let a = c .before .before .before .before .before .before .args in
+    let a = c .before .before .before .before .before .args in
     let rest = drop (a .from) (a .bytes .now) in
-    rw (counted c) (placed (length (a .table .now)) (a .shape) rest (passed (c .before .before)))
+    rw (c .points-of .ensures) (placed (length (a .table .now)) (a .shape) rest (passed (c .before)))
 
 check-rates-requires : tie.Need-check-rates-requires
 check-rates-requires c κs = search needs
@@ -75,11 +62,11 @@ returns-2 : tie.Need-returns-2
 returns-2 c =
     let called = c .before .before .before in
     let count = called .before in
-    let a = count .before .before .before .before .before .before .args in
+    let a = count .before .before .before .before .before .args in
     sym
     (ap (filledWith (a .table .now))
     (rated count
-    ∙ unchecked (a .shape) (readRates (count .first-number .result) (drop (a .from) (a .bytes .now))) (c .before .r2 .given .0 .0)
+    ∙ unchecked (a .shape) (readRates (count .points-of .result) (drop (a .from) (a .bytes .now))) (c .before .r2 .given .0 .0)
     (sym (called .check-rates .ensures) ∙ c .before .r2 .given .1)))
 
 enum-told-2 : tie.Need-enum-told-2
@@ -89,7 +76,7 @@ fill-requires : tie.Need-fill-requires
 fill-requires c κs =
     let called = c .before .before .before in (
       sym (called .check-rates .ensures) ∙ c .before .enum-told2 .given .1,
-      omega (arith, fitting (called .before .before .before) .room, counted (called .before)),
+      omega (arith, fitting (called .before .before) .room, called .before .points-of .ensures),
     )
 
 same-length : tie.Need-same-length
@@ -99,12 +86,12 @@ returns-3 : tie.Need-returns-3
 returns-3 c =
     let called = c .before .before .before .before .before in
     let count = called .before in
-    let a = count .before .before .before .before .before .before .args in
+    let a = count .before .before .before .before .before .args in
     let rest = drop (a .from) (a .bytes .now) in
     ap (afterReading (Holds (a .shape))) (c .before .fill .ensures)
     ∙ sym
     (ap (filledWith (a .table .now)) (rated count)
-    ∙ checked (a .shape) (a .table .now) (readRates (count .first-number .result) rest)
+    ∙ checked (a .shape) (a .table .now) (readRates (count .points-of .result) rest)
     (sym (called .check-rates .ensures) ∙ c .before .before .before .enum-told2 .given .1))
 
 pub read-table-spec : {M : Type 1} → statement M
@@ -115,8 +102,7 @@ read-table-spec =
     enum-known-r
     returns
     enum-told
-    add-first-number
-    first-number-requires
+    points-of-requires
     check-rates-requires
     enum-known-r-2
     returns-2

@@ -3,6 +3,7 @@
 use mathlib.Core.Path.{sym, ap, _∙_}
 use native.Mathlib.Omega.{arith}
 use borrow.Author.Needs.{needs}
+use Rattle.grids.proofs.Sparse.{number-sparse}
 use Rattle.points.proofs.Passed.{point-passed}
 use Rattle.numbers.proofs.Parts.{at-most-eight}
 use Rattle.numbers.specs.declared.Numbered.the-variants.{At}
@@ -38,7 +39,10 @@ returns c = rw (← c .before .before .before .check-point .ensures, c .before .
 
 returns-2 : tie.Need-returns-2
 unfolding numberOfPoint
-returns-2 c = rw (← c .before .before .before .check-point .ensures, c .before .enum-told .given .1) (ap At (c .number-at .ensures))
+returns-2 c =
+    let shape = c .before .before .before .before .before .before .args .shape in
+    rw (← c .before .before .before .check-point .ensures, c .before .enum-told .given .1)
+    (ap At (c .number-at .ensures ∙ sym (number-sparse (shape .axes) (shape .level) _ _)))
 
 pub number-of-point-spec : {M : Type 1} → statement M
 number-of-point-spec =

@@ -1,13 +1,12 @@
 -- `numbers::point_of_number` meets its contract: the check of the shape and then the count of its points decide the refusal.
 -- Assumes nothing.
 use mathlib.Core.Path.{_≡_, sym, ap, _∙_}
-use native.Mathlib.Numerals.{add-one}
 use native.Mathlib.Omega.{arith}
 use borrow.Author.Needs.{needs}
 use Rattle.refusals.specs.declared.Verdict.the-variants.{Passed}
-use Rattle.numbering.specs.Count.{start, points}
 use Rattle.shapes.specs.Shapes.{checkShape}
-use Rattle.shapes.proofs.Checked.{InRange, passed-in-range}
+use Rattle.shapes.proofs.Checked.{passed-in-range}
+use Rattle.grids.proofs.Sparse.{points-sparse}
 use Rattle.points.specs.Points.{found}
 use Rattle.numbers.proofs.Answers.{shape-refused, number-refused, number-found}
 use Rattle.numbers.proofs.point_of_number.Statement.{statement}
@@ -30,26 +29,12 @@ returns c =
 enum-told : tie.Need-enum-told
 enum-told c = search needs
 
--- after the check has passed the shape is in range
+-- the shape passed
 passed : (c : tie.After-enum-told) → checkShape (c .before .before .before .args .shape) ≡ Passed
 passed c = sym (c .before .before .check-shape .ensures) ∙ c .enum-told .given .1
 
-known : (c : tie.After-enum-told) → InRange (c .before .before .before .args .shape)
-known c = passed-in-range (c .before .before .before .args .shape) (passed c)
-
-add-first-number : tie.Need-add-first-number
-add-first-number c = omega (arith, known c)
-
-first-number-requires : tie.Need-first-number-requires
-first-number-requires c κs = omega (arith, known c)
-
--- the first number past the top level is the count of the points
-counted : (c : tie.After-first-number) →
-    c .first-number .result ≡ points (c .before .before .before .before .args .shape .axes) (c .before .before .before .before .args .shape .level)
-unfolding points
-counted c =
-    let shape = c .before .before .before .before .args .shape in
-    c .first-number .ensures ∙ ap (start (shape .axes)) (add-one (shape .level))
+points-of-requires : tie.Need-points-of-requires
+points-of-requires c κs = passed c
 
 nowhere-requires-2 : tie.Need-nowhere-requires-2
 nowhere-requires-2 c κs = search needs
@@ -57,17 +42,18 @@ nowhere-requires-2 c κs = search needs
 returns-2 : tie.Need-returns-2
 returns-2 c =
     c .nowhere2 .ensures
-    ∙ sym (number-refused _ _ (passed (c .before .before .before)) (omega (arith, counted (c .before .before))))
+    ∙ sym (number-refused _ _ (passed (c .before .before .before)) (omega (arith, c .before .before .points-of .ensures)))
 
 point-at-requires : tie.Need-point-at-requires
 point-at-requires c κs =
-    let range = known (c .before .before) in
-    (range .low, range .high, range .top, omega (arith, counted (c .before)))
+    let shape = c .before .before .before .before .before .args .shape in
+    let range = passed-in-range shape (passed (c .before .before)) in
+    (range .low, range .high, range .top, omega (arith, c .before .points-of .ensures, points-sparse (shape .axes) (shape .level)))
 
 returns-3 : tie.Need-returns-3
 returns-3 c =
     ap found (c .point-at .ensures)
-    ∙ sym (number-found _ _ (passed (c .before .before .before)) (omega (arith, counted (c .before .before))))
+    ∙ sym (number-found _ _ (passed (c .before .before .before)) (omega (arith, c .before .before .points-of .ensures)))
 
 pub point-of-number-spec : {M : Type 1} → statement M
 point-of-number-spec =
@@ -78,8 +64,7 @@ point-of-number-spec =
     nowhere-requires
     returns
     enum-told
-    add-first-number
-    first-number-requires
+    points-of-requires
     nowhere-requires-2
     returns-2
     point-at-requires

@@ -92,7 +92,7 @@ returns-3 : tie.Need-returns-3
 returns-3 c =
     let start = c .before .before .before .before .before in
     let a = start .args in
-    stepped (a .t) (a .side) (a .t3 .levels) (a .t3 .indices) _ (c .before .before .neighbour .ensures) (start .pre .1) (c .before .if1 .left) (c .if2 .left) (start .pre .0)
+    stepped (a .t) (a .side) (a .t3 .levels) (a .t3 .indices) _ (c .before .before .neighbour .ensures) (start .pre .1) (c .before .if1 .left) (c .if2 .left) (start .pre .2) (start .pre .3) (start .pre .0)
     (eight-levels start) (eight-indices start)
 
 pub parent-on-spec : {M : Type 1} → statement M

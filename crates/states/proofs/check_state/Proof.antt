@@ -1,9 +1,7 @@
--- `states::check_state` meets its contract: the check of the shape comes first, and what it passes is in the range that `check_contents` asks.
+-- `states::check_state` meets its contract: the check of the shape comes first, and `check_contents` asks that it passed.
 -- Assumes nothing.
 use mathlib.Core.Path.{sym, _∙_}
-use native.Mathlib.Omega.{arith}
 use borrow.Author.Needs.{needs}
-use Rattle.shapes.proofs.Checked.{passed-in-range}
 use Rattle.states.specs.States.{checkState}
 use Rattle.states.proofs.check_state.Statement.{statement}
 use Rattle.states.proofs.check_state.Tie as tie
@@ -18,9 +16,7 @@ enum-told : tie.Need-enum-told
 enum-told c = search needs
 
 check-contents-requires : tie.Need-check-contents-requires
-check-contents-requires c κs =
-    omega
-    (arith, passed-in-range (c .before .before .before .before .args .state .shape) (sym (c .before .before .check-shape .ensures) ∙ c .enum-told .given .1))
+check-contents-requires c κs = sym (c .before .before .check-shape .ensures) ∙ c .enum-told .given .1
 
 returns : tie.Need-returns
 unfolding checkState

@@ -1,15 +1,11 @@
--- `tables::check_table` meets its contract: the shape's refusals come first, and of a shape within the limits the count of points is the table's length.
+-- `tables::check_table` meets its contract: the shape's refusals come first, and then the table must have as many places as the shape has points.
 -- Assumes nothing.
-use mathlib.Core.Path.{_≡_, ap, sym, _∙_}
-use native.Mathlib.Numerals.{add-one}
-use native.Mathlib.Omega.{arith}
+use mathlib.Core.Path.{_≡_, sym, _∙_}
+use lib.ListN.{length}
 use borrow.Author.Needs.{needs}
 use borrow.Author.Tests.{eq-eqb, ne-eqb}
-use lib.ListN.{length}
 use Rattle.refusals.specs.declared.Verdict.the-variants.{Passed}
-use Rattle.numbering.specs.Count.{start, points}
-use Rattle.shapes.specs.Shapes.{checkShape}
-use Rattle.shapes.proofs.Checked.{InRange, passed-in-range}
+use Rattle.shapes.specs.Shapes.{checkShape, pointsOf}
 use Rattle.tables.specs.Tables.{checkTable}
 use Rattle.tables.proofs.check_table.Statement.{statement}
 use Rattle.tables.proofs.check_table.Tie as tie
@@ -17,9 +13,6 @@ use Rattle.tables.proofs.check_table.Tie as tie
 -- the shape passed
 passed : (c : tie.After-enum-told) → checkShape (c .before .before .before .args .shape) ≡ Passed
 passed c = sym (c .before .before .check-shape .ensures) ∙ c .enum-told .given .1
-
-range : (c : tie.After-enum-told) → InRange (c .before .before .before .args .shape)
-range c = passed-in-range (c .before .before .before .args .shape) (passed c)
 
 check-shape-requires : tie.Need-check-shape-requires
 check-shape-requires c κs = search needs
@@ -34,19 +27,8 @@ returns c = rw (← c .before .before .before .check-shape .ensures, c .before .
 enum-told : tie.Need-enum-told
 enum-told c = search needs
 
-add-first-number : tie.Need-add-first-number
-add-first-number c = omega (arith, range c)
-
-first-number-requires : tie.Need-first-number-requires
-first-number-requires c κs = omega (arith, range c)
-
--- the number that the length is compared with
-counted : (c : tie.After-first-number) →
-    let s = c .before .before .before .before .args .shape in c .first-number .result ≡ points (s .axes) (s .level)
-unfolding points
-counted c =
-    let s = c .before .before .before .before .args .shape in
-    c .first-number .ensures ∙ ap (start (s .axes)) (add-one (s .level))
+points-of-requires : tie.Need-points-of-requires
+points-of-requires c κs = passed c
 
 returns-2 : tie.Need-returns-2
 unfolding checkTable
@@ -55,7 +37,7 @@ returns-2 c =
     let a = told .before .before .before .args in
     rw (
       passed told,
-      ne-eqb (length (a .table .now)) (points (a .shape .axes) (a .shape .level)) (λ e. c .if1 .taken (e ∙ sym (counted (c .before)))),
+      ne-eqb (length (a .table .now)) (pointsOf (a .shape)) (λ e. c .if1 .taken (e ∙ sym (c .before .points-of .ensures))),
     )
 
 returns-3 : tie.Need-returns-3
@@ -65,18 +47,10 @@ returns-3 c =
     let a = told .before .before .before .args in
     rw (
       passed told,
-      eq-eqb (length (a .table .now)) (points (a .shape .axes) (a .shape .level)) (c .if1 .left ∙ counted (c .before)),
+      eq-eqb (length (a .table .now)) (pointsOf (a .shape)) (c .if1 .left ∙ c .before .points-of .ensures),
     )
 
 pub check-table-spec : {M : Type 1} → statement M
 check-table-spec =
     tie.close
-    (tie.spec
-    check-shape-requires
-    enum-known-r
-    returns
-    enum-told
-    add-first-number
-    first-number-requires
-    returns-2
-    returns-3)
+    (tie.spec check-shape-requires enum-known-r returns enum-told points-of-requires returns-2 returns-3)

@@ -5,16 +5,16 @@ use mathlib.Core.Path.{_≡_, ap, ap₂, sym, _∙_}
 use mathlib.Core.Bool.{true}
 use Prim.Native.Nat.{_-_, _≤_}
 use native.Mathlib.Omega.{arith}
+use lib.ListN.{length}
 use borrow.Author.Needs.{needs}
 use borrow.Author.Tests.{not-true, not-false}
-use lib.ListN.{length}
 use Rattle.refusals.specs.declared.Refusal.the-variants.{Contents}
 use Rattle.refusals.specs.declared.Verdict.the-variants.{Passed}
-use Rattle.numbering.specs.Count.{points}
+use Rattle.shapes.specs.Shapes.{pointsOf}
 use Rattle.states.specs.States.{has}
 use Rattle.states.specs.declared.Answer.the-variants.{Done, Refused}
-use Rattle.turns.specs.Steps.{OnAxis, Limited, RaisedFrom}
 use Rattle.states.specs.After.{after}
+use Rattle.turns.specs.Steps.{OnAxis, Limited, RaisedFrom}
 use Rattle.turns.specs.Turns.{formerTable, isAccepted, checkTurn}
 use Rattle.turns.proofs.Accepting.{passed-limited}
 use Rattle.turns.proofs.Answering.{on-axis, back-unchecked, back-not-forward, back-refused, back-done}
@@ -36,7 +36,7 @@ set : (c : tie.Else1) → let a = c .before .before .before .before .before .arg
 set c = sym (c .before .has-axis .ensures) ∙ not-false _ (c .if1 .left)
 
 axis : (c : tie.After-enum-told) →
-    let a = c .before .before .before .args in OnAxis (a .state .shape .axes) (a .state .shape .level) (a .axis - 1) (a .table .now)
+    let a = c .before .before .before .args in OnAxis (a .state .shape) (a .axis - 1) (a .table .now)
 axis c = on-axis (may c)
 
 -- all values are within the limit
@@ -49,14 +49,14 @@ told-at c = c .before .before .before .before .before .before .before .before .b
 
 way : (c : tie.After-table) →
     let a = told-at c .before .before .before .args in
-    RaisedFrom (a .state .shape .axes) (a .state .shape .level) (a .axis - 1) 0 (a .table .now) (c .before .raise .result) (c .before .raise .last .1 .0)
+    RaisedFrom (a .state .shape) (a .axis - 1) 0 (a .table .now) (c .before .raise .result) (c .before .raise .last .1 .0)
 way c = c .before .raise .ensures
 
 -- the steps down gave back the table
 kept-table : (c : tie.After-lower) → let a = told-at (c .before .before .before) .before .before .before .args in c .lower .last .1 .0 ≡ a .table .now
 kept-table c =
     let up = c .before .before .before in
-    given-back _ _ _ _ (axis (told-at up)) (limited (up .before .before .before)) _ _ (way up) _ _ (c .lower .ensures)
+    given-back _ _ _ (axis (told-at up) .long) (limited (up .before .before .before)) _ _ (way up) _ _ (c .lower .ensures)
 
 check-turn-requires : tie.Need-check-turn-requires
 check-turn-requires c κs = search needs
@@ -100,7 +100,7 @@ returns-3 c =
     let a = told .before .before .before .args in
     rw
     (back-refused (a .state) (a .table .now) (a .axis) (passed told) (set other)
-    (past-limit-refuses _ _ _ _ (axis told) (sym (c .before .all-in-limit .ensures) ∙ not-true _ (c .if2 .taken))))
+    (past-limit-refuses _ _ _ (axis told .long) (sym (c .before .all-in-limit .ensures) ∙ not-true _ (c .if2 .taken))))
 
 raise-requires : tie.Need-raise-requires
 raise-requires c κs = (axis (c .before .before .before .before .before .before .before), limited (c .before), omega arith)
@@ -110,7 +110,7 @@ lower-requires c κs =
     let up = c .before .before in
     let on = axis (told-at up) in (
       record { few = on .few; low = on .low; place = on .place; long = way up .up .long },
-      raised-limited _ _ _ _ on (limited (up .before .before .before)) _ _ (way up),
+      raised-limited _ _ _ (on .long) (limited (up .before .before .before)) _ _ (way up),
       way up .up .within,
     )
 
@@ -126,7 +126,7 @@ returns-4 c =
     let a = told .before .before .before .args in
     rw
     (back-refused (a .state) (a .table .now) (a .axis) (passed told) (set other)
-    (stopped-refuses _ _ _ _ (axis told) (limited (up .before .before .before)) _ _ (way up) (omega (arith, way up .up .long, c .before .before .before .if3 .taken))))
+    (stopped-refuses _ _ _ (axis told .long) (limited (up .before .before .before)) _ _ (way up) (omega (arith, way up .up .long, c .before .before .before .if3 .taken))))
     (ap (after (Refused Contents)) (kept-table (c .before)))
 
 without-axis-requires : tie.Need-without-axis-requires
@@ -141,7 +141,7 @@ same-length-3 c = search needs
 -- the way up came to the end
 at-end : (c : tie.Else3) →
     let a = told-at (c .before) .before .before .before .args in
-    points (a .state .shape .axes) (a .state .shape .level) ≤ c .before .before .raise .result
+    pointsOf (a .state .shape) ≤ c .before .before .raise .result
 at-end c = omega (arith, way (c .before) .up .long, c .if3 .left)
 
 returns-5 : tie.Need-returns-5
@@ -153,8 +153,8 @@ returns-5 c =
     let a = told .before .before .before .args in
     rw
     (back-done (a .state) (a .table .now) (a .axis) (passed told) (set other)
-    (end-accepted _ _ _ _ (axis told) (limited (up .before .before .before)) _ _ (way up) (at-end (c .before))))
-    (ap₂ after (ap Done (c .without-axis .ensures)) (end-holds _ _ _ _ (axis told) (limited (up .before .before .before)) _ _ (way up) (at-end (c .before))))
+    (end-accepted _ _ _ (axis told .long) (limited (up .before .before .before)) _ _ (way up) (at-end (c .before))))
+    (ap₂ after (ap Done (c .without-axis .ensures)) (end-holds _ _ _ (axis told .long) (limited (up .before .before .before)) _ _ (way up) (at-end (c .before))))
 
 pub dehierarchize-spec : {M : Type 1} → statement M
 dehierarchize-spec =

@@ -5,12 +5,12 @@ use mathlib.Core.Path.{_≡_, ap, ap₂, sym, _∙_}
 use mathlib.Core.Bool.{false}
 use Prim.Native.Nat.{_-_}
 use native.Mathlib.Omega.{arith}
+use lib.ListN.{length}
 use borrow.Author.Needs.{needs}
 use borrow.Author.Tests.{not-true, not-false}
-use lib.ListN.{length}
 use Rattle.refusals.specs.declared.Refusal.the-variants.{Contents}
 use Rattle.refusals.specs.declared.Verdict.the-variants.{Passed}
-use Rattle.numbering.specs.Count.{points}
+use Rattle.shapes.specs.Shapes.{pointsOf}
 use Rattle.states.specs.States.{has}
 use Rattle.states.specs.declared.Answer.the-variants.{Done, Refused}
 use Rattle.states.specs.After.{after}
@@ -36,7 +36,7 @@ clear : (c : tie.Else1) → let a = c .before .before .before .before .before .a
 clear c = sym (c .before .has-axis .ensures) ∙ c .if1 .left
 
 axis : (c : tie.After-enum-told) →
-    let a = c .before .before .before .args in OnAxis (a .state .shape .axes) (a .state .shape .level) (a .axis - 1) (a .table .now)
+    let a = c .before .before .before .args in OnAxis (a .state .shape) (a .axis - 1) (a .table .now)
 axis c = on-axis (may c)
 
 -- all values are within the limit
@@ -50,14 +50,14 @@ told-at c = c .before .before .before .before .before .before .before .before .b
 way : (c : tie.After-table) →
     let a = told-at c .before .before .before .args in
     let s = a .state .shape in
-    LoweredBetween (s .axes) (s .level) (a .axis - 1) 0 (points (s .axes) (s .level)) (a .table .now) (c .before .lower .result) (c .before .lower .last .1 .0)
+    LoweredBetween s (a .axis - 1) 0 (pointsOf s) (a .table .now) (c .before .lower .result) (c .before .lower .last .1 .0)
 way c = rw (sym (may (told-at c) .long)) (c .before .lower .ensures)
 
 -- the steps back gave back the table
 kept-table : (c : tie.After-raise) → let a = told-at (c .before .before .before) .before .before .before .args in c .raise .last .1 .0 ≡ a .table .now
 kept-table c =
     let down = c .before .before .before in
-    given-back _ _ _ _ (axis (told-at down)) (limited (down .before .before .before)) _ _ (way down) _ _ (c .raise .ensures)
+    given-back _ _ _ (axis (told-at down) .long) (limited (down .before .before .before)) _ _ (way down) _ _ (c .raise .ensures)
 
 check-turn-requires : tie.Need-check-turn-requires
 check-turn-requires c κs = search needs
@@ -101,7 +101,7 @@ returns-3 c =
     let a = told .before .before .before .args in
     rw
     (forward-refused (a .state) (a .table .now) (a .axis) (passed told) (clear other)
-    (limit-refuses _ _ _ _ (axis told .long) (sym (c .before .all-in-limit .ensures) ∙ not-true _ (c .if2 .taken))))
+    (limit-refuses _ _ _ (axis told .long) (sym (c .before .all-in-limit .ensures) ∙ not-true _ (c .if2 .taken))))
 
 lower-requires : tie.Need-lower-requires
 lower-requires c κs =
@@ -112,8 +112,8 @@ raise-requires : tie.Need-raise-requires
 raise-requires c κs =
     let down = c .before .before in
     let on = axis (told-at down) in (
-      record { few = on .few; low = on .low; place = on .place; long = lowered-length _ _ _ _ on (limited (down .before .before .before)) _ _ (way down) },
-      lowered-limited _ _ _ _ on (limited (down .before .before .before)) _ _ (way down),
+      record { few = on .few; low = on .low; place = on .place; long = lowered-length _ _ _ (on .long) (limited (down .before .before .before)) _ _ (way down) },
+      lowered-limited _ _ _ (on .long) (limited (down .before .before .before)) _ _ (way down),
       way down .to,
     )
 
@@ -129,7 +129,7 @@ returns-4 c =
     let a = told .before .before .before .args in
     rw
     (forward-refused (a .state) (a .table .now) (a .axis) (passed told) (clear other)
-    (stopped-refuses _ _ _ _ (axis told) (limited (down .before .before .before)) _ _ (way down) (c .before .before .before .if3 .taken)))
+    (stopped-refuses _ _ _ (axis told .long) (limited (down .before .before .before)) _ _ (way down) (c .before .before .before .if3 .taken)))
     (ap (after (Refused Contents)) (kept-table (c .before)))
 
 with-axis-requires : tie.Need-with-axis-requires
@@ -154,9 +154,9 @@ returns-5 c =
     let a = told .before .before .before .args in
     rw
     (forward-done (a .state) (a .table .now) (a .axis) (passed told) (clear other)
-    (turned-accepted _ _ _ _ (axis told) (limited (down .before .before .before)) _ _ (way down) (at-first (c .before))))
+    (turned-accepted _ _ _ (axis told .long) (limited (down .before .before .before)) _ _ (way down) (at-first (c .before))))
     (ap₂ after (ap Done (c .with-axis .ensures))
-    (turned-whole _ _ _ _ (axis told) (limited (down .before .before .before)) _ _ (way down) (at-first (c .before))))
+    (turned-whole _ _ _ (axis told .long) (limited (down .before .before .before)) _ _ (way down) (at-first (c .before))))
 
 pub hierarchize-spec : {M : Type 1} → statement M
 hierarchize-spec =

@@ -6,7 +6,9 @@ use Prim.Native.Nat.{_+_, _-_, _^_, _≤_, _<_}
 use native.Mathlib.Omega.{arith}
 use lib.Pow.{pow-pos}
 use borrow.Author.Needs.{needs}
-use Rattle.numbering.specs.Count.{points}
+use Rattle.shapes.specs.Shapes.{pointsOf}
+use Rattle.grids.proofs.Sparse.{points-sparse}
+use Rattle.neighbours.specs.Subspaces.{sparseOf}
 use Rattle.neighbours.proofs.Seeing.{shift-is}
 use Rattle.turns.specs.Steps.{VectorOf}
 use Rattle.turns.proofs.Lowering.{Lowering, lowering-starts, lowering-ends, all-limited, lowering-block, block-stops}
@@ -16,7 +18,7 @@ use Rattle.turns.proofs.lower.Tie as tie
 
 abbrev Inv-loop : tie.InvT-loop
 Inv-loop line table₀ count sum₀ levels₀ start₀ p₀ table sum levels start p =
-    Lowering (line .axes) (line .level) (line .place) table₀ count table p
+    Lowering (sparseOf line) (line .place) table₀ count table p
     × Standing (line .axes) sum levels start
     × (start < p)
     × (p ≤ start + 2 ^ sum)
@@ -27,7 +29,7 @@ abbrev μ-loop : tie.MeasureT-loop
 returns : tie.Need-returns Inv-loop μ-loop
 returns c =
     let pre = c .before .pre in
-    lowering-ends _ _ _ _ _ 0 _ _ (lowering-starts _ _ _ _ _ (pre .0) (pre .1) (pre .2)) (omega arith) (λ less. absurd (omega (arith, c .if1 .taken)))
+    lowering-ends _ _ _ _ 0 _ _ (lowering-starts _ _ _ _ (pre .0) (pre .1) (pre .2)) (omega arith) (λ less. absurd (omega (arith, c .if1 .taken)))
 
 sub-vector-at : tie.Need-sub-vector-at Inv-loop μ-loop
 sub-vector-at c = omega (arith, c .if1 .left)
@@ -35,12 +37,13 @@ sub-vector-at c = omega (arith, c .if1 .left)
 vector-at-requires : tie.Need-vector-at-requires Inv-loop μ-loop
 vector-at-requires c κs =
     let pre = c .before .pre in
-    (omega (arith, pre .0 .place), pre .0 .few, pre .0 .low, omega (arith, pre .2, c .if1 .left))
+    let line = c .before .args .line in
+    (omega (arith, pre .0 .place), pre .0 .few, pre .0 .low, omega (arith, pre .2, c .if1 .left, points-sparse (line .axes) (line .level)))
 
 -- The last of the points lies in the level vector that was found.
 last-inside : (c : tie.After-vector-at Inv-loop μ-loop) →
     let a = c .before .before .args in
-    a .count - 1 < points (a .line .axes) (a .line .level)
+    a .count - 1 < pointsOf (sparseOf (a .line))
 last-inside c = omega (arith, c .before .before .pre .2, c .before .if1 .left)
 
 sub-start : tie.Need-sub-start Inv-loop μ-loop
@@ -57,7 +60,7 @@ loop-holds c =
     let found = c .before .before in
     let got = found .vector-at .ensures in
     let pre = found .before .before .pre in (
-      lowering-starts _ _ _ _ _ (pre .0) (pre .1) (pre .2),
+      lowering-starts _ _ _ _ (pre .0) (pre .1) (pre .2),
       stands _ _ _ (pre .0 .few) (last-inside found) _ _ _ (got .0) (got .1) (got .2),
       omega (arith, found .before .if1 .left),
       omega (arith, inside _ _ _ (pre .0 .few) (last-inside found) _ _ _ (got .0) (got .1) (got .2), found .before .if1 .left),
@@ -79,7 +82,7 @@ lower-vector-requires : tie.Need-lower-vector-requires Inv-loop μ-loop
 lower-vector-requires c κs =
     let s = c .before .loop .inv in (
       record { few = s .0 .axis .few; low = s .0 .axis .low; place = s .0 .axis .place; long = s .0 .long },
-      all-limited _ _ _ _ _ _ _ (s .0),
+      all-limited _ _ _ _ _ _ (s .0),
       vector-of (c .before),
       omega (arith, s .2),
       s .3,
@@ -92,9 +95,9 @@ returns-2 : tie.Need-returns-2 Inv-loop μ-loop
 returns-2 c =
     let s = c .before .before .before .before .loop .inv in
     let done = c .before .before .lower-vector .ensures in
-    lowering-ends _ _ _ _ _ 0 _ _
-    (lowering-block _ _ _ _ _ _ _ (s .0) _ _ _ done) (omega arith)
-    (λ more. block-stops _ _ _ _ _ _ _ (s .0) _ _ _ done (c .if2 .taken))
+    lowering-ends _ _ _ _ 0 _ _
+    (lowering-block _ _ _ _ _ _ (s .0) _ _ _ done) (omega arith)
+    (λ more. block-stops _ _ _ _ _ _ (s .0) _ _ _ done (c .if2 .taken))
 
 same-length-2 : tie.Need-same-length-2 Inv-loop μ-loop
 same-length-2 c = search needs
@@ -107,8 +110,8 @@ returns-3 : tie.Need-returns-3 Inv-loop μ-loop
 returns-3 c =
     let s = c .before .before .before .before .before .loop .inv in
     let done = c .before .before .before .lower-vector .ensures in
-    lowering-ends _ _ _ _ _ 0 _ _
-    (rw (sym (all-of-it (c .before))) (lowering-block _ _ _ _ _ _ _ (s .0) _ _ _ done)) (omega arith)
+    lowering-ends _ _ _ _ 0 _ _
+    (rw (sym (all-of-it (c .before))) (lowering-block _ _ _ _ _ _ (s .0) _ _ _ done)) (omega arith)
     (λ more. absurd (omega (arith, c .if3 .taken)))
 
 cast-previous-vector : tie.Need-cast-previous-vector Inv-loop μ-loop
@@ -163,7 +166,7 @@ loop-again c =
     let s = at-loop found .loop .inv in
     let tested = found .before .before .before in
     let shift = shift-is (found .previous-vector .result .sum) (sum-small found) in (
-      rw (sym (all-of-it tested)) (lowering-block _ _ _ _ _ _ _ (s .0) _ _ _ (tested .before .before .lower-vector .ensures)),
+      rw (sym (all-of-it tested)) (lowering-block _ _ _ _ _ _ (s .0) _ _ _ (tested .before .before .lower-vector .ensures)),
       rw shift (before-it found),
       omega (arith, shift, has-room found, pow-pos (found .previous-vector .result .sum)),
       omega (arith, shift, has-room found),

@@ -12,6 +12,7 @@ use borrow.Author.Needs.{needs}
 use borrow.Author.Tests.{not-true, not-false}
 use Rattle.integers.specs.Half.{half, isEven}
 use Rattle.hierarchy.specs.Turns.{valueAt}
+use Rattle.neighbours.specs.Subspaces.{sparseOf}
 use Rattle.neighbours.proofs.Beside.{end-inside}
 use Rattle.turns.proofs.AtPoint.{AtParents, given-is}
 use Rattle.turns.proofs.Lowering.{Lowering, lowering-starts, lowering-ends, parents-limited, odd-stops, values-limited, large-stops, lowering-steps}
@@ -19,13 +20,13 @@ use Rattle.turns.proofs.lower_subspace.Statement.{statement}
 use Rattle.turns.proofs.lower_subspace.Tie as tie
 
 abbrev Inv-loop : tie.InvT-loop
-Inv-loop v coarser table₀ count p₀ table p = Lowering (v .line .axes) (v .line .level) (v .line .place) table₀ count table p × (v .start ≤ p)
+Inv-loop v coarser table₀ count p₀ table p = Lowering (sparseOf (v .line)) (v .line .place) table₀ count table p × (v .start ≤ p)
 
 abbrev μ-loop : tie.MeasureT-loop
 μ-loop v coarser table₀ count p₀ table p = p
 
 loop-holds : tie.Need-loop-holds Inv-loop μ-loop
-loop-holds c = (lowering-starts _ _ _ _ _ (c .pre .2) (c .pre .3) (omega (arith, c .pre .5, end-inside (c .pre .0))), c .pre .4)
+loop-holds c = (lowering-starts _ _ _ _ (c .pre .2) (c .pre .3) (omega (arith, c .pre .5, end-inside (c .pre .0))), c .pre .4)
 
 sub-codes : tie.Need-sub-codes Inv-loop μ-loop
 sub-codes c = omega (arith, c .if1 .taken)
@@ -48,7 +49,7 @@ loop-at c = c .before .before .before .before .before .before .before
 -- What the calls read at the parents.
 parents : (c : tie.After-value2 Inv-loop μ-loop) →
     let a = loop-at c .before .args in
-    AtParents (a .v .line .axes) (a .v .line .level) (a .v .line .place) (loop-at c .loop .table) (loop-at c .loop .p - 1)
+    AtParents (sparseOf (a .v .line)) (a .v .line .place) (loop-at c .loop .table) (loop-at c .loop .p - 1)
     (toZ w64 (ofZ w64 (c .before .before .value .result))) (toZ w64 (ofZ w64 (c .value2 .result)))
 parents c =
     let codes = c .before .before .before .before .codes .ensures in
@@ -67,7 +68,7 @@ next : (c : tie.After-value2 Inv-loop μ-loop) → loop-at c .loop .p ≡ suc (l
 next c = omega (arith, more c)
 
 even-sum-requires : tie.Need-even-sum-requires Inv-loop μ-loop
-even-sum-requires c κs = parents-limited _ _ _ _ _ _ _ (loop-at c .loop .inv .0) _ (next c) _ _ (parents c)
+even-sum-requires c κs = parents-limited _ _ _ _ _ _ (loop-at c .loop .inv .0) _ (next c) _ _ (parents c)
 
 same-length : tie.Need-same-length Inv-loop μ-loop
 same-length c =
@@ -78,9 +79,9 @@ returns : tie.Need-returns Inv-loop μ-loop
 returns c =
     let read = c .before .before in
     let s = loop-at read .loop .inv in
-    lowering-ends _ _ _ _ _ _ _ _ (s .0) (s .1)
+    lowering-ends _ _ _ _ _ _ _ (s .0) (s .1)
     (λ less.
-    odd-stops _ _ _ _ _ _ _ (s .0) _ (next read) _ _ (parents read) (sym (c .before .even-sum .ensures) ∙ not-true _ (c .if2 .taken)))
+    odd-stops _ _ _ _ _ _ (s .0) _ (next read) _ _ (parents read) (sym (c .before .even-sum .ensures) ∙ not-true _ (c .if2 .taken)))
 
 value-requires-3 : tie.Need-value-requires-3 Inv-loop μ-loop
 value-requires-3 c κs = search needs
@@ -100,7 +101,7 @@ even c = sym (c .before .before .before .even-sum .ensures) ∙ not-false _ (c .
 less-half-requires : tie.Need-less-half-requires Inv-loop μ-loop
 less-half-requires c κs =
     let read = read-at c in
-    values-limited _ _ _ _ _ _ _ (loop-at read .loop .inv .0) _ (next read) _ _ (parents read) _ (here c)
+    values-limited _ _ _ _ _ _ (loop-at read .loop .inv .0) _ (next read) _ _ (parents read) _ (here c)
 
 -- The value after the step.
 lowered-is : (c : tie.After-less-half Inv-loop μ-loop) →
@@ -123,9 +124,9 @@ returns-2 c =
     let seen = c .before .before .before in
     let read = read-at seen in
     let s = loop-at read .loop .inv in
-    lowering-ends _ _ _ _ _ _ _ _ (s .0) (s .1)
+    lowering-ends _ _ _ _ _ _ _ (s .0) (s .1)
     (λ less.
-    large-stops _ _ _ _ _ _ _ (s .0) _ (next read) _ _ (parents read) _ (here seen) _ (lowered-is (c .before .before)) (even seen)
+    large-stops _ _ _ _ _ _ (s .0) _ (next read) _ _ (parents read) _ (here seen) _ (lowered-is (c .before .before)) (even seen)
     (sym (c .before .in-limit .ensures) ∙ not-true _ (c .if3 .taken)))
 
 sub-p : tie.Need-sub-p Inv-loop μ-loop
@@ -150,7 +151,7 @@ loop-again : tie.Need-loop-again Inv-loop μ-loop
 loop-again c =
     let seen = c .before .before .before in
     let read = read-at seen in (
-      lowering-steps _ _ _ _ _ _ _ (loop-at read .loop .inv .0) _ (next read) _ _ (parents read) _ (here seen) _
+      lowering-steps _ _ _ _ _ _ (loop-at read .loop .inv .0) _ (next read) _ _ (parents read) _ (here seen) _
           (lowered-is (c .before .before)) (even seen) (sym (c .before .in-limit .ensures) ∙ not-false _ (c .if3 .left)),
       omega (arith, more read),
     )
@@ -161,7 +162,7 @@ same-length-3 c = c .before .before .loop .inv .0 .long ∙ sym (c .before .befo
 returns-3 : tie.Need-returns-3 Inv-loop μ-loop
 returns-3 c =
     let s = c .before .before .loop .inv in
-    lowering-ends _ _ _ _ _ _ _ _ (s .0) (s .1) (λ less. absurd (omega (arith, c .if1 .left)))
+    lowering-ends _ _ _ _ _ _ _ (s .0) (s .1) (λ less. absurd (omega (arith, c .if1 .left)))
 
 pub lower-subspace-spec : {M : Type 1} → statement M
 lower-subspace-spec =

@@ -2,17 +2,21 @@
 -- vector; the loop stops at a point that is not accepted.
 -- Assumes nothing.
 use mathlib.Core.Path.{_≡_, refl, sym, _∙_}
+use mathlib.Core.Logic.{inl}
 use Prim.Native.Nat.{ℕ, suc, _+_, _-_, _^_, _≤_, _<_}
 use native.Mathlib.Omega.{arith}
 use lib.ListN.{length}
 use lib.Pow.{pow-pos}
 use borrow.Author.Needs.{needs}
 use Rattle.numbering.specs.declared.Side.{Side}
-use Rattle.numbering.specs.Count.{points}
-use Rattle.zero_border.specs.ZeroBorder.{neighbour}
+use Rattle.shapes.specs.Shapes.{pointsOf}
+use Rattle.grids.specs.Grids.{neighbour}
+use Rattle.grids.proofs.Sparse.{points-sparse}
+use Rattle.neighbours.specs.Subspaces.{sparseOf}
 use Rattle.neighbours.proofs.Beside.{end-inside, parent-before}
 use Rattle.neighbours.proofs.Seeing.{shift-is, end-small, seen}
 use Rattle.turns.specs.Steps.{VectorOf}
+use Rattle.turns.proofs.AtPoint.{LeftAlone}
 use Rattle.turns.proofs.Rising.{Rising, rising-starts, all-limited, rising-block, block-stops}
 use Rattle.turns.proofs.Standing.{Standing, sum-inside, position-le, stands, inside, stands-next}
 use Rattle.turns.proofs.raise.Statement.{statement}
@@ -20,7 +24,7 @@ use Rattle.turns.proofs.raise.Tie as tie
 
 abbrev Inv-loop : tie.InvT-loop
 Inv-loop line table₀ from sum₀ levels₀ start₀ p₀ table sum levels start p =
-    Rising (line .axes) (line .level) (line .place) from table₀ table p
+    Rising (sparseOf line) (line .place) from table₀ table p
     × Standing (line .axes) sum levels start
     × (start ≤ p)
     × (p < start + 2 ^ sum)
@@ -32,19 +36,20 @@ returns : tie.Need-returns Inv-loop μ-loop
 returns c =
     let pre = c .before .pre in
     record {
-      up = rising-starts _ _ _ _ _ (pre .0) (pre .1) (pre .2) .up;
+      up = rising-starts _ _ _ _ (pre .0) (pre .1) (pre .2) .up;
       stopped = λ more. absurd (omega (arith, pre .0 .long, c .if1 .taken));
     }
 
 vector-at-requires : tie.Need-vector-at-requires Inv-loop μ-loop
 vector-at-requires c κs =
     let pre = c .before .pre in
-    (omega (arith, pre .0 .place), pre .0 .few, pre .0 .low, omega (arith, pre .0 .long, c .if1 .left))
+    let line = c .before .args .line in
+    (omega (arith, pre .0 .place), pre .0 .few, pre .0 .low, omega (arith, pre .0 .long, c .if1 .left, points-sparse (line .axes) (line .level)))
 
 -- The first of the points lies in the level vector that was found.
 first-inside : (c : tie.After-vector-at Inv-loop μ-loop) →
     let a = c .before .before .args in
-    a .from < points (a .line .axes) (a .line .level)
+    a .from < pointsOf (sparseOf (a .line))
 first-inside c = omega (arith, c .before .before .pre .0 .long, c .before .if1 .left)
 
 sub-start : tie.Need-sub-start Inv-loop μ-loop
@@ -58,7 +63,7 @@ loop-holds c =
     let found = c .before .before in
     let got = found .vector-at .ensures in
     let pre = found .before .before .pre in (
-      rising-starts _ _ _ _ _ (pre .0) (pre .1) (pre .2),
+      rising-starts _ _ _ _ (pre .0) (pre .1) (pre .2),
       stands _ _ _ (pre .0 .few) (first-inside found) _ _ _ (got .0) (got .1) (got .2),
       omega arith,
       inside _ _ _ (pre .0 .few) (first-inside found) _ _ _ (got .0) (got .1) (got .2),
@@ -95,7 +100,7 @@ raise-vector-requires : tie.Need-raise-vector-requires Inv-loop μ-loop
 raise-vector-requires c κs =
     let s = c .before .before .loop .inv in (
       record { few = s .0 .axis .few; low = s .0 .axis .low; place = s .0 .axis .place; long = s .0 .up .long },
-      all-limited _ _ _ _ _ _ _ (s .0),
+      all-limited _ _ _ _ _ _ (s .0),
       vector-of (c .before),
       s .2,
       omega (arith, s .3),
@@ -107,7 +112,7 @@ same-length c = search needs
 -- The level vector ends within the table, and the parents of its points stand before it.
 ends : (c : tie.In-loop Inv-loop μ-loop) →
     let line = c .before .before .before .before .before .before .args .line in
-    c .before .loop .start + 2 ^ c .before .loop .sum ≤ points (line .axes) (line .level)
+    c .before .loop .start + 2 ^ c .before .loop .sum ≤ pointsOf (sparseOf line)
 ends c =
     let on = c .before .loop .inv .0 .axis in
     let v = vector-of c in
@@ -116,13 +121,13 @@ ends c =
 
 before : (c : tie.In-loop Inv-loop μ-loop) (q : ℕ) → c .before .loop .p ≤ q → q < c .before .loop .start + 2 ^ c .before .loop .sum → (b : Side) →
     let line = c .before .before .before .before .before .before .args .line in
-    neighbour (line .axes) (line .level) (line .place) b (suc q) ≤ c .before .loop .p
+    LeftAlone (sparseOf line) (line .place) (c .before .loop .p) (neighbour (sparseOf line) (line .place) b (suc q))
 before c q from to b =
     let on = c .before .loop .inv .0 .axis in
     let v = vector-of c in
     let first = parent-before (seen _ _ _ _ _ _ (on .few) (on .low) (on .place) (v .vector) (v .low) (v .first) _ refl) q
     (omega (arith, c .before .loop .inv .2)) (omega (arith, shift-is (c .before .loop .sum) (sum-small c))) b in
-    omega (arith, first, c .before .loop .inv .2)
+    inl (omega (arith, first, c .before .loop .inv .2))
 
 returns-2 : tie.Need-returns-2 Inv-loop μ-loop
 returns-2 c =
@@ -130,8 +135,8 @@ returns-2 c =
     let s = going .before .loop .inv .0 in
     let done = c .before .before .raise-vector .ensures in
     record {
-      up = rising-block _ _ _ _ _ _ _ s _ (ends going) (before going) _ _ done .up;
-      stopped = λ more. block-stops _ _ _ _ _ _ _ s _ (ends going) (before going) _ _ done (omega (arith, c .if2 .taken, shift-is (going .before .loop .sum) (sum-small going)));
+      up = rising-block _ _ _ _ _ _ s _ (ends going) (before going) _ _ done .up;
+      stopped = λ more. block-stops _ _ _ _ _ _ s _ (ends going) (before going) _ _ done (omega (arith, c .if2 .taken, shift-is (going .before .loop .sum) (sum-small going)));
     }
 
 cast-next-vector : tie.Need-cast-next-vector Inv-loop μ-loop
@@ -157,7 +162,7 @@ loop-again c =
     let shift = shift-is (going .before .loop .sum) (sum-small going) in
     let all : c .before .before .before .before .before .raise-vector .result ≡ going .before .loop .start + 2 ^ going .before .loop .sum
     = omega (arith, done .to, shift, c .before .before .before .if2 .left) in (
-      rw (shift, sym all) (rising-block _ _ _ _ _ _ _ (s .0) _ (ends going) (before going) _ _ done),
+      rw (shift, sym all) (rising-block _ _ _ _ _ _ (s .0) _ (ends going) (before going) _ _ done),
       stands-next _ _ _ _ (s .1) _ _ (c .before .next-vector .ensures) _ (omega (arith, shift)),
       omega arith,
       omega (arith, pow-pos (c .before .next-vector .result .sum)),

@@ -2,8 +2,9 @@
 -- not.
 -- Assumes nothing.
 use mathlib.Core.Path.{_≡_, ap, sym, _∙_}
+use mathlib.Core.Logic.{inl}
 use mathlib.Core.Bool.{true}
-use Prim.Native.Nat.{suc, _-_, _≤_, _<_}
+use Prim.Native.Nat.{suc, _-_, _<_}
 use native.Mathlib.Numerals.{add-one}
 use native.Mathlib.Omega.{arith}
 use lib.IntN.{_+ℤ_}
@@ -14,21 +15,22 @@ use borrow.Author.Tests.{not-true, not-false}
 use Rattle.integers.specs.Half.{half, isEven}
 use Rattle.numbering.specs.declared.Side.{Side}
 use Rattle.hierarchy.specs.Turns.{valueAt}
-use Rattle.zero_border.specs.ZeroBorder.{neighbour}
+use Rattle.grids.specs.Grids.{neighbour}
+use Rattle.neighbours.specs.Subspaces.{sparseOf}
 use Rattle.neighbours.proofs.Beside.{end-inside, parent-before}
-use Rattle.turns.proofs.AtPoint.{AtParents, given-is}
+use Rattle.turns.proofs.AtPoint.{AtParents, LeftAlone, given-is}
 use Rattle.turns.proofs.Raising.{Raising, raising-starts, raising-ends, parents-limited, odd-stops, all-limited, large-stops, raising-steps}
 use Rattle.turns.proofs.raise_subspace.Statement.{statement}
 use Rattle.turns.proofs.raise_subspace.Tie as tie
 
 abbrev Inv-loop : tie.InvT-loop
-Inv-loop v coarser table₀ from p₀ table p = Raising (v .line .axes) (v .line .level) (v .line .place) from (v .end) table₀ table p
+Inv-loop v coarser table₀ from p₀ table p = Raising (sparseOf (v .line)) (v .line .place) from (v .end) table₀ table p
 
 abbrev μ-loop : tie.MeasureT-loop
 μ-loop v coarser table₀ from p₀ table p = v .end - p
 
 loop-holds : tie.Need-loop-holds Inv-loop μ-loop
-loop-holds c = raising-starts _ _ _ _ _ _ (c .pre .2) (c .pre .3) (end-inside (c .pre .0)) (c .pre .5)
+loop-holds c = raising-starts _ _ _ _ _ (c .pre .2) (c .pre .3) (end-inside (c .pre .0)) (c .pre .5)
 
 codes-requires : tie.Need-codes-requires Inv-loop μ-loop
 codes-requires c κs =
@@ -48,20 +50,22 @@ loop-at c = c .before .before .before .before .before .before .before
 -- The parents stand before the level vector, and so before the number from which the loop started.
 parents-before : (c : tie.After-value2 Inv-loop μ-loop) (b : Side) →
     let a = loop-at c .before .args in
-    neighbour (a .v .line .axes) (a .v .line .level) (a .v .line .place) b (suc (loop-at c .loop .p)) ≤ a .from
+    LeftAlone (sparseOf (a .v .line)) (a .v .line .place) (a .from)
+    (neighbour (sparseOf (a .v .line)) (a .v .line .place) b (suc (loop-at c .loop .p)))
 parents-before c b =
     let pre = loop-at c .before .pre in
-    omega (
+    inl
+    (omega (
       arith,
       pre .4,
       parent-before (pre .0) (loop-at c .loop .p) (omega (arith, pre .4, loop-at c .loop .inv .from))
           (c .before .before .before .before .before .if1 .taken) b,
-    )
+    ))
 
 -- What the calls read at the parents.
 parents : (c : tie.After-value2 Inv-loop μ-loop) →
     let a = loop-at c .before .args in
-    AtParents (a .v .line .axes) (a .v .line .level) (a .v .line .place) (loop-at c .loop .table) (loop-at c .loop .p)
+    AtParents (sparseOf (a .v .line)) (a .v .line .place) (loop-at c .loop .table) (loop-at c .loop .p)
     (toZ w64 (ofZ w64 (c .before .before .value .result))) (toZ w64 (ofZ w64 (c .value2 .result)))
 parents c =
     let codes = c .before .before .before .before .codes .ensures in
@@ -77,7 +81,7 @@ more : (c : tie.After-value2 Inv-loop μ-loop) → loop-at c .loop .p < loop-at 
 more c = c .before .before .before .before .before .if1 .taken
 
 even-sum-requires : tie.Need-even-sum-requires Inv-loop μ-loop
-even-sum-requires c κs = parents-limited _ _ _ _ _ _ _ _ (loop-at c .loop .inv) (more c) (parents-before c) _ _ (parents c)
+even-sum-requires c κs = parents-limited _ _ _ _ _ _ _ (loop-at c .loop .inv) (more c) (parents-before c) _ _ (parents c)
 
 same-length : tie.Need-same-length Inv-loop μ-loop
 same-length c =
@@ -88,9 +92,9 @@ returns : tie.Need-returns Inv-loop μ-loop
 returns c =
     let read = c .before .before in
     let s = loop-at read .loop .inv in
-    raising-ends _ _ _ _ _ _ _ _ s
+    raising-ends _ _ _ _ _ _ _ s
     (λ less.
-    odd-stops _ _ _ _ _ _ _ _ s less (parents-before read) _ _ (parents read) (sym (c .before .even-sum .ensures) ∙ not-true _ (c .if2 .taken)))
+    odd-stops _ _ _ _ _ _ _ s less (parents-before read) _ _ (parents read) (sym (c .before .even-sum .ensures) ∙ not-true _ (c .if2 .taken)))
 
 add-value : tie.Need-add-value Inv-loop μ-loop
 add-value c =
@@ -115,7 +119,7 @@ even c = sym (c .before .before .before .even-sum .ensures) ∙ not-false _ (c .
 plus-half-requires : tie.Need-plus-half-requires Inv-loop μ-loop
 plus-half-requires c κs =
     let read = read-at c in
-    all-limited _ _ _ _ _ _ _ _ (loop-at read .loop .inv) (more read) (parents-before read) _ _ (parents read) _ (here c)
+    all-limited _ _ _ _ _ _ _ (loop-at read .loop .inv) (more read) (parents-before read) _ _ (parents read) _ (here c)
 
 -- The value after the step.
 raised-is : (c : tie.After-plus-half Inv-loop μ-loop) →
@@ -138,9 +142,9 @@ returns-2 c =
     let seen = c .before .before .before in
     let read = read-at seen in
     let s = loop-at read .loop .inv in
-    raising-ends _ _ _ _ _ _ _ _ s
+    raising-ends _ _ _ _ _ _ _ s
     (λ less.
-    large-stops _ _ _ _ _ _ _ _ s less (parents-before read) _ _ (parents read) _ (here seen) _ (raised-is (c .before .before)) (even seen)
+    large-stops _ _ _ _ _ _ _ s less (parents-before read) _ _ (parents read) _ (here seen) _ (raised-is (c .before .before)) (even seen)
     (sym (c .before .in-limit .ensures) ∙ not-true _ (c .if3 .taken)))
 
 mul-raised : tie.Need-mul-raised Inv-loop μ-loop
@@ -168,14 +172,14 @@ loop-again c =
     let seen = c .before .before .before in
     let read = read-at seen in
     rw add-one
-    (raising-steps _ _ _ _ _ _ _ _ (loop-at read .loop .inv) (more read) (parents-before read) _ _ (parents read) _ (here seen) _
+    (raising-steps _ _ _ _ _ _ _ (loop-at read .loop .inv) (more read) (parents-before read) _ _ (parents read) _ (here seen) _
     (raised-is (c .before .before)) (even seen) (sym (c .before .in-limit .ensures) ∙ not-false _ (c .if3 .left)))
 
 same-length-3 : tie.Need-same-length-3 Inv-loop μ-loop
 same-length-3 c = c .before .before .loop .inv .long ∙ sym (c .before .before .loop .inv .axis .long)
 
 returns-3 : tie.Need-returns-3 Inv-loop μ-loop
-returns-3 c = raising-ends _ _ _ _ _ _ _ _ (c .before .before .loop .inv) (λ less. absurd (omega (arith, c .if1 .left)))
+returns-3 c = raising-ends _ _ _ _ _ _ _ (c .before .before .loop .inv) (λ less. absurd (omega (arith, c .if1 .left)))
 
 pub raise-subspace-spec : {M : Type 1} → statement M
 raise-subspace-spec =

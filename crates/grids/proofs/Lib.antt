@@ -1,0 +1,4 @@
+pub mod Sparse
+pub mod Points
+pub mod Beside
+pub mod Instance

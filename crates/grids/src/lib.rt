@@ -1,0 +1,1 @@
+// The grid of a shape: definitions and laws, no code.
