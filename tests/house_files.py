@@ -1,16 +1,14 @@
 #!/usr/bin/env python3
 """The sample files of crates/house_files (its data/) and what the program has to print of them (its stdout), made without its code: document 01's
-rules for house files, word by word. Run it in tests/; the seed is fixed, so that it writes the same each time."""
+rules for house files, word by word. `house_files.py FOLDER` writes both; the seed is fixed, so that it writes the same each time."""
 import os
 import random
+import sys
 
-from grid import points
-from table_runs_expected import size, table_of_set
+from grid import LEAST, MOST, points, size, table_of_set
 
-HERE = os.path.join(os.path.dirname(os.path.abspath(__file__)), "..", "crates", "house_files")
 PLACES = 8192
 TOP = 2 ** 32 - 1
-LEAST, MOST = -2 ** 31, 2 ** 31 - 1
 
 
 # ---- what the program has to print
@@ -204,7 +202,7 @@ def samples():
 
 
 if __name__ == "__main__":
-    folder = os.path.join(HERE, "data")
+    folder = os.path.join(sys.argv[1], "data")
     os.makedirs(folder, exist_ok=True)
     for name in os.listdir(folder):
         os.remove(os.path.join(folder, name))
@@ -215,9 +213,5 @@ if __name__ == "__main__":
                 out.write(data)
             said.append(report(data))
             seen.append(data)
-    with open(os.path.join(HERE, "stdout"), "w") as out:
+    with open(os.path.join(sys.argv[1], "stdout"), "w") as out:
         out.writelines("file %03d\n%s" % line for line in enumerate(said))
-    counts = {text.split("\n")[0].split(" points")[0] if text[0] == "r" else "good": 0 for text in said}
-    for text in said:
-        counts["good" if text[0] == "a" else text.strip()] += 1
-    print(len(seen), "files,", sum(map(len, seen)), "bytes;", counts)

@@ -155,6 +155,19 @@ static void reviewer(const struct kept *coefficients)
     k.table[3] += 1;
     tell("coefficients to rates, one changed", numolefays_coefficients_to_rates(k.axes, k.level, k.table, POINTS, &place), &place);
     show("left", &k);
+
+    /* the parents of that point, number 3, on axis 2: what its coefficient was made with */
+    for (uint32_t side = 0; side < 2; side++) {
+        const uint32_t levels[2] = {0, 1}, indices[2] = {1, 1};
+        uint32_t up_levels[8] = {0}, up_indices[8] = {0}, border = 0;
+        tell(side == 0 ? "parent on the left" : "parent on the right",
+             numolefays_parent(k.axes, k.level, levels, 2, indices, 2, 2, side, up_levels, up_indices, &border, &place), &place);
+        if (border == 1)
+            printf("  the border\n");
+        else
+            printf("  levels %u %u, indices %u %u\n", (unsigned)up_levels[0], (unsigned)up_levels[1], (unsigned)up_indices[0],
+                   (unsigned)up_indices[1]);
+    }
 }
 
 int main(void)

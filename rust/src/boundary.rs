@@ -1,4 +1,4 @@
-//! The C interface, declared once. All `unsafe` of this crate is here.
+//! The C interface, declared once. All `unsafe` of this crate is here. What each call does: docs/MANUAL.md, by section.
 //!
 //! Each function passes its arguments on and nothing else. Each answers 0 where the call succeeded, else the refusal's
 //! number; `place` gets the refusal's place, 0 where the call succeeded. Other outputs are written only where the call
@@ -43,6 +43,20 @@ mod raw {
             next_levels: *mut [u32; 8],
             next_indices: *mut [u32; 8],
             end: *mut u32,
+            place: *mut u64,
+        ) -> u32;
+        pub fn numolefays_parent(
+            axes: u32,
+            level: u32,
+            levels: *const u32,
+            levels_len: usize,
+            indices: *const u32,
+            indices_len: usize,
+            axis: u32,
+            side: u32,
+            parent_levels: *mut [u32; 8],
+            parent_indices: *mut [u32; 8],
+            border: *mut u32,
             place: *mut u64,
         ) -> u32;
         pub fn numolefays_load(
@@ -140,12 +154,12 @@ mod raw {
     }
 }
 
-/// How many points the shape has. Refused with 1, 2.
+/// How many points the shape has. Section 3. Refused with 1, 2.
 pub fn count(axes: u32, level: u32, points: &mut u64, place: &mut u64) -> u32 {
     unsafe { raw::numolefays_count(axes, level, points, place) }
 }
 
-/// The number of a point. Refused with 1, 2, 7, 9.
+/// The number of a point. Section 4. Refused with 1, 2, 7, 9.
 pub fn number_of_point(
     axes: u32,
     level: u32,
@@ -168,7 +182,7 @@ pub fn number_of_point(
     }
 }
 
-/// The point of a number. Refused with 1, 2, 6.
+/// The point of a number. Section 4. Refused with 1, 2, 6.
 pub fn point_of_number(
     axes: u32,
     level: u32,
@@ -180,7 +194,7 @@ pub fn point_of_number(
     unsafe { raw::numolefays_point_of_number(axes, level, number, levels, indices, place) }
 }
 
-/// The point numbered one higher; `end` is 1 after the last, and the two arrays then hold what they held.
+/// The point numbered one higher; `end` is 1 after the last, and the two arrays then hold what they held. Section 5.
 /// Refused with 1, 2, 7, 9.
 pub fn successor(
     axes: u32,
@@ -208,43 +222,75 @@ pub fn successor(
     }
 }
 
-/// Rates to a loaded table. Refused with 1, 2, 3, 4.
+/// The parent on an axis: side 0 is left, every other number right; `border` is 1 where the neighbour is the border, and
+/// the two arrays then hold what they held. Section 6. Refused with 1, 2, 5, 7, 9.
+pub fn parent(
+    axes: u32,
+    level: u32,
+    levels: &[u32],
+    indices: &[u32],
+    axis: u32,
+    side: u32,
+    parent_levels: &mut [u32; 8],
+    parent_indices: &mut [u32; 8],
+    border: &mut u32,
+    place: &mut u64,
+) -> u32 {
+    unsafe {
+        raw::numolefays_parent(
+            axes,
+            level,
+            levels.as_ptr(),
+            levels.len(),
+            indices.as_ptr(),
+            indices.len(),
+            axis,
+            side,
+            parent_levels,
+            parent_indices,
+            border,
+            place,
+        )
+    }
+}
+
+/// Rates to a loaded table. Section 9. Refused with 1, 2, 3, 4.
 pub fn load(axes: u32, level: u32, table: &mut [i64], forward: &mut u8, place: &mut u64) -> u32 {
     unsafe { raw::numolefays_load(axes, level, table.as_mut_ptr(), table.len(), forward, place) }
 }
 
-/// Coefficients as they are. Refused with 1, 2, 3, 10.
+/// Coefficients as they are. Section 9. Refused with 1, 2, 3, 10.
 pub fn adopt(axes: u32, level: u32, table: &[i64], forward: &mut u8, place: &mut u64) -> u32 {
     unsafe { raw::numolefays_adopt(axes, level, table.as_ptr(), table.len(), forward, place) }
 }
 
-/// Forward on one axis. Refused with 1, 2, 14, 3, 5, 15, 10.
+/// Forward on one axis. Section 8. Refused with 1, 2, 14, 3, 5, 15, 10.
 pub fn forward(axes: u32, level: u32, forward: &mut u8, table: &mut [i64], axis: u32, place: &mut u64) -> u32 {
     unsafe { raw::numolefays_forward(axes, level, forward, table.as_mut_ptr(), table.len(), axis, place) }
 }
 
-/// Back on one axis. Refused with 1, 2, 14, 3, 5, 16, 10.
+/// Back on one axis. Section 8. Refused with 1, 2, 14, 3, 5, 16, 10.
 pub fn back(axes: u32, level: u32, forward: &mut u8, table: &mut [i64], axis: u32, place: &mut u64) -> u32 {
     unsafe { raw::numolefays_back(axes, level, forward, table.as_mut_ptr(), table.len(), axis, place) }
 }
 
-/// A loaded table to rates. Refused with 1, 2, 14, 3, 18, 10.
+/// A loaded table to rates. Section 9. Refused with 1, 2, 14, 3, 18, 10.
 pub fn unload(axes: u32, level: u32, forward: u8, table: &mut [i64], place: &mut u64) -> u32 {
     unsafe { raw::numolefays_unload(axes, level, forward, table.as_mut_ptr(), table.len(), place) }
 }
 
-/// Rates to coefficients, whole. Refused with 1, 2, 3, 4.
+/// Rates to coefficients, whole. Section 9. Refused with 1, 2, 3, 4.
 pub fn rates_to_coefficients(axes: u32, level: u32, table: &mut [i64], place: &mut u64) -> u32 {
     unsafe { raw::numolefays_rates_to_coefficients(axes, level, table.as_mut_ptr(), table.len(), place) }
 }
 
-/// Coefficients to rates, whole. Refused with 1, 2, 3, 10.
+/// Coefficients to rates, whole. Section 9. Refused with 1, 2, 3, 10.
 pub fn coefficients_to_rates(axes: u32, level: u32, table: &mut [i64], place: &mut u64) -> u32 {
     unsafe { raw::numolefays_coefficients_to_rates(axes, level, table.as_mut_ptr(), table.len(), place) }
 }
 
 /// A list of turns: direction 0 is forward, any other is back; `numbers` and `places` get each turn's refusal, 0 and 0 where
-/// it was carried out. Refused with 7 where the four lists are not of one length.
+/// it was carried out. Section 10. Refused with 1, 2, 14, 3, and with 7 where the four lists are not of one length.
 pub fn run(
     axes: u32,
     level: u32,
@@ -276,7 +322,7 @@ pub fn run(
     }
 }
 
-/// The surface at these coordinates. Refused with 1, 2, 14, 3, 17, 7, 8, 10.
+/// The surface at these coordinates. Section 11. Refused with 1, 2, 14, 3, 17, 7, 8, 10.
 pub fn estimate(
     axes: u32,
     level: u32,
@@ -301,7 +347,8 @@ pub fn estimate(
     }
 }
 
-/// A house file's rates into the first places of the table. Refused with 11, 12, 1, 2, 3, 13.
+/// A house file's rates into the first places of the table. Section 12. Refused with 11 or 12 for d and for n, 1, 2, 3,
+/// 11 or 12 for each rate, 13.
 pub fn read_house_file(bytes: &[u8], table: &mut [i64], axes: &mut u32, level: &mut u32, place: &mut u64) -> u32 {
     unsafe {
         raw::numolefays_read_house_file(

@@ -1,13 +1,14 @@
 //! Household rates on a sparse grid, turned axis by axis into hierarchical coefficients and back, in one lent buffer, with
 //! estimates between the samples. This crate is the safe Rust face of a library whose every function is proved to meet its
-//! contract (document 01 is the contract in words); it adds types and no logic.
+//! contract; it adds types and no logic. The repository's docs/MANUAL.md explains every word; "section" below is one of it.
 //!
 //! A table is a slice of `i64`, one place for each point of its [`Shape`], in the order of the point numbers. The library
 //! allocates nothing and keeps nothing between calls: a [`State`] says which axes are forward, and whoever holds the table
 //! holds the state beside it. Calls on different tables may run at the same time in different threads.
 //!
-//! No call asks anything of its caller. Whatever numbers, lists and slices it is handed, it either succeeds or answers a
-//! [`Refusal`], and after a refusal the table, the state and every other buffer hold what they held.
+//! There are no preconditions on values: whatever numbers, lists and slices a call is handed, it either succeeds or answers a
+//! [`Refusal`], and after a refusal the table, the state and every other buffer hold what they held. What C asks of its
+//! callers beside this, right pointers and lengths, Rust's slices and references are by their types.
 //!
 //! ```
 //! use numolefays::Shape;
@@ -34,7 +35,7 @@ mod state;
 mod turn;
 
 pub use house_file::read_house_file;
-pub use point::Point;
+pub use point::{Point, Side};
 pub use refusal::Refusal;
 pub use shape::Shape;
 pub use state::State;

@@ -2,14 +2,14 @@
 
 use std::fmt;
 
-/// Why a call was refused: a case for each row of document 01's two tables, with its place where the row names one.
+/// Why a call was refused: a case for each number of docs/MANUAL.md, section 14, with its place where it names one.
 #[derive(Clone, Copy, Debug, PartialEq, Eq, Hash)]
 pub enum Refusal {
     /// 1: the number of axes is outside 1 to 8.
     Axes,
     /// 2: the top level is above 8.
     Level,
-    /// 3: the table has not as many places as the shape has points (the reader: fewer).
+    /// 3: the table has not exactly as many places as the shape has points (the reader: fewer).
     TableLength,
     /// 4: a rate is out of range; the smallest such point number.
     Rate(u64),
@@ -92,7 +92,7 @@ impl Refusal {
         }
     }
 
-    /// Document 01's number of the refusal.
+    /// The number of the refusal.
     pub fn number(self) -> u32 {
         match self {
             Refusal::Axes => 1,
@@ -117,7 +117,7 @@ impl Refusal {
         }
     }
 
-    /// Document 01's place of the refusal: 0 unless its row names one.
+    /// The place of the refusal: 0 unless its case holds one.
     pub fn place(self) -> u64 {
         match self {
             Refusal::Rate(point) => point,

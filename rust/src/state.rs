@@ -3,7 +3,7 @@
 use crate::{boundary, Refusal, Shape, Turn};
 
 /// What has to be kept beside a table between two calls: its shape and one bit for each axis that is forward, bit t − 1 for
-/// axis t.
+/// axis t. docs/MANUAL.md, section 8.
 ///
 /// Both fields may be saved and handed in again later, with the table, by whoever stopped between two turns. A state that no
 /// call has answered may also be made of any two values; the calls refuse one with a bit above its axes, with 14.
@@ -26,7 +26,7 @@ impl State {
         (1..=8).contains(&axis) && self.bits >> (axis - 1) & 1 == 1
     }
 
-    /// Forward on one axis: each value becomes itself minus half the sum of its two parents' values.
+    /// Forward on one axis: each value becomes itself minus half the sum of its two parents' values. Section 8.
     /// Refused with 1, 2, 14, 3, 5, 15, 10.
     pub fn forward(&mut self, table: &mut [i64], axis: u32) -> Result<(), Refusal> {
         let mut place = 0;
@@ -34,7 +34,7 @@ impl State {
         Refusal::checked(number, place)
     }
 
-    /// Back on one axis: the table becomes the one that a forward turn takes to the present one.
+    /// Back on one axis: the table becomes the one that a forward turn takes to the present one. Section 8.
     /// Refused with 1, 2, 14, 3, 5, 16, 10.
     pub fn back(&mut self, table: &mut [i64], axis: u32) -> Result<(), Refusal> {
         let mut place = 0;
@@ -51,19 +51,21 @@ impl State {
     }
 
     /// A list of turns, one after the other: what each of them answered. A refused turn does not end the run.
+    /// Section 10.
     ///
-    /// The rest of a list may be handed in later, with the table and this state.
-    pub fn run(&mut self, table: &mut [i64], turns: &[Turn]) -> Vec<Result<(), Refusal>> {
+    /// The rest of a list may be handed in later, with the table and this state. Refused with 1, 2, 14, 3.
+    pub fn run(&mut self, table: &mut [i64], turns: &[Turn]) -> Result<Vec<Result<(), Refusal>>, Refusal> {
         let directions: Vec<u8> = turns.iter().map(|t| t.direction()).collect();
         let axes: Vec<u32> = turns.iter().map(|t| t.axis()).collect();
         let mut numbers = vec![0; turns.len()];
         let mut places = vec![0; turns.len()];
-        self.run_lists(table, &directions, &axes, &mut numbers, &mut places).expect("four lists of one length");
-        numbers.iter().zip(&places).map(|(&number, &place)| Refusal::checked(number, place)).collect()
+        self.run_lists(table, &directions, &axes, &mut numbers, &mut places)?;
+        Ok(numbers.iter().zip(&places).map(|(&number, &place)| Refusal::checked(number, place)).collect())
     }
 
     /// The same with lent lists and without allocation: direction 0 is forward and every other back; `numbers` and `places`
-    /// get each turn's refusal, 0 and 0 where it was carried out. Refused with 7 where the four lists differ in length.
+    /// get each turn's refusal, 0 and 0 where it was carried out. Section 10. Refused with 1, 2, 14, 3, and with 7 where
+    /// the four lists differ in length.
     pub fn run_lists(
         &mut self,
         table: &mut [i64],
@@ -87,7 +89,7 @@ impl State {
         Refusal::checked(number, place)
     }
 
-    /// A table with no axis forward becomes rates, each value divided by 2^d; there is no state afterwards.
+    /// A table with no axis forward becomes rates, each value divided by 2^d; there is no state afterwards. Section 9.
     /// Refused with 1, 2, 14, 3, 18, 10.
     pub fn unload(self, table: &mut [i64]) -> Result<(), Refusal> {
         let mut place = 0;
@@ -96,7 +98,7 @@ impl State {
     }
 
     /// The surface at these coordinates, one for each axis, 0 to 65,536, in units of 1/2^d of a rate, rounded down; from a
-    /// table that is forward on every axis. Refused with 1, 2, 14, 3, 17, 7, 8, 10.
+    /// table that is forward on every axis. Section 11. Refused with 1, 2, 14, 3, 17, 7, 8, 10.
     pub fn estimate(self, table: &[i64], coordinates: &[u32]) -> Result<i64, Refusal> {
         let (mut estimate, mut place) = (0, 0);
         let number = boundary::estimate(

@@ -4,29 +4,29 @@
 use mathlib.Core.Path.{_≡_}
 use mathlib.Core.Bool.{true, false}
 use mathlib.Core.List.{List}
-use Prim.Native.Nat.{ℕ, suc, _≤_, _<_, _^_}
+use Prim.Native.Nat.{ℕ, suc, _≤_, _<_}
 use native.Mathlib.Omega.{arith}
-use lib.Dec.{leb, ltb, eqb}
+use lib.Dec.{leb, eqb}
 use lib.IntN.{ℤ}
 use lib.ListN.{length}
 use borrow.Author.Tests.{leb-true, eqb-true}
 use Rattle.naturals.specs.Test.{all}
 use Rattle.naturals.proofs.Tests.{all-at}
+use Rattle.naturals.proofs.FirstFailing.{none-first}
 use Rattle.refusals.specs.declared.Refusal.{Refusal}
-use Rattle.refusals.specs.declared.Refusal.the-variants.{TableLength, ListLength, Coordinate, Contents, StrayBit}
+use Rattle.refusals.specs.declared.Refusal.the-variants.{ListLength, Coordinate, Contents}
 use Rattle.refusals.specs.declared.Verdict.the-variants as verdict
 use Rattle.refusals.specs.Checks.{unless}
 use Rattle.refusals.proofs.Passing.{first-passed, next-passed, test-passed}
+use Rattle.integers.specs.Half.{contentAt}
 use Rattle.numbering.specs.Point.{at}
 use Rattle.hierarchy.specs.Turns.{valueAt}
-use Rattle.shapes.specs.Shapes.{checkShape, pointsOf}
-use Rattle.shapes.proofs.Checked.{InRange, passed-in-range}
+use Rattle.shapes.proofs.Checked.{InRange}
 use Rattle.surfaces.specs.Weights.{unit, isCoordinate}
 use Rattle.surfaces.specs.Surface.{estimateAt}
 use Rattle.states.specs.declared.State.{State}
-use Rattle.states.specs.States.{checkContents, checkState}
-use Rattle.tables.specs.Tables.{contentAt}
-use Rattle.tables.proofs.FirstFailing.{none-first}
+use Rattle.states.specs.States.{checkState}
+use Rattle.states.proofs.Checked.{Stands, state-passed}
 use Rattle.evaluation.specs.Steps.{Listed, Evaluable}
 use Rattle.estimates.specs.declared.Estimated.the-variants.{Value, Refused}
 use Rattle.estimates.specs.Estimates.{checkForward, insideAt, firstOutside, checkCoordinates, estimate}
@@ -42,18 +42,11 @@ module _ (s : State) (xs : List ℤ) (cs : List ℕ) where
   unchecked r e = rw e
 
   module _ (e : checkState s (length xs) ≡ verdict.Passed) where
-    pub in-range : InRange (s .shape)
-    unfolding checkState
-    in-range = passed-in-range (s .shape) (first-passed (checkShape (s .shape)) (checkContents s (length xs)) e)
+    stands : Stands s (length xs)
+    stands = state-passed s (length xs) e
 
-    long : length xs ≡ pointsOf (s .shape)
-    unfolding checkState checkContents
-    long =
-        let stray = unless (ltb (s .forward) (2 ^ (s .shape .axes))) StrayBit in
-        let places = unless (eqb (length xs) (pointsOf (s .shape))) TableLength in
-        eqb-true (length xs) (pointsOf (s .shape))
-        (test-passed (eqb (length xs) (pointsOf (s .shape))) TableLength
-        (next-passed stray places (next-passed (checkShape (s .shape)) (checkContents s (length xs)) e)))
+    pub in-range : InRange (s .shape)
+    in-range = stands .range
 
     pub half-turned : (r : Refusal) → checkForward s ≡ verdict.Refused r → estimate s xs cs ≡ Refused r
     unfolding estimate
@@ -86,13 +79,13 @@ module _ (s : State) (xs : List ℤ) (cs : List ℕ) where
 
         module _ (h : all (contentAt xs) (length xs) ≡ true) where
           pub evaluable : Evaluable (s .shape) xs cs
-          unfolding contentAt
+          unfolding contentAt valueAt
           evaluable =
               record {
                 some = in-range .low;
                 low = in-range .top;
-                long = long;
-                contents = λ p lt. all-at (contentAt xs) (length xs) h p (omega (arith, long));
+                long = stands .long;
+                contents = λ p lt. all-at (contentAt xs) (length xs) h p (omega (arith, stands));
                 listed = listed;
               }
 

@@ -1,32 +1,29 @@
 -- What the call for an estimate answers (document 01, "Estimates" and the two tables of refusals).
 -- Assumes nothing.
-use mathlib.Core.Bool.{Bool}
+use mathlib.Core.Bool.{Bool, false}
 use mathlib.Core.List.{List}
 use Prim.Native.Nat.{ℕ, suc}
 use lib.Dec.{leb, eqb}
 use lib.IntN.{ℤ}
 use lib.ListN.{length}
 use Rattle.naturals.specs.Test.{all}
+use Rattle.naturals.specs.FirstFailing.{firstFailing}
 use Rattle.refusals.specs.declared.Refusal.the-variants.{ListLength, Coordinate, Contents, StillSampled}
 use Rattle.refusals.specs.declared.Verdict.{Verdict}
 use Rattle.refusals.specs.Checks.{unless, _andThen_, answer}
+use Rattle.integers.specs.Half.{contentAt}
 use Rattle.numbering.specs.Point.{at}
 use Rattle.hierarchy.specs.Turns.{valueAt}
 use Rattle.surfaces.specs.Weights.{isCoordinate}
 use Rattle.surfaces.specs.Surface.{estimateAt}
 use Rattle.states.specs.declared.State.{State}
-use Rattle.states.specs.States.{has, checkState}
-use Rattle.tables.specs.Tables.{firstFailing, contentAt}
+use Rattle.states.specs.States.{checkAxes, checkState}
 use Rattle.estimates.specs.declared.Estimated.{Estimated}
 use Rattle.estimates.specs.declared.Estimated.the-variants.{Value, Refused}
 
--- The first axis that is not forward, counted from 0, or d.
-unfoldable pub firstSampled : State → ℕ
-firstSampled s = firstFailing (has (s .forward)) (s .shape .axes)
-
 -- Every axis is forward, else refused with 17 and the first that is not.
 unfoldable pub checkForward : State → Verdict
-checkForward s = unless (leb (s .shape .axes) (firstSampled s)) (StillSampled (suc (firstSampled s)))
+checkForward s = checkAxes false StillSampled s
 
 -- The coordinate on axis t, counted from 0, is at most the unit.
 unfoldable pub insideAt : List ℕ → ℕ → Bool

@@ -18,14 +18,9 @@ fn check_forward(state: State) -> Verdict
     ensures { λ r. ⌜ r ≡ checkForward state ⌝ }
 {
     let shape = state.shape;
-    let axes = shape.axes;
-    let forward = state.forward;
-    let mut t: u32 = 0;
-    while t < axes {
-        if !states::has_axis(forward, t) {
-            return Verdict::Refused(Refusal::StillSampled(t + 1));
-        }
-        t += 1;
+    let first = states::first_axis(state, false);
+    if first < shape.axes {
+        return Verdict::Refused(Refusal::StillSampled(first + 1));
     }
     Verdict::Passed
 }
@@ -61,7 +56,7 @@ pub fn estimate(state: State, table: &[i64], coordinates: &[u32]) -> Estimated
     if let Verdict::Refused(r) = check_coordinates(shape.axes, coordinates) {
         return Estimated::Refused(r);
     }
-    if !tables::all_in_limit(table) {
+    if !integers::all_in_limit(table) {
         return Estimated::Refused(Refusal::Contents);
     }
     Estimated::Value(evaluation::evaluate(shape, table, coordinates))

@@ -11,6 +11,7 @@ use lib.ListN.{length, getD}
 use mir.Syntax.{w64}
 use mir.Val.{SFits}
 use Rattle.naturals.specs.Sum.{sumTo}
+use Rattle.naturals.proofs.Shifts.{one-shifted}
 use Rattle.integers.specs.Floor.{floor, remainder}
 use Rattle.integers.specs.Half.{inLimit}
 use Rattle.integers.proofs.Sizes.{limit-size}
@@ -22,8 +23,7 @@ use Rattle.shapes.specs.Shapes.{pointsOf}
 use Rattle.shapes.proofs.Totals.{start-small}
 use Rattle.surfaces.specs.Weights.{unit}
 use Rattle.surfaces.specs.Surface.{jointAt}
-use Rattle.vectors.specs.Vectors.{NextVector}
-use Rattle.states.proofs.Bits.{one-shifted}
+use Rattle.vectors.specs.Steps.{NextVector}
 use Rattle.evaluation.specs.Steps.{Tabulated, jointOf, positionOf, Evaluable}
 use Rattle.evaluation.proofs.Blocks.{count-is, takenAt, taken-joint}
 use Rattle.evaluation.proofs.Reading.{position-taken, joint-taken}

@@ -43,7 +43,7 @@ use Rattle.surfaces.specs.Surface.{weightOn, jointAt, rounded, estimateAt}
 use Rattle.surfaces.proofs.Cells.{weight-le}
 use Rattle.surfaces.proofs.Joint.{joint-le}
 use Rattle.surfaces.proofs.Unit.{unit-pos}
-use Rattle.vectors.specs.Vectors.{VectorIn, vectorsBefore, NextVector}
+use Rattle.vectors.specs.Steps.{VectorIn, vectorsBefore, NextVector}
 use Rattle.evaluation.proofs.Blocks.{count-is, block-within, takenAt, taken-below, block-zero}
 use Rattle.evaluation.proofs.Parts.{high-size, low-size}
 

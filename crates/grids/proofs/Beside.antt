@@ -3,11 +3,13 @@
 -- Assumes nothing.
 use mathlib.Core.Path.{_≡_, ap, _∙_}
 use mathlib.Core.Bool.{true, false}
-use Prim.Native.Nat.{ℕ, suc, _<_}
+use mathlib.Core.Logic.{_⊎_}
+use Prim.Native.Nat.{ℕ, suc, _^_, _<_}
+use native.Mathlib.Omega.{arith}
 use Rattle.naturals.proofs.Cases.{true-or-false}
 use Rattle.numbering.specs.declared.Side.{Side}
 use Rattle.numbering.specs.Parent.{numerator, isBorder, parentLevel, parentIndex, update}
-use Rattle.numbering.proofs.Parents.{parent-border, parent-inner}
+use Rattle.numbering.proofs.Parents.{border-means, parent-border, parent-inner}
 use Rattle.zero_border.specs.ZeroBorder.{codeOf}
 use Rattle.zero_border.proofs.Instance.{code-border, code-inner, neighbour-at, named-parent}
 use Rattle.shapes.specs.declared.Shape.{Shape}
@@ -47,3 +49,9 @@ module _ (s : Shape) (t : ℕ) (b : Side) (p : ℕ) where
     -- A neighbour that there is lies off the border.
     pub off-border : (neighbour s t b (suc p) ≡ 0 → ⊥) → isBorder (levelOn s p t) numeratorOn ≡ false
     off-border some = true-or-false (isBorder (levelOn s p t) numeratorOn) (λ e. absurd (some (to-border e))) (λ e. e)
+
+    -- The border lies beside a point only where the neighbour's coordinate is 0 or 1.
+    pub border-at : neighbour s t b (suc p) ≡ 0 → (numeratorOn ≡ 0) ⊎ (numeratorOn ≡ 2 ^ suc (levelOn s p t))
+    border-at none =
+        border-means (levelOn s p t) numeratorOn
+        (true-or-false (isBorder (levelOn s p t) numeratorOn) (λ e. e) (λ e. absurd (omega (arith, to-parent e, none))))

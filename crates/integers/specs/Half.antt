@@ -1,9 +1,11 @@
--- Halves of whole numbers, and the content limit (document 01, "Parents and turns").
+-- Halves of whole numbers, the content limit and rates (document 01, "Terms and limits" and "Parents and turns").
 -- Assumes nothing.
 use mathlib.Core.Bool.{Bool}
+use mathlib.Core.List.{List}
 use Prim.Native.Nat.{ℕ, suc, _/_, _%_, _^_}
 use lib.Dec.{leb, eqb}
 use lib.IntN.{ℤ, pos, negsuc, natAbs}
+use lib.ListN.{getD}
 
 -- Half of a whole number, rounded down where it is odd.
 unfoldable pub half : ℤ → ℤ
@@ -19,6 +21,10 @@ limit = 2 ^ 47
 
 unfoldable pub inLimit : ℤ → Bool
 inLimit z = leb (natAbs z) limit
+
+-- The value of a table at place p, which is point p, is within the content limit.
+unfoldable pub contentAt : List ℤ → ℕ → Bool
+contentAt xs p = inLimit (getD xs p (pos 0))
 
 -- A rate: a whole number from −2,147,483,648 to 2,147,483,647.
 unfoldable pub isRate : ℤ → Bool

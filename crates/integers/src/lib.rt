@@ -1,8 +1,10 @@
-// Exact signed arithmetic of the turns: the content limit, the rates, evenness of a sum, and a value less or plus half a sum.
+// Exact signed arithmetic of the turns: the content limit of a value and of a table, the rates, evenness of a sum, and a value less or plus half a sum.
 ghost use mathlib.Core.Path.{_≡_};
 ghost use mathlib.Core.Bool.{true};
 ghost use lib.IntN.{_+ℤ_, _-ℤ_};
-ghost use Rattle.integers.specs.Half.{half, isEven, inLimit, isRate};
+ghost use lib.ListN.{length};
+ghost use Rattle.naturals.specs.Test.{all};
+ghost use Rattle.integers.specs.Half.{half, isEven, inLimit, contentAt, isRate};
 
 // The content limit, 2^47 on either side of zero.
 const LIMIT: i64 = 140737488355328;
@@ -15,6 +17,20 @@ pub fn in_limit(v: i64) -> bool
         return false;
     }
     v <= LIMIT
+}
+
+// All values of a table are within the content limit.
+pub fn all_in_limit(table: &[i64]) -> bool
+    ensures { λ r. ⌜ r ≡ all (contentAt (now (table .entry))) (length (now (table .entry))) ⌝ }
+{
+    let mut p: usize = 0;
+    while p < table.len() {
+        if !in_limit(table[p]) {
+            return false;
+        }
+        p += 1;
+    }
+    true
 }
 
 // The ends of the rates.

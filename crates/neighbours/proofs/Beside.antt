@@ -31,7 +31,7 @@ use Rattle.grids.specs.Grids.{levelOn, indexOn, neighbour}
 use Rattle.grids.proofs.Sparse.{points-sparse, number-sparse, levels-sparse, indices-sparse}
 use Rattle.grids.proofs.Beside.{numeratorOn, to-border, to-parent}
 use Rattle.neighbours.specs.declared.Subspace.{Subspace}
-use Rattle.neighbours.specs.Subspaces.{sparseOf, Coarser, Seen, Sized, codeFrom}
+use Rattle.neighbours.specs.Steps.{sparseOf, Coarser, Seen, Sized, codeFrom}
 
 -- The two cases of a code.
 pub code-at-border : (v : Subspace) (starts : List ℕ) (before beyond m : ℕ) → isBorder (v .own) m ≡ true → codeFrom v starts before beyond m ≡ 0

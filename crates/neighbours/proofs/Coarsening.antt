@@ -14,7 +14,7 @@ use Rattle.numbering.specs.Number.{firstOf}
 use Rattle.numbering.specs.Parent.{update}
 use Rattle.numbering.proofs.Parents.{update-same, update-other, update-sum}
 use Rattle.neighbours.specs.declared.Subspace.{Subspace}
-use Rattle.neighbours.specs.Subspaces.{Seen, Coarser}
+use Rattle.neighbours.specs.Steps.{Seen, Coarser}
 
 pub record Coarsened (v : Subspace) (starts levels : List ℕ) (m : ℕ) : Type 0 where
   pub filled : Coarser v m starts

@@ -1,23 +1,19 @@
--- The code of a parent as it is computed: the two tests decide the border, and past them no shift and no sum leaves the width, since a level vector
--- has at most 2^8 points and its numbers are below 2^32.
+-- The code of a parent as it is computed: the border is told, and within the borders no shift and no sum leaves the width, since a level vector has at
+-- most 2^8 points and its numbers are below 2^32.
 -- Assumes nothing.
 use mathlib.Core.Path.{_≡_, ap, ap₂, sym, _∙_}
-use mathlib.Core.Bool.{false}
+use mathlib.Core.Bool.{true, false}
 use mathlib.Core.List.{List}
 use Prim.Native.Nat.{ℕ, suc, _+_, _-_, _*_, _/_, _%_, _^_, _≤_, _<_}
 use native.Mathlib.Nat.{mul-le-mul-left, mod-eq-of-lt}
 use native.Mathlib.Numerals.{add-one}
 use native.Mathlib.Omega.{arith}
-use lib.Count.{trailingZeros}
 use lib.Pow.{pow-mono}
-use borrow.Author.Tests.{ne-eqb}
 use Rattle.numbering.specs.Point.{at}
-use Rattle.numbering.specs.Parent.{isBorder, twos, parentLevel, parentIndex}
-use Rattle.numbering.proofs.Twos.{twos-are}
-use Rattle.numbering.proofs.Parents.{border-low, border-high, Inside, twos-le, level-falls, index-odd-up, index-below-up}
-use Rattle.points.proofs.PointTest.{shifted}
+use Rattle.numbering.specs.Parent.{isBorder, parentLevel, parentIndex}
+use Rattle.numbering.proofs.Parents.{not-border, Inside, level-falls, index-odd-up, index-below-up}
 use Rattle.neighbours.specs.declared.Subspace.{Subspace}
-use Rattle.neighbours.specs.Subspaces.{Sized, codeFrom}
+use Rattle.neighbours.specs.Steps.{Sized, codeFrom}
 use Rattle.neighbours.proofs.Beside.{code-at-border, code-inside}
 
 -- A number of 8 bits, shifted by up to 8.
@@ -28,100 +24,60 @@ pub shift-exact : (a b : ℕ) → a < 2 ^ 8 → b ≤ 8 → a * 2 ^ b % 2 ^ 64 �
 shift-exact a b small few = mod-eq-of-lt (omega (arith, shift-small a b small few))
 
 module _ {v : Subspace} {starts : List ℕ} (sized : Sized v starts) (before beyond m : ℕ) where
-  pub at-zero : m ≡ 0 → 0 ≡ codeFrom v starts before beyond m
-  at-zero e = sym (code-at-border v starts before beyond m (ap (isBorder (v .own)) e ∙ border-low (v .own)))
+  pub at-border : isBorder (v .own) m ≡ true → 0 ≡ codeFrom v starts before beyond m
+  at-border e = sym (code-at-border v starts before beyond m e)
 
-  pub at-one : m ≡ 2 * 2 ^ v .own % 2 ^ 32 → 0 ≡ codeFrom v starts before beyond m
-  at-one e =
-      sym
-      (code-at-border v starts before beyond m
-      (ap (isBorder (v .own)) (e ∙ shifted (v .own) (omega (arith, sized .bits))) ∙ border-high (v .own)))
-
-  module _ (even : m % 2 ≡ 0) (within : m ≤ 2 ^ suc (v .own)) (not-zero : m ≡ 0 → ⊥) (not-one : m ≡ 2 * 2 ^ v .own % 2 ^ 32 → ⊥) where
-    no-end : m ≡ 2 ^ suc (v .own) → ⊥
-    no-end e = not-one (e ∙ sym (shifted (v .own) (omega (arith, sized .bits))))
-
-    no-border : isBorder (v .own) m ≡ false
-    unfolding isBorder
-    no-border = simp (ne-eqb m 0 not-zero, ne-eqb m (2 ^ suc (v .own)) no-end)
-
+  module _ (even : m % 2 ≡ 0) (most : m ≤ 2 ^ suc (v .own)) (inner : isBorder (v .own) m ≡ false) where
     pub between : Inside (v .own) m
-    between = record { even = even; pos = above; below = less }
-      where
-        above : 0 < m
-        above = omega (arith, not-zero)
+    between =
+        let ends = not-border (v .own) m inner in
+        record { even = even; pos = omega (arith, ends .0); below = omega (arith, ends .1) }
 
-        less : m < 2 ^ suc (v .own)
-        less = omega (arith, no-end)
+    -- The parent's level and index, as the code has them.
+    module _ (l i : ℕ) (level : l ≡ parentLevel (v .own) m) (index : i ≡ parentIndex m) where
+      pub falls : l < v .own
+      falls = rw level (level-falls (v .own) m between)
 
-    -- 32 bits hold the numerator.
-    zeros-are : trailingZeros 32 m ≡ twos m
-    zeros-are =
-        twos-are 32 m (between .pos) (omega (arith, between .below, pow-mono {i = suc (v .own)} {j = 32} (omega (arith, sized .bits))))
+      half-is : i / 2 ≡ (parentIndex m - 1) / 2
+      half-is = rw index (omega (arith, index-odd-up (v .own) m between))
 
-    pub zeros-le : trailingZeros 32 m ≤ v .own
-    zeros-le = omega (arith, zeros-are, twos-le (v .own) m between)
-
-    -- The parent's level and index.
-    level-is : v .own - trailingZeros 32 m ≡ parentLevel (v .own) m
-    unfolding parentLevel
-    level-is = ap (λ (z : ℕ). v .own - z) zeros-are
-
-    index-is : m / 2 ^ trailingZeros 32 m ≡ parentIndex m
-    unfolding parentIndex
-    index-is = ap (λ (z : ℕ). m / 2 ^ z) zeros-are
-
-    pub falls : v .own - trailingZeros 32 m < v .own
-    falls = rw level-is (level-falls (v .own) m between)
-
-    half-is : m / 2 ^ trailingZeros 32 m / 2 ≡ (parentIndex m - 1) / 2
-    half-is = rw index-is (omega (arith, index-odd-up (v .own) m between))
-
-    pub half-small : m / 2 ^ trailingZeros 32 m / 2 < 2 ^ 8
-    half-small =
-        rw index-is
-        (omega (
-          arith,
-          index-below-up (v .own) m between,
-          level-falls (v .own) m between,
-          pow-mono {i = suc (parentLevel (v .own) m)} {j = 9} (omega (arith, level-falls (v .own) m between, sized .bits)),
-        ))
-
-    pub first-small : at starts (v .own - trailingZeros 32 m) < 2 ^ 32
-    first-small = sized .small _ falls
-
-    pub level-few : v .low + (v .own - trailingZeros 32 m) ≤ 8
-    level-few = omega (arith, sized .bits)
-
-    module _ (beyond-small : beyond < 2 ^ 8) where
-      pub total-small : before < 2 ^ 8 →
-          at starts (v .own - trailingZeros 32 m)
-          + before
-          + m / 2 ^ trailingZeros 32 m / 2 * 2 ^ v .low % 2 ^ 64
-          + beyond * 2 ^ (v .low + (v .own - trailingZeros 32 m)) % 2 ^ 64
-          < 2 ^ 33
-      total-small before-small =
-          omega (
+      pub half-small : i / 2 < 2 ^ 8
+      half-small =
+          rw index
+          (omega (
             arith,
-            first-small,
-            shift-exact (m / 2 ^ trailingZeros 32 m / 2) (v .low) half-small (omega (arith, sized .bits)),
-            shift-small (m / 2 ^ trailingZeros 32 m / 2) (v .low) half-small (omega (arith, sized .bits)),
-            shift-exact beyond (v .low + (v .own - trailingZeros 32 m)) beyond-small level-few,
-            shift-small beyond (v .low + (v .own - trailingZeros 32 m)) beyond-small level-few,
-          )
+            index-below-up (v .own) m between,
+            level-falls (v .own) m between,
+            pow-mono {i = suc (parentLevel (v .own) m)} {j = 9} (omega (arith, level-falls (v .own) m between, sized .bits)),
+          ))
 
-      pub computed :
-          at starts (v .own - trailingZeros 32 m)
-          + before
-          + m / 2 ^ trailingZeros 32 m / 2 * 2 ^ v .low % 2 ^ 64
-          + beyond * 2 ^ (v .low + (v .own - trailingZeros 32 m)) % 2 ^ 64
-          + 1
-          ≡ codeFrom v starts before beyond m
-      computed =
-          add-one _
-          ∙ ap suc
-          (ap₂ (λ (x y : ℕ). at starts (v .own - trailingZeros 32 m) + before + x + y)
-          (shift-exact (m / 2 ^ trailingZeros 32 m / 2) (v .low) half-small (omega (arith, sized .bits)) ∙ ap (λ (h : ℕ). h * 2 ^ v .low) half-is)
-          (shift-exact beyond (v .low + (v .own - trailingZeros 32 m)) beyond-small level-few))
-          ∙ ap (λ (k : ℕ). suc (at starts k + before + (parentIndex m - 1) / 2 * 2 ^ v .low + beyond * 2 ^ (v .low + k))) level-is
-          ∙ sym (code-inside v starts before beyond m no-border)
+      pub first-small : at starts l < 2 ^ 32
+      first-small = sized .small _ falls
+
+      pub level-few : v .low + l ≤ 8
+      level-few = omega (arith, sized .bits, falls)
+
+      module _ (beyond-small : beyond < 2 ^ 8) where
+        pub total-small : before < 2 ^ 8 →
+            at starts l + before + i / 2 * 2 ^ v .low % 2 ^ 64 + beyond * 2 ^ (v .low + l) % 2 ^ 64 < 2 ^ 33
+        total-small before-small =
+            omega (
+              arith,
+              first-small,
+              shift-exact (i / 2) (v .low) half-small (omega (arith, sized .bits)),
+              shift-small (i / 2) (v .low) half-small (omega (arith, sized .bits)),
+              shift-exact beyond (v .low + l) beyond-small level-few,
+              shift-small beyond (v .low + l) beyond-small level-few,
+            )
+
+        pub computed :
+            at starts l + before + i / 2 * 2 ^ v .low % 2 ^ 64 + beyond * 2 ^ (v .low + l) % 2 ^ 64 + 1
+            ≡ codeFrom v starts before beyond m
+        computed =
+            add-one _
+            ∙ ap suc
+            (ap₂ (λ (x y : ℕ). at starts l + before + x + y)
+            (shift-exact (i / 2) (v .low) half-small (omega (arith, sized .bits)) ∙ ap (λ (h : ℕ). h * 2 ^ v .low) half-is)
+            (shift-exact beyond (v .low + l) beyond-small level-few))
+            ∙ ap (λ (k : ℕ). suc (at starts k + before + (parentIndex m - 1) / 2 * 2 ^ v .low + beyond * 2 ^ (v .low + k))) level
+            ∙ sym (code-inside v starts before beyond m inner)

@@ -1,23 +1,20 @@
 -- A level vector for a turn on an axis, as `subspace_on` puts it together: its first number is handed in, and it has 2^(level sum) points.
 -- Assumes nothing.
 use mathlib.Core.List.{List}
-use mathlib.Core.Path.{_≡_, refl, ap, _∙_}
+use mathlib.Core.Path.{_≡_, refl, ap}
 use Prim.Native.Nat.{ℕ, suc, _+_, _*_, _%_, _^_, _≤_, _<_}
-use native.Mathlib.Nat.{mod-eq-of-lt, one-mul}
 use native.Mathlib.Omega.{arith}
 use lib.Pow.{pow-pos, pow-mono}
 use Rattle.naturals.specs.Sum.{sumTo}
 use Rattle.naturals.proofs.Sums.{sumTo-mono}
+use Rattle.naturals.proofs.Shifts.{one-shifted}
 use Rattle.numbering.specs.Point.{at}
 use Rattle.numbering.specs.Number.{firstOf}
 use Rattle.numbering.proofs.Numbering.{points-is}
 use Rattle.numbering.proofs.Subspaces.{block-below}
 use Rattle.shapes.proofs.Totals.{start-small}
-use Rattle.vectors.specs.Vectors.{VectorIn}
-use Rattle.neighbours.specs.Subspaces.{Seen}
-
-pub shift-is : (sum : ℕ) → sum ≤ 8 → 1 * 2 ^ sum % 2 ^ 64 ≡ 2 ^ sum
-shift-is sum few = mod-eq-of-lt (omega (arith, one-mul (2 ^ sum), pow-mono {i = sum} {j = 8} few)) ∙ one-mul (2 ^ sum)
+use Rattle.vectors.specs.Steps.{VectorIn}
+use Rattle.neighbours.specs.Steps.{Seen}
 
 module _ (d n t sum : ℕ) (ls : List ℕ) (start : ℕ) (few : d ≤ 8) (top : n ≤ 8) (axis : t < d) (vector : VectorIn d sum ls) (low : sum ≤ n)
     (first : start ≡ firstOf d (at ls)) where
@@ -30,7 +27,7 @@ module _ (d n t sum : ℕ) (ls : List ℕ) (start : ℕ) (few : d ≤ 8) (top : 
       omega (
         arith,
         first,
-        shift-is sum (omega arith),
+        one-shifted 64 sum (omega arith),
         pow-mono {i = sum} {j = 8} (omega arith),
         block-below d n (at ls) (vector .rest) (omega (arith, vector .total)) 0 (pow-pos (sumTo (at ls) d)),
         points-is d n,
@@ -56,7 +53,7 @@ module _ (d n t sum : ℕ) (ls : List ℕ) (start : ℕ) (few : d ≤ 8) (top : 
           rest = vector .rest;
           sum = omega (arith, vector .total);
           start = first;
-          end = omega (arith, first, shift-is sum (omega arith), ap (λ (s : ℕ). 2 ^ s) (vector .total));
+          end = omega (arith, first, one-shifted 64 sum (omega arith), ap (λ (s : ℕ). 2 ^ s) (vector .total));
           low = before-is;
           own = refl;
         }

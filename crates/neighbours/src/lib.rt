@@ -5,8 +5,8 @@ ghost use Rattle.numbering.specs.Point.{at};
 ghost use Rattle.numbering.specs.Number.{firstOf};
 ghost use Rattle.numbering.specs.declared.Side.the-variants.{Left, Right};
 ghost use Rattle.grids.specs.Grids.{neighbour};
-ghost use Rattle.vectors.specs.Vectors.{VectorIn};
-ghost use Rattle.neighbours.specs.Subspaces.{sparseOf, Coarser, Seen, Sized, codeFrom};
+ghost use Rattle.vectors.specs.Steps.{VectorIn};
+ghost use Rattle.neighbours.specs.Steps.{sparseOf, Coarser, Seen, Sized, codeFrom};
 
 // A shape and the place of an axis in it, from 0: a turn works on the lines along that axis.
 pub struct Line {
@@ -43,7 +43,7 @@ pub fn subspace_on(line: Line, sum: u32, levels: [u32; 8], start: u64) -> Subspa
         levels: levels,
         start: start,
         end: start + (1 << sum),
-        low: numbers::level_sum(place, &levels),
+        low: vectors::level_sum(place, levels),
         own: levels[place],
     }
 }
@@ -60,7 +60,7 @@ pub fn coarser(v: Subspace) -> [u64; 8]
     let mut m: u32 = 0;
     while m < v.own {
         levels[place] = m;
-        starts[m as usize] = numbers::first_of(line.axes, &levels);
+        starts[m as usize] = numbers::first_of(line.axes, levels);
         m += 1;
     }
     starts
@@ -71,16 +71,13 @@ fn code(v: Subspace, coarser: &[u64; 8], before: u64, beyond: u64, numerator: u3
     requires { ⌜ Sized v (now coarser) × (before < 2 ^ 8) × (beyond < 2 ^ 8) × (numerator % 2 ≡ 0) × (numerator ≤ 2 ^ suc (v .own)) ⌝ }
     ensures { λ r. ⌜ r ≡ codeFrom v (now (coarser .entry)) before beyond numerator ⌝ }
 {
-    if numerator == 0 {
-        return 0;
-    }
     let own = v.own;
-    if numerator == (2 << own) {
+    if parents::is_border(own, numerator) {
         return 0;
     }
-    let twos = u32::trailing_zeros(numerator);
-    let level = own - twos;
-    let half = ((numerator >> twos) >> 1) as u64;
+    let up = parents::reduce(own, numerator);
+    let level = up.level;
+    let half = (up.index >> 1) as u64;
     coarser[level as usize] + before + (half << v.low) + (beyond << (v.low + level)) + 1
 }
 

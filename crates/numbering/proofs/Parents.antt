@@ -4,12 +4,13 @@
 -- Assumes nothing.
 use mathlib.Core.Path.{_≡_, refl, ap, ap₂, sym, _∙_, fun-ext}
 use mathlib.Core.Bool.{Bool, true, false, _||_, true≢false}
+use mathlib.Core.Logic.{_⊎_, inl, inr}
 use Prim.Native.Nat.{ℕ, zero, suc, _+_, _-_, _*_, _%_, _^_, _≤_, _<_}
 use native.Mathlib.Nat.{mul-comm, mul-assoc, mul-le-mul-right, one-mul, mul-one, lt-of-mul-lt-mul-right}
 use native.Mathlib.Omega.{arith}
 use lib.Dec.{eqb}
 use lib.Pow.{pow-mono, pow-add}
-use borrow.Author.Tests.{eq-eqb, ne-eqb, eqb-false}
+use borrow.Author.Tests.{eq-eqb, ne-eqb, eqb-true, eqb-false}
 use Rattle.naturals.specs.Sum.{sumTo}
 use Rattle.naturals.specs.Test.{if_then_else_}
 use Rattle.naturals.proofs.Cases.{eq-or-not, le-or-lt, true-or-false}
@@ -45,6 +46,14 @@ not-border l m e = split (eqb m 0) (eqb m (2 ^ suc l)) e (eqb-false m 0) (eqb-fa
         (m ≡ 0 → ⊥) × (m ≡ 2 ^ suc l → ⊥)
     split true b f na nb = absurd (true≢false f)
     split false b f na nb = (na refl, nb f)
+
+pub border-means : (l m : ℕ) → isBorder l m ≡ true → (m ≡ 0) ⊎ (m ≡ 2 ^ suc l)
+unfolding isBorder
+border-means l m e = split (eqb m 0) (eqb m (2 ^ suc l)) e (eqb-true m 0) (eqb-true m (2 ^ suc l))
+  where
+    split : (a b : Bool) → (a || b) ≡ true → (a ≡ true → m ≡ 0) → (b ≡ true → m ≡ 2 ^ suc l) → (m ≡ 0) ⊎ (m ≡ 2 ^ suc l)
+    split true b f low high = inl (low refl)
+    split false b f low high = inr (high f)
 
 -- ---- one axis
 
@@ -177,6 +186,16 @@ pub parent-inner : (t : ℕ) (side : Side) (l i : ℕ → ℕ) → isBorder (l t
     parent t side l i ≡ moved t (numerator side (i t)) l i
 unfolding parent
 parent-inner t side l i e = rw e
+
+-- A parent is the border only where the neighbour lies at 0 or 1.
+pub only-border : (t : ℕ) (side : Side) (l i : ℕ → ℕ) → parent t side l i ≡ border → (numerator side (i t) ≡ 0) ⊎ (numerator side (i t) ≡ 2 ^ suc (l t))
+only-border t side l i e =
+    border-means (l t) (numerator side (i t))
+    (true-or-false (isBorder (l t) (numerator side (i t))) (λ there. there)
+    (λ off. absurd (never _ _ (sym (parent-inner t side l i off) ∙ e))))
+  where
+    never : (a b : ℕ → ℕ) → inner a b ≡ border → ⊥
+    never a b f = let z : _≡_ {A = ℕ} 0 1 = cc in omega arith
 
 -- At level 0 both neighbours are borders.
 pub level-zero-border : (side : Side) (i : ℕ) → i % 2 ≡ 1 → i < 2 ^ 1 → isBorder 0 (numerator side i) ≡ true

@@ -1,4 +1,3 @@
-pub mod Summed
 pub mod Widths
 pub mod Ranked
 pub mod Packed
@@ -9,5 +8,4 @@ pub mod Unranked
 pub mod Unpacked
 pub mod Read
 pub mod Answers
-pub mod Compared
 pub mod RoundTrips

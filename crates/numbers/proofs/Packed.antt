@@ -8,10 +8,10 @@ use native.Mathlib.Omega.{arith}
 use lib.Pow.{pow-mono, shl-exact}
 use Rattle.naturals.specs.Sum.{sumTo}
 use Rattle.naturals.proofs.Sums.{sumTo-mono}
+use Rattle.naturals.proofs.Summed.{Summed, summed-starts, summed-steps, summed-fits}
 use Rattle.numbering.specs.Point.{IsPoint}
 use Rattle.numbering.specs.Number.{position}
 use Rattle.numbering.proofs.Position.{half, half-lt, position-zero, position-suc, position-lt}
-use Rattle.numbers.proofs.Summed.{Summed, summed-starts, summed-steps, summed-fits}
 
 pub record Packed (l i : ℕ → ℕ) (d t p sum : ℕ) : Type 0 where
   pub sums : Summed l d t sum

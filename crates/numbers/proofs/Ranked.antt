@@ -7,12 +7,12 @@ use native.Mathlib.Numerals.{add-one}
 use native.Mathlib.Omega.{arith}
 use Rattle.naturals.specs.Sum.{sumTo}
 use Rattle.naturals.proofs.Sums.{sumTo-suc}
+use Rattle.naturals.proofs.Summed.{Summed, summed-starts, summed-steps, summed-so-far, summed-fits}
 use Rattle.numbering.specs.Count.{vectors}
 use Rattle.numbering.specs.Number.{rank}
 use Rattle.numbering.proofs.Vectors.{vectors-more}
 use Rattle.numbering.proofs.Rank.{rank-zero, rank-step, rank-lt}
 use Rattle.shapes.proofs.Totals.{vectors-small}
-use Rattle.numbers.proofs.Summed.{Summed, summed-starts, summed-steps, summed-so-far, summed-fits}
 
 pub record Ranked (l : ℕ → ℕ) (d t r sum : ℕ) : Type 0 where
   pub sums : Summed l d t sum

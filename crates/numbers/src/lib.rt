@@ -1,5 +1,4 @@
-// The number of a point, the point of a number, and the order of level vectors.
-use numbering::Order;
+// The number of a point, and the point of a number.
 use points::Located;
 use points::Outcome;
 use points::Point;
@@ -8,14 +7,11 @@ use refusals::Verdict;
 use shapes::Shape;
 ghost use mathlib.Core.Path.{_≡_};
 ghost use Prim.Native.Nat.{suc, _%_, _^_, _≤_, _<_};
-ghost use lib.ListN.{length};
 ghost use Rattle.naturals.specs.Sum.{sumTo};
-ghost use Rattle.numbering.specs.declared.Order.the-variants.{Same};
 ghost use Rattle.numbering.specs.Count.{vectors, shell, points};
 ghost use Rattle.numbering.specs.Point.{at, IsPoint};
 ghost use Rattle.numbering.specs.Number.{firstOf, number, rank, position, ending};
 ghost use Rattle.numbering.specs.Inverse.{levelOf, sumAt, within, levelAt};
-ghost use Rattle.numbering.specs.Order.{orderOfLevels};
 ghost use Rattle.shapes.specs.Shapes.{sparse};
 ghost use Rattle.shapes.specs.Rows.{Binomials};
 ghost use Rattle.points.specs.Points.{eight, pointAt};
@@ -29,24 +25,10 @@ pub enum Numbered {
 
 // ---- from point to number
 
-// The level sum of the first axes.
-pub fn level_sum(axes: usize, levels: &[u32]) -> u32
-    requires { ⌜ (axes ≤ length (now levels)) × (sumTo (at (now levels)) axes ≤ 8) ⌝ }
-    ensures { λ r. ⌜ r ≡ sumTo (at (now (levels .entry))) axes ⌝ }
-{
-    let mut sum: u32 = 0;
-    let mut t: usize = 0;
-    while t < axes {
-        sum += levels[t];
-        t += 1;
-    }
-    sum
-}
-
 // The rank of a level vector: two entries of the table for each axis.
-fn vector_rank(rows: &[[u16; 9]; 8], axes: usize, levels: &[u32]) -> u64
-    requires { ⌜ Binomials (now rows) × (axes ≤ 8) × (axes ≤ length (now levels)) × (sumTo (at (now levels)) axes ≤ 8) ⌝ }
-    ensures { λ r. ⌜ r ≡ rank (at (now (levels .entry))) axes ⌝ }
+fn vector_rank(rows: &[[u16; 9]; 8], axes: usize, levels: [u32; 8]) -> u64
+    requires { ⌜ Binomials (now rows) × (axes ≤ 8) × (sumTo (at levels) axes ≤ 8) ⌝ }
+    ensures { λ r. ⌜ r ≡ rank (at levels) axes ⌝ }
 {
     let mut rank: u64 = 0;
     let mut sum: u32 = 0;
@@ -62,16 +44,16 @@ fn vector_rank(rows: &[[u16; 9]; 8], axes: usize, levels: &[u32]) -> u64
 }
 
 // The position of a point among those of its level vector.
-fn position_at(axes: usize, levels: &[u32], indices: &[u32]) -> u64
-    requires { ⌜ (axes ≤ length (now levels)) × (axes ≤ length (now indices)) × IsPoint axes 8 (at (now levels)) (at (now indices)) ⌝ }
-    ensures { λ r. ⌜ r ≡ position (at (now (levels .entry))) (at (now (indices .entry))) axes ⌝ }
+fn position_at(axes: usize, p: Point) -> u64
+    requires { ⌜ (axes ≤ 8) × IsPoint axes 8 (at (p .levels)) (at (p .indices)) ⌝ }
+    ensures { λ r. ⌜ r ≡ position (at (p .levels)) (at (p .indices)) axes ⌝ }
 {
     let mut position: u64 = 0;
     let mut sum: u32 = 0;
     let mut t: usize = 0;
     while t < axes {
-        let half = (indices[t] - 1) / 2;
-        let bits = levels[t];
+        let half = (p.indices[t] - 1) / 2;
+        let bits = p.levels[t];
         position += (half as u64) << sum;
         sum += bits;
         t += 1;
@@ -80,32 +62,35 @@ fn position_at(axes: usize, levels: &[u32], indices: &[u32]) -> u64
 }
 
 // The number of the first point of a level vector of these axes, whose levels sum to at most 8.
-pub fn first_of(axes: u32, levels: &[u32]) -> u64
-    requires { ⌜ (1 ≤ axes) × (axes ≤ 8) × (axes ≤ length (now levels)) × (sumTo (at (now levels)) axes ≤ 8) ⌝ }
-    ensures { λ r. ⌜ r ≡ firstOf axes (at (now (levels .entry))) ⌝ }
+pub fn first_of(axes: u32, levels: [u32; 8]) -> u64
+    requires { ⌜ (1 ≤ axes) × (axes ≤ 8) × (sumTo (at levels) axes ≤ 8) ⌝ }
+    ensures { λ r. ⌜ r ≡ firstOf axes (at levels) ⌝ }
 {
     let rows = shapes::rows();
     let count = axes as usize;
-    let sum = level_sum(count, levels);
+    let sum = vectors::level_sum(count, levels);
     let rank = vector_rank(&rows, count, levels);
     shapes::start_of(&rows, axes, sum) + (rank << sum)
 }
 
 // The number of a point of these axes, whose levels sum to at most 8.
-pub fn number_at(axes: u32, levels: &[u32], indices: &[u32]) -> u64
-    requires { ⌜ (1 ≤ axes) × (axes ≤ 8) × (axes ≤ length (now levels)) × (axes ≤ length (now indices)) × IsPoint axes 8 (at (now levels)) (at (now indices)) ⌝ }
-    ensures { λ r. ⌜ r ≡ number axes (at (now (levels .entry))) (at (now (indices .entry))) ⌝ }
+fn number_at(axes: u32, p: Point) -> u64
+    requires { ⌜ (1 ≤ axes) × (axes ≤ 8) × IsPoint axes 8 (at (p .levels)) (at (p .indices)) ⌝ }
+    ensures { λ r. ⌜ r ≡ number axes (at (p .levels)) (at (p .indices)) ⌝ }
 {
-    first_of(axes, levels) + position_at(axes as usize, levels, indices)
+    let levels = p.levels;
+    first_of(axes, levels) + position_at(axes as usize, p)
 }
 
 // The number of a point.
 pub fn number_of_point(shape: Shape, levels: &[u32], indices: &[u32]) -> Numbered
     ensures { λ r. ⌜ r ≡ numberOfPoint shape (now (levels .entry)) (now (indices .entry)) ⌝ }
 {
-    match points::check_point(shape, levels, indices) {
+    let given = points::point_from(shape, levels, indices);
+    let verdict = given.verdict;
+    match verdict {
         Verdict::Refused(r) => Numbered::Refused(r),
-        Verdict::Passed => Numbered::At(number_at(shape.axes, levels, indices)),
+        Verdict::Passed => Numbered::At(number_at(shape.axes, given.point)),
     }
 }
 
@@ -228,7 +213,7 @@ pub fn vector_at(axes: u32, level: u32, number: u64) -> Placed
 }
 
 // Point number `number` of these axes and top level.
-pub fn point_at(axes: u32, level: u32, number: u64) -> Point
+fn point_at(axes: u32, level: u32, number: u64) -> Point
     requires { ⌜ (1 ≤ axes) × (axes ≤ 8) × (level ≤ 8) × (number < points axes level) ⌝ }
     ensures { λ r. ⌜ r ≡ pointAt (sparse axes level) number ⌝ }
 {
@@ -255,44 +240,4 @@ pub fn point_of_number(shape: Shape, number: u64) -> Located
         outcome: Outcome::Found,
         point: point_at(shape.axes, shape.level, number),
     }
-}
-
-// ---- the order of level vectors
-
-// The sum of eight levels, whatever they are.
-fn total(levels: [u32; 8]) -> u64
-    ensures { λ r. ⌜ r ≡ sumTo (at levels) 8 ⌝ }
-{
-    let mut sum: u64 = 0;
-    let mut t: usize = 0;
-    while t < 8 {
-        sum += levels[t] as u64;
-        t += 1;
-    }
-    sum
-}
-
-// Two level vectors in document 01's order: the smaller level sum first, then the smaller level on the last axis at which they differ.
-pub fn compare_levels(a: [u32; 8], b: [u32; 8]) -> Order
-    ensures { λ r. ⌜ r ≡ orderOfLevels 8 (at a) (at b) Same ⌝ }
-{
-    let x = total(a);
-    let y = total(b);
-    if x < y {
-        return Order::Before;
-    }
-    if y < x {
-        return Order::After;
-    }
-    let mut t: usize = 8;
-    while 0 < t {
-        t -= 1;
-        if a[t] < b[t] {
-            return Order::Before;
-        }
-        if b[t] < a[t] {
-            return Order::After;
-        }
-    }
-    Order::Same
 }

@@ -41,3 +41,7 @@ eight-whole f past = fun-ext λ t. le-or-lt 8 t (λ h. beyond t h ∙ sym (past 
   where
     beyond : (t : ℕ) → 8 ≤ t → at (eight f) t ≡ 0
     beyond t h = List·getD-eq-default (eight f) 0 (omega (arith, eight-length f))
+
+-- A list of up to eight numbers is known by its first eight, since past its end it holds 0.
+pub padded-at : (xs : List ℕ) → length xs ≤ 8 → at (eight (at xs)) ≡ at xs
+padded-at xs short = eight-whole (at xs) (λ t h. List·getD-eq-default xs 0 (omega arith))

@@ -17,6 +17,7 @@ use Rattle.points.specs.declared.Point.{Point}
 use Rattle.points.specs.declared.Outcome.{Outcome}
 use Rattle.points.specs.declared.Outcome.the-variants.{Found, Refused}
 use Rattle.points.specs.declared.Located.{Located}
+use Rattle.points.specs.declared.Given.{Given}
 
 -- Levels and indices are lists of length d (else 7) that name a point of the shape (else 9).
 unfoldable pub checkLists : Shape → List ℕ → List ℕ → Verdict
@@ -35,6 +36,10 @@ eight f = f 0 ∷ f 1 ∷ f 2 ∷ f 3 ∷ f 4 ∷ f 5 ∷ f 6 ∷ f 7 ∷ []
 -- A point by value, with these levels and indices.
 abbrev pub pointOf : (ℕ → ℕ) → (ℕ → ℕ) → Point
 pointOf l i = record { levels = eight l; indices = eight i }
+
+-- A point handed in as two lists: by value (of longer lists the first eight numbers), with the verdict on it.
+unfoldable pub pointFrom : Shape → List ℕ → List ℕ → Given
+pointFrom s ls is = record { verdict = checkPoint s ls is; point = pointOf (at ls) (at is) }
 
 -- Point number p of a shape, places past axis d zero.
 unfoldable pub pointAt : Shape → ℕ → Point

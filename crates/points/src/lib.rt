@@ -1,4 +1,4 @@
-// Points as values, and the check of a point that is handed in as two lists.
+// Points by value, and the check of a point that is handed in as two lists.
 use refusals::Refusal;
 use refusals::Verdict;
 use shapes::Shape;
@@ -6,7 +6,7 @@ ghost use mathlib.Core.Path.{_≡_};
 ghost use Prim.Native.Nat.{_≤_};
 ghost use lib.ListN.{length};
 ghost use Rattle.numbering.specs.Point.{at, isIndex, isPoint};
-ghost use Rattle.points.specs.Points.{eight, none, checkLists, checkPoint, pointOf, nowhere};
+ghost use Rattle.points.specs.Points.{eight, none, checkLists, checkPoint, pointFrom, pointOf, nowhere};
 
 // A level and an index on each axis; places past the last axis are 0.
 pub struct Point {
@@ -25,6 +25,12 @@ pub enum Outcome {
 // A point with the outcome beside it: all zeros where there is none.
 pub struct Located {
     pub outcome: Outcome,
+    pub point: Point,
+}
+
+// A point that was handed in, with the verdict on it.
+pub struct Given {
+    pub verdict: Verdict,
     pub point: Point,
 }
 
@@ -80,12 +86,25 @@ fn check_lists(shape: Shape, levels: &[u32], indices: &[u32]) -> Verdict
 }
 
 // Refused with 1, 2, 7 or 9.
-pub fn check_point(shape: Shape, levels: &[u32], indices: &[u32]) -> Verdict
+fn check_point(shape: Shape, levels: &[u32], indices: &[u32]) -> Verdict
     ensures { λ r. ⌜ r ≡ checkPoint shape (now (levels .entry)) (now (indices .entry)) ⌝ }
 {
     match shapes::check_shape(shape) {
         Verdict::Refused(r) => Verdict::Refused(r),
         Verdict::Passed => check_lists(shape, levels, indices),
+    }
+}
+
+// A point that is handed in as two lists: by value, with the verdict on it.
+pub fn point_from(shape: Shape, levels: &[u32], indices: &[u32]) -> Given
+    ensures { λ r. ⌜ r ≡ pointFrom shape (now (levels .entry)) (now (indices .entry)) ⌝ }
+{
+    Given {
+        verdict: check_point(shape, levels, indices),
+        point: Point {
+            levels: padded(levels),
+            indices: padded(indices),
+        },
     }
 }
 

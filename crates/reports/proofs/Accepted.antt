@@ -2,21 +2,20 @@
 -- report has room in the program's buffer.
 -- Assumes nothing.
 use mathlib.Core.Path.{_≡_, refl, sym, ap}
-use mathlib.Core.Bool.{true}
 use mathlib.Core.List.{List, _++_}
-use Prim.Native.Nat.{ℕ, _≤_, _<_}
+use Prim.Native.Nat.{ℕ, _≤_}
 use native.Mathlib.Omega.{arith}
 use lib.IntN.{ℤ}
 use lib.ListN.{length, take, drop, length-append}
 use lib.Seq.{take-append-seam}
-use borrow.Author.Tests.{le-leb, eq-eqb}
 use Rattle.refusals.specs.declared.Refusal.{Refusal}
 use Rattle.refusals.specs.declared.Verdict.the-variants as verdict
 use Rattle.hierarchy.proofs.Values.{value-suc}
 use Rattle.shapes.specs.declared.Shape.{Shape}
 use Rattle.shapes.specs.Shapes.{pointsOf}
-use Rattle.tables.specs.Tables.{firstFailing, rateAt, checkTable, checkRates}
-use Rattle.tables.proofs.FirstFailing.{first-none}
+use Rattle.shapes.proofs.Checked.{length-passes}
+use Rattle.tables.specs.Tables.{rateAt, checkTable, checkRates}
+use Rattle.tables.proofs.Checking.{rates-pass}
 use Rattle.whole.specs.Whole.{coefficientsOf, ratesToCoefficients}
 use Rattle.whole.proofs.Inverse.{coefficients-length}
 use Rattle.house_file.specs.declared.Opened.{Opened}
@@ -26,7 +25,7 @@ use Rattle.house_file.specs.Files.{Contents, readContents, AfterReading, afterR
 use Rattle.house_file.proofs.Accepting.{AllRates, Accepted, contents-accepted}
 use Rattle.reports.specs.Text.{heading, pointLines, refusedLine}
 use Rattle.reports.specs.Report.{tableText, reported, report}
-use Rattle.reports.specs.Put.{turnedText, ratesText}
+use Rattle.reports.specs.Steps.{turnedText, ratesText}
 use Rattle.reports.proofs.Listing.{lines-length, heading-length, refused-length}
 
 -- What was read, if anything was, is accepted.
@@ -43,13 +42,8 @@ contents-read places bytes = so (readContents places bytes) refl
 
 -- Rates are refused nothing.
 rates-checked : (xs : List ℤ) → AllRates xs → checkRates xs ≡ verdict.Passed
-unfolding checkRates rateAt
-rates-checked xs each =
-    let f : firstFailing (rateAt xs) (length xs) ≡ length xs = first-none (rateAt xs) (length xs) at in
-    rw (f, le-leb (length xs) (length xs) (omega arith))
-  where
-    at : (p : ℕ) → p < length xs → rateAt xs p ≡ true
-    at p lt = rw (value-suc xs p) (each p lt)
+unfolding rateAt
+rates-checked xs each = rates-pass xs (λ p h. rw (value-suc xs p) (each p h))
 
 -- Their coefficients, whatever stands after them.
 accepted-text : (places : ℕ) (c : Contents) (rest : List ℕ) (xs : List ℤ) → Accepted places (c .shape) (c .rates) rest
@@ -59,7 +53,7 @@ accepted-text places c rest xs h =
     let n = pointsOf (c .shape) in
     let count : length (c .rates) ≡ n = h .rated .many in
     let t : take n (c .rates ++ xs) ≡ c .rates = rw (sym count) (take-append-seam (c .rates) xs) in
-    rw (t, h .shaped, eq-eqb (length (c .rates)) n count, rates-checked (c .rates) (h .rated .each))
+    rw (t, h .shaped, length-passes (c .shape) (length (c .rates)) count, rates-checked (c .rates) (h .rated .each))
 
 -- What was read, as the reader leaves it.
 abbrev answerOf : AfterReading → Opened

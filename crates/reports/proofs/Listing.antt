@@ -11,7 +11,7 @@ use lib.Seq.{take-suc, take-all, length-take-le}
 use Rattle.refusals.specs.declared.Refusal.{Refusal}
 use Rattle.refusals.specs.Refusals.{numberOf}
 use Rattle.reports.specs.Text.{headingOf, pointLine, pointLines, refusedLine}
-use Rattle.reports.specs.Put.{Put}
+use Rattle.reports.specs.Steps.{Put}
 use Rattle.reports.proofs.Decimals.{decimal-length, signed-length}
 use Rattle.reports.proofs.Puts.{put-then, put-as, put-nothing, put-length}
 

@@ -8,7 +8,7 @@ use native.Mathlib.Omega.{arith}
 use lib.ListN.{length, take, drop, getD, set, length-append}
 use lib.Seq.{sets, length-sets, sets-eq, take-suc, take-append-seam, take-all}
 use Rattle.io.specs.Counts.{Counts}
-use Rattle.reports.specs.Put.{Put}
+use Rattle.reports.specs.Steps.{Put}
 
 sets-append : (a b old : List ℕ) (i : ℕ) → sets old i (a ++ b) ≡ sets (sets old i a) (i + length a) b
 sets-append [] b old i = ap (λ (k : ℕ). sets old k b) (omega arith)

@@ -17,13 +17,13 @@ use Rattle.refusals.specs.declared.Verdict.the-variants as verdict
 use Rattle.refusals.specs.Checks.{answer}
 use Rattle.shapes.specs.declared.Shape.{Shape}
 use Rattle.shapes.specs.declared.Counted.the-variants.{Points, Refused}
-use Rattle.shapes.specs.Shapes.{checkShape, counted, pointsOf}
+use Rattle.shapes.specs.Shapes.{checkShape, pointsOf, checkLength, counted}
 use Rattle.states.specs.After.{Left, left}
 use Rattle.tables.specs.Tables.{checkTable}
 use Rattle.whole.specs.Whole.{ratesToCoefficients}
 use Rattle.reports.specs.Text.{refusedLine}
 use Rattle.reports.specs.Report.{tableText}
-use Rattle.reports.specs.Put.{turnedText, leftText, ratesText}
+use Rattle.reports.specs.Steps.{turnedText, leftText, ratesText}
 
 -- What the count tells.
 points-passed : (v : Verdict) (n count : ℕ) → answer Refused v (Points n) ≡ Points count → v ≡ verdict.Passed
@@ -63,7 +63,7 @@ shape-refused s r xs e = rw (refused-why (checkShape s) (pointsOf s) r e)
 
 -- A table of too few places.
 pub short-refused : (s : Shape) (xs : List ℤ) → checkShape s ≡ verdict.Passed → length xs < pointsOf s → refusedLine TableLength ≡ ratesText s xs
-unfolding ratesText ratesToCoefficients checkTable turnedText
+unfolding ratesText ratesToCoefficients checkTable checkLength turnedText
 short-refused s xs e few =
     let t : take (pointsOf s) xs ≡ xs = take-all (pointsOf s) xs (omega arith) in
     let f : eqb (length xs) (pointsOf s) ≡ false = ne-eqb (length xs) (pointsOf s) (λ q. omega arith) in

@@ -1,3 +1,3 @@
 pub mod Text
 pub mod Report
-pub mod Put
+pub mod Steps

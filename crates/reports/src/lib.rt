@@ -10,16 +10,16 @@ ghost use mathlib.Core.Path.{_≡_};
 ghost use lib.ListN.{take};
 ghost use Rattle.io.specs.Counts.{Counts};
 ghost use Rattle.reports.specs.Report.{report as Report·report};
-ghost use Rattle.reports.specs.Put.{Put};
+ghost use Rattle.reports.specs.Steps.{Put};
 
 // The places of a table that a file is read into.
 const PLACES: usize = 8192;
 
 // The most characters of a report: a first line of 81, and for each place a line of 43.
-const MOST: usize = 352337;
+pub const MOST: usize = 352337;
 
-// The most bytes of a file that are read, one more than an accepted file can have: 10 and for each place 5.
-const BYTES: usize = 40971;
+// So many bytes of a file decide its report, one more than an accepted file can have: 10 and for each place 5.
+pub const BYTES: usize = 40971;
 
 // Puts the report of a file of these bytes at the start of `out`, and answers how many characters it has.
 pub fn text(bytes: &[u8], out: &mut [u8; MOST]) -> usize
@@ -32,13 +32,4 @@ pub fn text(bytes: &[u8], out: &mut [u8; MOST]) -> usize
         Opened::Refused(why) => put_refused(why, out),
         Opened::Holds(shape) => put_table(shape, &mut table, out),
     }
-}
-
-// Reads a file to its end, or so far that the rest cannot matter, and then writes its report. False where that could not be written.
-pub fn report(input: i32, output: i32) -> bool {
-    let mut bytes = [0u8; BYTES];
-    let mut out = [0u8; MOST];
-    let length = io::read_full(input, &mut bytes);
-    let count = text(&bytes[..length], &mut out);
-    io::write_all(output, &out[..count])
 }

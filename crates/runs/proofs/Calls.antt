@@ -9,7 +9,7 @@ use native.Mathlib.Omega.{arith}
 use lib.Dec.{leb}
 use lib.IntN.{ℤ, pos, natAbs}
 use lib.ListN.{length}
-use borrow.Author.Tests.{lt-ltb, eq-eqb, leb-true}
+use borrow.Author.Tests.{leb-true}
 use Rattle.naturals.proofs.Cases.{eq-or-not, true-or-false}
 use Rattle.naturals.proofs.Tests.{and-left, and-right}
 use Rattle.refusals.specs.declared.Refusal.{Refusal}
@@ -27,17 +27,19 @@ use Rattle.hierarchy.proofs.Steps.{table-zero, table-past, forward-table, forwa
 use Rattle.hierarchy.proofs.Work.{put-same, put-other}
 use Rattle.shapes.specs.declared.Shape.{Shape}
 use Rattle.shapes.specs.Shapes.{pointsOf, checkAxis}
-use Rattle.shapes.proofs.Checked.{InRange, in-range-passed}
+use Rattle.shapes.proofs.Checked.{InRange}
 use Rattle.grids.proofs.Instance.{grid, shallow}
 use Rattle.grids.specs.Grids.{neighbour, depth, height}
 use Rattle.states.specs.declared.State.{State}
-use Rattle.states.specs.States.{has, checkContents, checkState}
+use Rattle.states.specs.States.{has}
 use Rattle.states.proofs.Bits.{has-marked-same, has-marked-other, has-cleared-same, has-cleared-other, marked-small, cleared-small}
+use Rattle.states.proofs.Checked.{state-passes}
 use Rattle.states.specs.declared.Answer.the-variants.{Done, Refused}
 use Rattle.states.specs.After.{After, after, kept}
 use Rattle.turns.specs.Turns.{turnedTable, formerTable, isAccepted, checkTurn, forwardTurn, backTurn}
 use Rattle.runs.specs.Model.{Axes, modelAnswer, changed, modelSet}
 use Rattle.runs.specs.Runs.{carriedOut, handedOn, verdictOf}
+use Rattle.runs.proofs.Model.{model-refused, model-passed}
 
 -- The state of a shape with this byte of forward axes.
 abbrev pub stateOf : Shape → ℕ → State
@@ -63,14 +65,6 @@ module _ (s : Shape) (range : InRange s) (r : ℕ → ℤ) (rates : Rates (point
     pub hands : handedOn (stateOf s byte) (carriedOut call (stateOf s byte) xs .answer) ≡ stateOf s next
     pub agrees : Agrees (modelSet (s .axes) set call) next (carriedOut call (stateOf s byte) xs .table)
 
-  model-refused : (set : Axes) (call : Turn) (why : Refusal) → modelAnswer (s .axes) set call ≡ verdict.Refused why → modelSet (s .axes) set call ≡ set
-  unfolding modelSet
-  model-refused set call why e = rw e
-
-  model-passed : (set : Axes) (call : Turn) → modelAnswer (s .axes) set call ≡ verdict.Passed → modelSet (s .axes) set call ≡ changed set call
-  unfolding modelSet
-  model-passed set call e = rw e
-
   refused-step : (call : Turn) (set : Axes) (byte : ℕ) (xs : List ℤ) (why : Refusal) → Agrees set byte xs →
       carriedOut call (stateOf s byte) xs ≡ kept xs why → modelAnswer (s .axes) set call ≡ verdict.Refused why → Step call set byte xs
   refused-step call set byte xs why a e m =
@@ -78,7 +72,7 @@ module _ (s : Shape) (range : InRange s) (r : ℕ → ℤ) (rates : Rates (point
         next = byte;
         says = ap (λ (x : After). verdictOf (x .answer)) e ∙ sym m;
         hands = ap (λ (x : After). handedOn (stateOf s byte) (x .answer)) e;
-        agrees = rw (model-refused set call why m, e) a;
+        agrees = rw (model-refused (s .axes) set call why m, e) a;
       }
 
   done-step : (call : Turn) (set : Axes) (byte next : ℕ) (xs ys : List ℤ) →
@@ -89,19 +83,17 @@ module _ (s : Shape) (range : InRange s) (r : ℕ → ℤ) (rates : Rates (point
         next = next;
         says = ap (λ (x : After). verdictOf (x .answer)) e ∙ sym m;
         hands = ap (λ (x : After). handedOn (stateOf s byte) (x .answer)) e;
-        agrees = rw (model-passed set call m, e) a;
+        agrees = rw (model-passed (s .axes) set call m, e) a;
       }
 
   -- The checks of the state and the table pass.
   checks-pass : (set : Axes) (byte : ℕ) (xs : List ℤ) (axis : ℕ) → Agrees set byte xs →
       checkTurn (stateOf s byte) (length xs) axis ≡ unless (leb 1 axis && leb axis (s .axes)) (Axis axis)
-  unfolding checkTurn checkState checkContents checkAxis
+  unfolding checkTurn checkAxis
   checks-pass set byte xs axis a =
-      rw (
-        in-range-passed s range,
-        lt-ltb byte (2 ^ (s .axes)) (a .few),
-        eq-eqb (length xs) (pointsOf s) (ap length (a .table) ∙ values-length (pointsOf s) _),
-      )
+      rw
+      (state-passes (stateOf s byte) (length xs)
+      (record { range = range; few = a .few; long = ap length (a .table) ∙ values-length (pointsOf s) _ }))
 
   -- The table as a function of codes.
   holds : (set : Axes) (byte : ℕ) (xs : List ℤ) → Agrees set byte xs → valueAt xs ≡ tableOf (neighbour s) (s .axes) set r

@@ -9,13 +9,15 @@ use native.Mathlib.Omega.{arith}
 use lib.IntN.{ℤ}
 use lib.ListN.{length, getD, take, drop, set, length-append, length-map, length-drop}
 use lib.Seq.{take-suc, take-length, drop-length, drop-cons, length-take-le, append-snoc, set-at}
+use Rattle.refusals.specs.declared.Verdict.{Verdict}
+use Rattle.refusals.specs.declared.Verdict.the-variants.{Passed}
 use Rattle.hierarchy.specs.declared.Turn.{Turn}
 use Rattle.hierarchy.specs.declared.Turn.the-variants.{Back}
-use Rattle.refusals.specs.declared.Verdict.{Verdict}
 use Rattle.states.specs.declared.State.{State}
 use Rattle.states.specs.declared.Answer.{Answer}
 use Rattle.states.specs.declared.Answer.the-variants.{Done}
 use Rattle.states.specs.After.{after}
+use Rattle.states.specs.States.{checkState}
 use Rattle.runs.specs.Runs.{carriedOut, handedOn, verdictOf, Ran, run}
 use Rattle.runs.specs.Calls.{turnOf, callsOf, numberIn, placeIn, report, reportOf, runCalls}
 use Rattle.runs.proofs.Appending.{run-snoc, calls-append, Matched, matched-runs}
@@ -76,6 +78,7 @@ module _ (s : State) (xs : List ℤ) (directions axes ns ps : List ℕ) where
   ranTo i = run (callsTo directions axes i) s xs
 
   pub record Reporting (table : List ℤ) (numbers places : List ℕ) (reached : State) (i : ℕ) : Type 0 where
+    pub passed : checkState s (length xs) ≡ Passed
     pub matched : Matched directions axes ns ps
     pub within : i ≤ length directions
     pub state : reached ≡ ranTo i .state
@@ -84,9 +87,9 @@ module _ (s : State) (xs : List ℤ) (directions axes ns ps : List ℕ) where
     pub numbered : numbers ≡ answered numberIn (ranTo i .answers) ns
     pub placed : places ≡ answered placeIn (ranTo i .answers) ps
 
-  pub reporting-starts : Matched directions axes ns ps → Reporting xs ns ps s 0
+  pub reporting-starts : checkState s (length xs) ≡ Passed → Matched directions axes ns ps → Reporting xs ns ps s 0
   unfolding run
-  reporting-starts m = record { matched = m; within = omega arith; state = refl; long = refl; contents = refl; numbered = refl; placed = refl }
+  reporting-starts passed m = record { passed = passed; matched = m; within = omega arith; state = refl; long = refl; contents = refl; numbered = refl; placed = refl }
 
   module _ (table : List ℤ) (numbers places : List ℕ) (reached : State) (i : ℕ) (r : Reporting table numbers places reached i) where
     count-is : length (ranTo i .answers) ≡ i
@@ -111,7 +114,7 @@ module _ (s : State) (xs : List ℤ) (directions axes ns ps : List ℕ) where
         r .numbered ∙ answered-all numberIn (ranTo i .answers) ns (count-is ∙ end ∙ sym (r .matched .numbers-long)) in
         let all-places : places ≡ map placeIn (ranTo i .answers) =
         r .placed ∙ answered-all placeIn (ranTo i .answers) ps (count-is ∙ end ∙ sym (r .matched .places-long)) in
-        rw (r .state, r .contents, all-numbers, all-places) (ap reportOf whole ∙ sym (matched-runs s xs directions axes ns ps (r .matched)))
+        rw (r .state, r .contents, all-numbers, all-places) (ap reportOf whole ∙ sym (matched-runs s xs directions axes ns ps (r .passed) (r .matched)))
 
     -- One call more.
     module _ (more : i < length directions) (next : Answer) (left : List ℤ) (long : length left ≡ length table)
@@ -128,6 +131,7 @@ module _ (s : State) (xs : List ℤ) (directions axes ns ps : List ℕ) where
       reporting-steps number place to n p t =
           rw add-one
           (record {
+            passed = r .passed;
             matched = r .matched;
             within = more;
             state = t ∙ sym (ap (λ (x : Ran). x .state) ran-next);

@@ -6,16 +6,18 @@ use Prim.Native.Nat.{ℕ, zero, suc}
 use lib.Dec.{eqb}
 use lib.IntN.{ℤ}
 use lib.ListN.{length}
-use Rattle.naturals.specs.Test.{if_then_else_}
+use Rattle.refusals.specs.declared.Refusal.{Refusal}
 use Rattle.refusals.specs.declared.Refusal.the-variants.{ListLength}
 use Rattle.refusals.specs.declared.Verdict.{Verdict}
 use Rattle.refusals.specs.declared.Verdict.the-variants as verdict
 use Rattle.refusals.specs.Refusals.{numberOf, placeOf}
+use Rattle.refusals.specs.Checks.{unless, _andThen_, answer}
 use Rattle.hierarchy.specs.declared.Turn.{Turn}
 use Rattle.hierarchy.specs.declared.Turn.the-variants.{Forward, Back}
 use Rattle.states.specs.declared.State.{State}
 use Rattle.states.specs.declared.Answer.{Answer}
 use Rattle.states.specs.declared.Answer.the-variants.{Done, Refused}
+use Rattle.states.specs.States.{checkState}
 use Rattle.runs.specs.Runs.{Ran, run}
 
 -- Direction 0 is forward, every other number is back.
@@ -50,9 +52,18 @@ report a xs ns ps = record { answer = a; table = xs; numbers = ns; places = ps }
 abbrev pub reportOf : Ran → Report
 reportOf r = report (Done (r .state)) (r .table) (map numberIn (r .answers)) (map placeIn (r .answers))
 
--- The four lists are of one length, else refused with 7 and all left as they were; then the turns in order, each answer in its place.
+-- Refused: the table and the lists hold what they held.
+abbrev pub unrun : List ℤ → List ℕ → List ℕ → Refusal → Report
+unrun xs ns ps r = report (Refused r) xs ns ps
+
+-- The four lists are of one length, else refused with 7.
+unfoldable pub checkLengths : List ℕ → List ℕ → List ℕ → List ℕ → Verdict
+checkLengths directions axes ns ps =
+    unless (eqb (length axes) (length directions) && eqb (length ns) (length directions) && eqb (length ps) (length directions)) ListLength
+
+-- The state and the table, refused with 1, 2, 14 or 3; then the lists; then the turns in order, each answer in its place.
 unfoldable pub runCalls : State → List ℤ → List ℕ → List ℕ → List ℕ → List ℕ → Report
 runCalls s xs directions axes ns ps =
-    if eqb (length axes) (length directions) && eqb (length ns) (length directions) && eqb (length ps) (length directions)
-    then reportOf (run (callsOf directions axes) s xs)
-    else report (Refused ListLength) xs ns ps
+    answer (unrun xs ns ps)
+    (checkState s (length xs) andThen checkLengths directions axes ns ps)
+    (reportOf (run (callsOf directions axes) s xs))

@@ -1,3 +1,4 @@
 pub mod Model
 pub mod Runs
 pub mod Calls
+pub mod LastCall

@@ -1,5 +1,6 @@
 // Runs of turns: a list of calls carried out one after the other, with each answer reported.
 use refusals::Refusal;
+use refusals::Verdict;
 use states::Answer;
 use states::State;
 ghost use mathlib.Core.Path.{_≡_};
@@ -50,6 +51,7 @@ fn handed_on(state: State, answer: Answer) -> State
 
 // Carries out the turns of a list, one direction (0 forward, else back) and one axis for each, and reports the number and place of each refusal, 0 and 0 where
 // there is none. A refused turn leaves the state, and the next is carried out. The rest of a list can be handed in later, with the state that this call answers.
+// The run itself is refused with 1, 2, 14, 3 or 7, and then carries out no turn.
 pub fn run(
     state: State,
     table: &mut [i64],
@@ -60,6 +62,9 @@ pub fn run(
 ) -> Answer
     ensures { λ r. ⌜ report r (now (table .exit)) (now (numbers .exit)) (now (places .exit)) ≡ runCalls state (now (table .entry)) (now (directions .entry)) (now (axes .entry)) (now (numbers .entry)) (now (places .entry)) ⌝ }
 {
+    if let Verdict::Refused(r) = states::check_state(state, table.len()) {
+        return Answer::Refused(r);
+    }
     let count = directions.len();
     if axes.len() != count || numbers.len() != count || places.len() != count {
         return Answer::Refused(Refusal::ListLength);

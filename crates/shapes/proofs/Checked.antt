@@ -1,17 +1,18 @@
--- What a passed check of a shape tells: 1 to 8 axes and a top level of at most 8; and a shape so is passed. What a passed check of an axis tells. The checks are tests of just this.
+-- What a passed check of a shape tells: 1 to 8 axes and a top level of at most 8; and a shape so is passed. What a passed check of an axis tells, and of a table's
+-- length. The checks are tests of just this.
 -- Assumes nothing.
 use mathlib.Core.Path.{_≡_}
 use mathlib.Core.Bool.{true, _&&_}
 use Prim.Native.Nat.{ℕ, _≤_}
-use lib.Dec.{leb}
-use borrow.Author.Tests.{leb-true, le-leb}
+use lib.Dec.{leb, eqb}
+use borrow.Author.Tests.{leb-true, le-leb, eqb-true, eq-eqb}
 use Rattle.naturals.proofs.Tests.{and-left, and-right}
-use Rattle.refusals.specs.declared.Refusal.the-variants.{Axes, Level, Axis}
+use Rattle.refusals.specs.declared.Refusal.the-variants.{Axes, Level, TableLength, Axis}
 use Rattle.refusals.specs.declared.Verdict.the-variants.{Passed}
 use Rattle.refusals.specs.Checks.{unless}
 use Rattle.refusals.proofs.Passing.{first-passed, next-passed, test-passed}
 use Rattle.shapes.specs.declared.Shape.{Shape}
-use Rattle.shapes.specs.Shapes.{checkShape, checkAxis}
+use Rattle.shapes.specs.Shapes.{checkShape, checkAxis, pointsOf, checkLength}
 
 pub record InRange (s : Shape) : Type 0 where
   pub low : 1 ≤ s .axes
@@ -41,3 +42,11 @@ in-range-passed s r = simp (le-leb 1 (s .axes) (r .low), le-leb (s .axes) 8 (r .
 pub axis-in-range : (s : Shape) (axis : ℕ) → checkAxis s axis ≡ Passed → (1 ≤ axis) × (axis ≤ s .axes)
 unfolding checkAxis
 axis-in-range s axis e = between 1 axis (s .axes) (test-passed (leb 1 axis && leb axis (s .axes)) (Axis axis) e)
+
+pub length-passed : (s : Shape) (places : ℕ) → checkLength s places ≡ Passed → places ≡ pointsOf s
+unfolding checkLength
+length-passed s places e = eqb-true places (pointsOf s) (test-passed (eqb places (pointsOf s)) TableLength e)
+
+pub length-passes : (s : Shape) (places : ℕ) → places ≡ pointsOf s → checkLength s places ≡ Passed
+unfolding checkLength
+length-passes s places e = rw (eq-eqb places (pointsOf s) e)

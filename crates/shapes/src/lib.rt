@@ -1,11 +1,11 @@
-// Shapes: the check of a shape, the constant rows of binomials, and the count of points.
+// Shapes: the check of a shape, the constant rows of binomials, the count of points, and the check of a table's length.
 use refusals::Refusal;
 use refusals::Verdict;
 ghost use mathlib.Core.Path.{_≡_};
 ghost use Prim.Native.Nat.{_≤_};
 ghost use Rattle.refusals.specs.declared.Verdict.the-variants.{Passed};
 ghost use Rattle.numbering.specs.Count.{vectors, start};
-ghost use Rattle.shapes.specs.Shapes.{checkShape, checkAxis, pointsOf, counted};
+ghost use Rattle.shapes.specs.Shapes.{checkShape, checkAxis, pointsOf, checkLength, counted};
 ghost use Rattle.shapes.specs.Rows.{Binomials};
 
 // A number of axes d and a top level n (document 01: a shape).
@@ -100,6 +100,17 @@ pub fn points_of(shape: Shape) -> u64
 {
     let rows = rows();
     start_of(&rows, shape.axes, shape.level + 1)
+}
+
+// Refused with 3, for a shape that the check passes.
+pub fn check_length(shape: Shape, places: usize) -> Verdict
+    requires { ⌜ checkShape shape ≡ Passed ⌝ }
+    ensures { λ r. ⌜ r ≡ checkLength shape places ⌝ }
+{
+    if places as u64 != points_of(shape) {
+        return Verdict::Refused(Refusal::TableLength);
+    }
+    Verdict::Passed
 }
 
 // How many points a shape has.

@@ -3,12 +3,13 @@
 -- Assumes nothing.
 use mathlib.Core.Path.{_≡_, ap, sym, _∙_}
 use mathlib.Core.Bool.{true, false}
-use Prim.Native.Nat.{ℕ, suc, _+_, _-_, _*_, _/_, _%_, _^_, _≤_, _<_}
+use Prim.Native.Nat.{ℕ, zero, suc, _+_, _-_, _*_, _/_, _%_, _^_, _≤_, _<_}
 use native.Mathlib.Nat.{one-mul, zero-mul, pow-suc, add-mul-div-right, add-div-right, mod-eq-of-lt, div-eq-of-lt, sub-add-cancel, div-lt-iff-lt-mul, div-add-mod', mod-lt, mul-le-mul-right, add-mul, zero-div}
+use native.Mathlib.Numerals.{one-add}
 use native.Mathlib.Omega.{arith}
 use lib.Bits.{bitAnd, bitOr, bitXor, and-mask, and-high, or-add-and, xor-add-and}
 use lib.Dec.{eqb}
-use lib.Pow.{pow-pos, pow-add, pow-mono, pow-lt, shr-shr, ones-split, ones-lt, high}
+use lib.Pow.{pow-pos, pow-add, mod-pow-add, pow-mono, shr-shr, ones-split, ones-lt, high}
 use borrow.Author.Tests.{eq-eqb, ne-eqb, eqb-true, eqb-false}
 use Rattle.naturals.proofs.Cases.{eq-or-not, le-or-lt}
 use Rattle.states.specs.States.{has}
@@ -31,10 +32,6 @@ mask-bit : (n t : ℕ) → bitAnd n (2 ^ t) ≡ n / 2 ^ t % 2 * 2 ^ t
 mask-bit n t =
     let e : 2 ^ (1 + t) - 2 ^ t ≡ 2 ^ t = omega (arith, pow-add 2 1 t) in
     ap (bitAnd n) (sym e) ∙ and-high n 1 t
-
--- The shifted one, in any width of more bits.
-pub one-shifted : (w t : ℕ) → t < w → 1 * 2 ^ t % 2 ^ w ≡ 2 ^ t
-one-shifted w t h = ap (λ (x : ℕ). x % 2 ^ w) (one-mul (2 ^ t)) ∙ mod-eq-of-lt (pow-lt h)
 
 pub or-sets : (n t : ℕ) → has n t ≡ false → bitOr n (2 ^ t) ≡ n + 2 ^ t
 or-sets n t e =
@@ -135,6 +132,15 @@ cleared-small n t d small = omega arith
 pub no-bits : (t : ℕ) → has 0 t ≡ false
 unfolding has
 no-bits t = ap (λ (x : ℕ). eqb (x % 2) 1) (zero-div (2 ^ t))
+
+-- A byte with no bit below axis d, and none above, is 0.
+low-bits : (n d : ℕ) → ((t : ℕ) → t < d → has n t ≡ false) → n % 2 ^ d ≡ 0
+low-bits n zero none = omega arith
+low-bits n (suc d) none =
+    rw (← one-add d, mod-pow-add n 1 d, clear-bit n d (none d (omega arith)), low-bits n d (λ t h. none t (omega arith)), zero-mul (2 ^ d))
+
+pub no-axis : (n d : ℕ) → ((t : ℕ) → t < d → has n t ≡ false) → n < 2 ^ d → n ≡ 0
+no-axis n d none small = sym (mod-eq-of-lt small) ∙ low-bits n d none
 
 -- A byte with all of the first d bits.
 pub all-bits-in : (d t : ℕ) → t < d → has (2 ^ d - 1) t ≡ true

@@ -4,10 +4,10 @@ use refusals::Verdict;
 use shapes::Shape;
 ghost use mathlib.Core.Path.{_≡_};
 ghost use mathlib.Core.Bool.{true, false};
-ghost use Prim.Native.Nat.{_<_, _-_, _^_};
+ghost use Prim.Native.Nat.{_≤_, _<_};
 ghost use Rattle.refusals.specs.declared.Verdict.the-variants.{Passed};
 ghost use Rattle.shapes.specs.Shapes.{checkShape};
-ghost use Rattle.states.specs.States.{has, marked, cleared, checkContents, checkState};
+ghost use Rattle.states.specs.States.{has, marked, cleared, firstAxis, checkBits, checkState};
 
 // Bit t − 1 of `forward` says that axis t is forward.
 pub struct State {
@@ -55,18 +55,33 @@ pub fn without_axis(state: State, t: u32) -> State
     }
 }
 
-// Refused with 14 or 3.
-fn check_contents(state: State, places: usize) -> Verdict
+// The first axis whose bit is the one looked for, counted from 0, or d.
+pub fn first_axis(state: State, bit: bool) -> u32
+    requires { ⌜ state .shape .axes ≤ 8 ⌝ }
+    ensures { λ r. ⌜ r ≡ firstAxis bit state ⌝ }
+{
+    let shape = state.shape;
+    let axes = shape.axes;
+    let forward = state.forward;
+    let mut t: u32 = 0;
+    while t < axes {
+        if has_axis(forward, t) == bit {
+            return t;
+        }
+        t += 1;
+    }
+    axes
+}
+
+// Refused with 14.
+fn check_bits(state: State) -> Verdict
     requires { ⌜ checkShape (state .shape) ≡ Passed ⌝ }
-    ensures { λ r. ⌜ r ≡ checkContents state places ⌝ }
+    ensures { λ r. ⌜ r ≡ checkBits state ⌝ }
 {
     let shape = state.shape;
     let forward = state.forward as u32;
     if 1 << shape.axes <= forward {
         return Verdict::Refused(Refusal::StrayBit);
-    }
-    if places as u64 != shapes::points_of(shape) {
-        return Verdict::Refused(Refusal::TableLength);
     }
     Verdict::Passed
 }
@@ -76,8 +91,11 @@ pub fn check_state(state: State, places: usize) -> Verdict
     ensures { λ r. ⌜ r ≡ checkState state places ⌝ }
 {
     let shape = state.shape;
-    match shapes::check_shape(shape) {
-        Verdict::Refused(r) => Verdict::Refused(r),
-        Verdict::Passed => check_contents(state, places),
+    if let Verdict::Refused(r) = shapes::check_shape(shape) {
+        return Verdict::Refused(r);
     }
+    if let Verdict::Refused(r) = check_bits(state) {
+        return Verdict::Refused(r);
+    }
+    shapes::check_length(shape, places)
 }

@@ -2,7 +2,7 @@
 -- number is within the level of axis t, the position is one higher; where no axis is left, all indices were the last and are 1 now.
 -- True since an odd index of level l that has no next one below 2^(l+1) is 2^(l+1) − 1.
 -- Assumes nothing.
-use mathlib.Core.Bool.{true, false, false≢true}
+use mathlib.Core.Bool.{true, false}
 use mathlib.Core.List.{List}
 use mathlib.Core.Path.{_≡_, refl, _∙_}
 use Prim.Native.Nat.{ℕ, suc, _+_, _*_, _%_, _^_, _≤_, _<_}
@@ -106,7 +106,6 @@ module _ {d : ℕ} {ls is next : List ℕ} {t : ℕ} (fits : d ≤ 8) (p : IsPoi
         higher = λ e. next-position (raises h);
         last = λ e. cc;
         ones = λ e u lt. cc;
-        full = λ e u lt. absurd (false≢true e);
       }
 
   pub turned-past : d ≤ t → StepsIndices d ls is true next
@@ -119,5 +118,4 @@ module _ {d : ℕ} {ls is next : List ℕ} {t : ℕ} (fits : d ≤ 8) (p : IsPoi
         higher = λ e. cc;
         last = λ e. last-position (at ls) (at is) d (λ u lt. turned .full u (omega arith));
         ones = λ e u lt. turned .ones u (omega arith);
-        full = λ e u lt. omega (arith, turned .full u (omega arith), p .odd u lt, pow-suc 2 (at ls u));
       }

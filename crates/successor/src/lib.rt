@@ -1,140 +1,79 @@
-// The successor of a point, by stepping its indices and then its level vector.
+// The successor of a point: the next indices on its levels or, past the last of them, the first point of the next level vector.
 use points::Located;
 use points::Outcome;
 use points::Point;
 use refusals::Verdict;
 use shapes::Shape;
 ghost use mathlib.Core.Path.{_≡_};
-ghost use Prim.Native.Nat.{_≤_, _<_};
+ghost use Prim.Native.Nat.{_≤_};
 ghost use lib.ListN.{length};
-ghost use Rattle.naturals.specs.Sum.{sumTo};
 ghost use Rattle.numbering.specs.Point.{at, IsPoint};
-ghost use Rattle.numbering.specs.Number.{number};
-ghost use Rattle.shapes.specs.Shapes.{sparse};
-ghost use Rattle.points.specs.Points.{eight};
-ghost use Rattle.successor.specs.Steps.{PointIn, StepsIndices, StepsLevels, EndsAt, Writes};
+ghost use Rattle.grids.specs.Grids.{numberOf};
+ghost use Rattle.points.specs.Steps.{PointIn};
+ghost use Rattle.successor.specs.Steps.{StepsIndices};
 ghost use Rattle.successor.specs.Successor.{after, successorOf};
 
-// Eight numbers after a step, and whether the step went past the last.
-pub struct Stepped {
-    pub past: bool,
-    pub numbers: [u32; 8],
+// Indices after a step, and whether the step went past the last.
+struct Stepped {
+    indices: [u32; 8],
+    past: bool,
 }
 
-// To the next indices on the same levels, axis 1 fastest; past the last, all are 1 again. Answers whether it went past the last.
-fn step_indices(axes: usize, levels: &[u32; 8], indices: &mut [u32; 8]) -> bool
-    requires { ⌜ (axes ≤ 8) × (length (now indices) ≡ 8) × IsPoint axes 8 (at (now levels)) (at (now indices)) ⌝ }
-    ensures { λ r. ⌜ StepsIndices axes (now (levels .entry)) (now (indices .entry)) r (now (indices .exit)) ⌝ }
+// The next indices on the same levels, axis 1 fastest; past the last, all are 1 again.
+fn next_indices(axes: usize, p: Point) -> Stepped
+    requires { ⌜ (axes ≤ 8) × (length (p .indices) ≡ 8) × IsPoint axes 8 (at (p .levels)) (at (p .indices)) ⌝ }
+    ensures { λ r. ⌜ StepsIndices axes (p .levels) (p .indices) (r .past) (r .indices) ⌝ }
 {
+    let mut indices = p.indices;
     let mut t: usize = 0;
     while t < axes {
         let raised = indices[t] + 2;
-        if raised < (2 << levels[t]) {
+        if raised < (2 << p.levels[t]) {
             indices[t] = raised;
-            return false;
+            return Stepped {
+                indices: indices,
+                past: false,
+            };
         }
         indices[t] = 1;
         t += 1;
     }
-    true
-}
-
-// To the next level vector of the same level sum. The first level v above 0 that has an axis after it: one moves there, the rest to axis 1. Answers
-// whether it went past the last.
-fn step_levels(axes: usize, levels: &mut [u32; 8]) -> bool
-    requires { ⌜ (1 ≤ axes) × (axes ≤ 8) × (length (now levels) ≡ 8) × (sumTo (at (now levels)) axes ≤ 8) ⌝ }
-    ensures { λ r. ⌜ StepsLevels axes (now (levels .entry)) r (now (levels .exit)) ⌝ }
-{
-    let mut k: usize = 0;
-    while k + 1 < axes {
-        let v = levels[k];
-        if 0 < v {
-            levels[k] = 0;
-            levels[0] = v - 1;
-            levels[k + 1] += 1;
-            return false;
-        }
-        k += 1;
-    }
-    true
-}
-
-// The next level vector of the same level sum, by value.
-pub fn next_levels(axes: usize, levels: [u32; 8]) -> Stepped
-    requires { ⌜ (1 ≤ axes) × (axes ≤ 8) × (sumTo (at levels) axes ≤ 8) ⌝ }
-    ensures { λ r. ⌜ StepsLevels axes levels (r .past) (r .numbers) ⌝ }
-{
-    let mut next = levels;
-    let past = step_levels(axes, &mut next);
     Stepped {
-        past: past,
-        numbers: next,
+        indices: indices,
+        past: true,
     }
 }
 
-// Whether a point is the last, from the level and the index of its last axis: the top level, and the last index of that.
-fn is_last(level: u32, l: u32, i: u32) -> bool
-    requires { ⌜ (level ≤ 8) × (i < 512) ⌝ }
-    ensures { λ r. ⌜ EndsAt level l i r ⌝ }
+// The successor of a point of this shape, or the end.
+fn next_point(shape: Shape, p: Point) -> Located
+    requires { ⌜ (1 ≤ shape .axes) × (shape .axes ≤ 8) × (shape .level ≤ 8) × PointIn (shape .axes) (shape .level) (p .levels) (p .indices) ⌝ }
+    ensures { λ r. ⌜ r ≡ after shape (numberOf shape (at (p .levels)) (at (p .indices))) ⌝ }
 {
-    if l != level {
-        return false;
+    let axes = shape.axes as usize;
+    let levels = p.levels;
+    let step = next_indices(axes, p);
+    let indices = step.indices;
+    if !step.past {
+        return Located {
+            outcome: Outcome::Found,
+            point: Point {
+                levels: levels,
+                indices: indices,
+            },
+        };
     }
-    (2 << level) <= i + 2
-}
-
-// The successor of a point of this shape, into two arrays; they stay where it is the last. Past the last level vector of a level sum, the last axis
-// holds the whole sum; the first vector of the next sum has that on axis 1.
-fn next_into(
-    axes: u32,
-    level: u32,
-    levels: &[u32],
-    indices: &[u32],
-    next_levels: &mut [u32; 8],
-    next_indices: &mut [u32; 8],
-) -> Outcome
-    requires { ⌜ (1 ≤ axes) × (axes ≤ 8) × (level ≤ 8) × (axes ≤ length (now levels)) × (axes ≤ length (now indices)) × PointIn axes level (eight (at (now levels))) (eight (at (now indices))) ⌝ }
-    ensures { λ r. ⌜ Writes (after (sparse axes level) (number axes (at (eight (at (now (levels .entry))))) (at (eight (at (now (indices .entry))))))) (now («next_levels» .entry)) (now («next_indices» .entry)) r (now («next_levels» .exit)) (now («next_indices» .exit)) ⌝ }
-{
-    let count = axes as usize;
-    let last = count - 1;
-    let l = levels[last];
-    let i = indices[last];
-    if is_last(level, l, i) {
-        return Outcome::End;
+    let sum = vectors::level_sum(axes, levels);
+    let next = vectors::next_vector(axes, sum, levels);
+    if shape.level < next.sum {
+        return points::nowhere(Outcome::End);
     }
-    *next_levels = points::padded(levels);
-    *next_indices = points::padded(indices);
-    if !step_indices(count, next_levels, next_indices) {
-        return Outcome::Found;
-    }
-    if !step_levels(count, next_levels) {
-        return Outcome::Found;
-    }
-    *next_levels = [l + 1, 0, 0, 0, 0, 0, 0, 0];
-    Outcome::Found
-}
-
-// The successor of a point, into two arrays; they stay where there is none.
-pub fn successor_into(
-    shape: Shape,
-    levels: &[u32],
-    indices: &[u32],
-    next_levels: &mut [u32; 8],
-    next_indices: &mut [u32; 8],
-) -> Outcome
-    ensures { λ r. ⌜ Writes (successorOf shape (now (levels .entry)) (now (indices .entry))) (now («next_levels» .entry)) (now («next_indices» .entry)) r (now («next_levels» .exit)) (now («next_indices» .exit)) ⌝ }
-{
-    match points::check_point(shape, levels, indices) {
-        Verdict::Refused(r) => Outcome::Refused(r),
-        Verdict::Passed => next_into(
-            shape.axes,
-            shape.level,
-            levels,
-            indices,
-            next_levels,
-            next_indices,
-        ),
+    let raised = next.levels;
+    Located {
+        outcome: Outcome::Found,
+        point: Point {
+            levels: raised,
+            indices: indices,
+        },
     }
 }
 
@@ -142,14 +81,10 @@ pub fn successor_into(
 pub fn successor(shape: Shape, levels: &[u32], indices: &[u32]) -> Located
     ensures { λ r. ⌜ r ≡ successorOf shape (now (levels .entry)) (now (indices .entry)) ⌝ }
 {
-    let mut next_levels = [0; 8];
-    let mut next_indices = [0; 8];
-    let outcome = successor_into(shape, levels, indices, &mut next_levels, &mut next_indices);
-    Located {
-        outcome: outcome,
-        point: Point {
-            levels: next_levels,
-            indices: next_indices,
-        },
+    let given = points::point_from(shape, levels, indices);
+    let verdict = given.verdict;
+    match verdict {
+        Verdict::Refused(r) => points::nowhere(Outcome::Refused(r)),
+        Verdict::Passed => next_point(shape, given.point),
     }
 }

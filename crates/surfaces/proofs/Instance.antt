@@ -2,18 +2,19 @@
 -- border there counting 0 as the weight at 0 and at the unit is, so the identity on one axis is that of the grid.
 -- Assumes nothing.
 use mathlib.Core.Path.{_≡_, refl, ap, ap₂, sym, _∙_}
-use mathlib.Core.Bool.{Bool, true, false, _&&_, _||_, false≢true}
+use mathlib.Core.Logic.{_⊎_, inl, inr}
+use mathlib.Core.Bool.{Bool, true, false, _&&_}
 use Prim.Native.Nat.{ℕ, zero, suc, _+_, _*_, _^_, _<_}
 use native.Mathlib.Nat.{mul-comm, zero-mul}
 use native.Mathlib.Omega.{arith}
 use lib.Dec.{eqb}
-use borrow.Author.Tests.{eq-eqb, ne-eqb, eqb-true}
-use Rattle.naturals.proofs.Cases.{eq-or-not, true-or-false}
+use borrow.Author.Tests.{eq-eqb, eqb-true}
+use Rattle.naturals.proofs.Cases.{true-or-false}
 use Rattle.naturals.proofs.Tests.{and-left, and-right}
 use Rattle.numbering.specs.declared.Side.{Side}
 use Rattle.numbering.specs.declared.Side.the-variants.{Left, Right}
 use Rattle.numbering.specs.Parent.{isBorder, parentLevel, parentIndex}
-use Rattle.numbering.proofs.Parents.{inside, update-same, update-other}
+use Rattle.numbering.proofs.Parents.{border-means, inside, update-same, update-other}
 use Rattle.numbering.proofs.Parents as P
 use Rattle.shapes.specs.declared.Shape.{Shape}
 use Rattle.shapes.specs.Shapes.{pointsOf}
@@ -36,15 +37,6 @@ gridWeight s t p (suc q) = weightOn s (coordinatesOf s q) p t
 unfoldable pub gridSame : Shape → ℕ → ℕ → ℕ → Bool
 gridSame s t p zero = false
 gridSame s t p (suc q) = sameOn s p q t
-
--- A border is at 0 or at 1.
-is-border : {A : Type 0} (l m : ℕ) → isBorder l m ≡ true → (m ≡ 0 → A) → (m ≡ 2 ^ suc l → A) → A
-unfolding isBorder
-is-border l m e low high =
-    eq-or-not m 0 low
-    (λ nl.
-    eq-or-not m (2 ^ suc l) high
-    (λ nh. absurd (false≢true (sym (ap₂ (λ (a b : Bool). a || b) (ne-eqb m 0 nl) (ne-eqb m (2 ^ suc l) nh)) ∙ e))))
 
 module _ (s : Shape) where
   weight-border : (t p : ℕ) → gridWeight s t p 0 ≡ 0
@@ -100,11 +92,12 @@ module _ (s : Shape) where
     -- On its own axis the weight is that at the neighbour's numerator.
     module _ (p v : ℕ) (p-in : p < pointsOf s) (whole : v * 2 ^ suc (levelOn s q u) ≡ unit) where
       border-weight : (m : ℕ) → isBorder (levelOn s q u) m ≡ true → 0 ≡ weight (m * v) (levelOn s p u) (indexOn s p u)
-      border-weight m e =
-          is-border (levelOn s q u) m e
-          (λ low. rw (low, zero-mul v) (sym (weight-low (levelOn s p u) (indexOn s p u) (omega (arith, index-odd s p p-in u axis)))))
-          (λ high.
-          rw (high, mul-comm (2 ^ suc (levelOn s q u)) v, whole) (sym (weight-high (levelOn s p u) (indexOn s p u) (index-below s p p-in u axis))))
+      border-weight m e = each (border-means (levelOn s q u) m e)
+        where
+          each : (m ≡ 0) ⊎ (m ≡ 2 ^ suc (levelOn s q u)) → 0 ≡ weight (m * v) (levelOn s p u) (indexOn s p u)
+          each (inl low) = rw (low, zero-mul v) (sym (weight-low (levelOn s p u) (indexOn s p u) (omega (arith, index-odd s p p-in u axis))))
+          each (inr high) =
+              rw (high, mul-comm (2 ^ suc (levelOn s q u)) v, whole) (sym (weight-high (levelOn s p u) (indexOn s p u) (index-below s p p-in u axis)))
 
       inner-weight : isBorder (levelOn s q u) (numeratorOn s u b q) ≡ false →
           weight (coordinate (parentLevels s u b q u) (parentIndices s u b q u)) (levelOn s p u) (indexOn s p u)

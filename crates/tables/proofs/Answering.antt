@@ -9,13 +9,13 @@ use Rattle.naturals.specs.Test.{all}
 use Rattle.refusals.specs.declared.Refusal.{Refusal}
 use Rattle.refusals.specs.declared.Refusal.the-variants.{Contents}
 use Rattle.refusals.specs.declared.Verdict.the-variants as verdict
+use Rattle.integers.specs.Half.{contentAt}
 use Rattle.shapes.specs.declared.Shape.{Shape}
 use Rattle.states.specs.declared.State.{State}
 use Rattle.states.specs.declared.Answer.the-variants.{Done, Refused}
 use Rattle.states.specs.After.{after, kept, left}
 use Rattle.states.specs.States.{checkState}
-use Rattle.tables.specs.Tables.{checkTable, checkRates, times, load, contentAt, adopted, adopt, quotient, scaledAt, unload}
-use Rattle.tables.specs.Steps.{checkSampled}
+use Rattle.tables.specs.Tables.{checkTable, checkRates, times, load, adopted, adopt, quotient, scaledAt, checkSampled, unload}
 
 module _ (s : Shape) (xs : List ℤ) where
   pub load-unchecked : (r : Refusal) → checkTable s xs ≡ verdict.Refused r → load s xs ≡ kept xs r
@@ -51,15 +51,15 @@ module _ (s : State) (xs : List ℤ) where
 
   module _ (e : checkState s (length xs) ≡ verdict.Passed) where
     pub unload-forward : (r : Refusal) → checkSampled s ≡ verdict.Refused r → unload s xs ≡ left (verdict.Refused r) xs
-    unfolding unload checkSampled
+    unfolding unload
     unload-forward r h = rw (e, h)
 
     pub unload-refused : checkSampled s ≡ verdict.Passed → all (scaledAt (s .shape .axes) xs) (length xs) ≡ false →
         unload s xs ≡ left (verdict.Refused Contents) xs
-    unfolding unload checkSampled
+    unfolding unload
     unload-refused h a = rw (e, h, a)
 
     pub unload-done : checkSampled s ≡ verdict.Passed → all (scaledAt (s .shape .axes) xs) (length xs) ≡ true →
         unload s xs ≡ left verdict.Passed (map (quotient (s .shape .axes)) xs)
-    unfolding unload checkSampled
+    unfolding unload
     unload-done h a = rw (e, h, a)

@@ -3,20 +3,19 @@
 use mathlib.Core.Path.{_≡_}
 use mathlib.Core.List.{List}
 use native.Mathlib.Omega.{arith}
-use lib.Dec.{leb, eqb}
+use lib.Dec.{leb}
 use lib.IntN.{ℤ}
 use lib.ListN.{length}
-use borrow.Author.Tests.{leb-true, le-leb, eqb-true, eq-eqb}
-use Rattle.refusals.specs.declared.Refusal.the-variants.{TableLength, Rate}
+use borrow.Author.Tests.{leb-true, le-leb}
+use Rattle.naturals.specs.FirstFailing.{Passes, firstFailing}
+use Rattle.naturals.proofs.FirstFailing.{first-none, none-first}
+use Rattle.refusals.specs.declared.Refusal.the-variants.{Rate}
 use Rattle.refusals.specs.declared.Verdict.the-variants.{Passed}
-use Rattle.refusals.specs.Checks.{unless}
 use Rattle.refusals.proofs.Passing.{first-passed, next-passed, test-passed}
 use Rattle.shapes.specs.declared.Shape.{Shape}
-use Rattle.shapes.specs.Shapes.{checkShape, pointsOf}
-use Rattle.shapes.proofs.Checked.{InRange, passed-in-range, in-range-passed}
-use Rattle.tables.specs.Tables.{firstFailing, checkTable, rateAt, checkRates}
-use Rattle.tables.specs.Steps.{Passes}
-use Rattle.tables.proofs.FirstFailing.{first-none, none-first}
+use Rattle.shapes.specs.Shapes.{checkShape, pointsOf, checkLength}
+use Rattle.shapes.proofs.Checked.{InRange, passed-in-range, in-range-passed, length-passed, length-passes}
+use Rattle.tables.specs.Tables.{checkTable, rateAt, checkRates}
 
 pub record Opens (s : Shape) (xs : List ℤ) : Type 0 where
   pub range : InRange s
@@ -26,17 +25,15 @@ module _ (s : Shape) (xs : List ℤ) where
   pub table-passed : checkTable s xs ≡ Passed → Opens s xs
   unfolding checkTable
   table-passed e =
-      let long = unless (eqb (length xs) (pointsOf s)) TableLength in
+      let long = checkLength s (length xs) in
       record {
         range = passed-in-range s (first-passed (checkShape s) long e);
-        long =
-            eqb-true (length xs) (pointsOf s)
-            (test-passed (eqb (length xs) (pointsOf s)) TableLength (next-passed (checkShape s) long e));
+        long = length-passed s (length xs) (next-passed (checkShape s) long e);
       }
 
   pub table-passes : Opens s xs → checkTable s xs ≡ Passed
   unfolding checkTable
-  table-passes o = rw (in-range-passed s (o .range), eq-eqb (length xs) (pointsOf s) (o .long))
+  table-passes o = rw (in-range-passed s (o .range), length-passes s (length xs) (o .long))
 
 module _ (xs : List ℤ) where
   pub rates-passed : checkRates xs ≡ Passed → Passes (rateAt xs) (length xs)

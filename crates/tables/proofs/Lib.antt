@@ -1,4 +1,3 @@
-pub mod FirstFailing
 pub mod Mapping
 pub mod Quotients
 pub mod Checking

@@ -3,21 +3,17 @@
 -- 2^d, and a byte with no bit set below d and none above is 0.
 -- Assumes nothing.
 use mathlib.Core.Path.{_≡_, refl, ap, ap₂, sym, _∙_}
-use mathlib.Core.Bool.{true, not}
+use mathlib.Core.Bool.{true}
 use mathlib.Core.List.{List, [], _∷_, map}
-use Prim.Native.Nat.{ℕ, zero, suc, _/_, _%_, _^_, _<_}
-use native.Mathlib.Nat.{zero-mul, mod-eq-of-lt}
-use native.Mathlib.Numerals.{one-add}
+use Prim.Native.Nat.{ℕ, suc, _%_, _^_, _<_}
 use native.Mathlib.Omega.{arith}
-use lib.Dec.{leb, ltb, eqb}
 use lib.IntN.{ℤ, pos, natAbs}
 use lib.ListN.{length, getD, length-map, List·getD-map}
-use lib.Pow.{pow-pos, mod-pow-add}
-use borrow.Author.Tests.{leb-true, le-leb, ltb-true, lt-ltb, eqb-true, eqb-false, eq-eqb, not-true}
+use lib.Pow.{pow-pos}
 use Rattle.naturals.specs.Test.{all}
-use Rattle.naturals.proofs.Cases.{eq-or-not}
 use Rattle.naturals.proofs.Tests.{all-at, all-from}
-use Rattle.refusals.specs.declared.Refusal.the-variants.{Contents, StrayBit, TableLength, StillForward}
+use Rattle.naturals.specs.FirstFailing.{Passes}
+use Rattle.refusals.specs.declared.Refusal.the-variants.{Contents, StillForward}
 use Rattle.refusals.specs.declared.Verdict.{Verdict}
 use Rattle.refusals.specs.declared.Verdict.the-variants as verdict
 use Rattle.refusals.specs.declared.Verdict.the-variants.{Passed}
@@ -27,18 +23,15 @@ use Rattle.integers.specs.Half.{isRate}
 use Rattle.hierarchy.specs.Turns.{valueAt}
 use Rattle.hierarchy.proofs.Values.{value-suc}
 use Rattle.shapes.specs.declared.Shape.{Shape}
-use Rattle.shapes.specs.Shapes.{checkShape, pointsOf}
-use Rattle.shapes.proofs.Checked.{passed-in-range, in-range-passed}
 use Rattle.states.specs.declared.State.{State}
 use Rattle.states.specs.declared.Answer.the-variants.{Done, Refused}
 use Rattle.states.specs.After.{After, after, kept, Left, left, leftBy}
-use Rattle.states.specs.States.{has, checkContents, checkState}
-use Rattle.states.proofs.Bits.{no-bits}
-use Rattle.tables.specs.Tables.{checkTable, rateAt, checkRates, times, load, quotient, isScaled, scaledAt, notForward, firstForward, unload}
-use Rattle.tables.specs.Steps.{Passes, checkSampled}
+use Rattle.states.specs.States.{checkState}
+use Rattle.states.proofs.Bits.{no-bits, no-axis}
+use Rattle.states.proofs.Checked.{Stands, state-passed, state-passes, axes-passed, axes-pass}
+use Rattle.tables.specs.Tables.{checkTable, rateAt, checkRates, times, load, quotient, isScaled, scaledAt, checkSampled, unload}
 use Rattle.tables.proofs.Answering.{load-done, unload-done}
 use Rattle.tables.proofs.Checking.{Opens, table-passed, table-passes, rates-passed, rates-pass}
-use Rattle.tables.proofs.FirstFailing.{first-none, none-first}
 use Rattle.tables.proofs.Quotients.{quotient-times, times-quotient, times-zero, quotient-zero, scaled-parts, is-scaled-rate}
 
 -- ---- lists
@@ -65,22 +58,15 @@ module _ (s : Shape) (xs : List ℤ) (opens : Opens s xs) (rates : Passes (rateA
   scaled : List ℤ
   scaled = map (times (s .axes)) xs
 
-  state-passes : checkState loaded (length scaled) ≡ Passed
-  unfolding checkState checkContents loaded scaled
-  state-passes =
-      rw (
-        in-range-passed s (opens .range),
-        lt-ltb 0 (2 ^ (s .axes)) (pow-pos (s .axes)),
-        eq-eqb (length scaled) (pointsOf s) (length-map xs (times (s .axes)) ∙ opens .long),
-      )
+  loaded-passes : checkState loaded (length scaled) ≡ Passed
+  unfolding loaded scaled
+  loaded-passes =
+      state-passes loaded (length scaled)
+      (record { range = opens .range; few = pow-pos (s .axes); long = length-map xs (times (s .axes)) ∙ opens .long })
 
   none-forward : checkSampled loaded ≡ Passed
-  unfolding checkSampled firstForward notForward loaded
-  none-forward =
-      rw (
-        first-none (notForward 0) (s .axes) (λ k h. ap not (no-bits k)),
-        le-leb (s .axes) (s .axes) (omega arith),
-      )
+  unfolding checkSampled loaded
+  none-forward = axes-pass true StillForward loaded (λ t h. no-bits t)
 
   all-scaled : all (scaledAt (s .axes) scaled) (length scaled) ≡ true
   unfolding scaledAt rateAt scaled
@@ -93,7 +79,7 @@ module _ (s : Shape) (xs : List ℤ) (opens : Opens s xs) (rates : Passes (rateA
   unload-loaded : unload loaded scaled ≡ left Passed xs
   unfolding loaded scaled
   unload-loaded =
-      unload-done loaded scaled state-passes none-forward all-scaled
+      unload-done loaded scaled loaded-passes none-forward all-scaled
       ∙ ap (left Passed) (map-back (quotient (s .axes)) (times (s .axes)) xs (λ p h. quotient-times (s .axes) (getD xs p (pos 0))))
 
 -- What is done has passed.
@@ -116,22 +102,6 @@ load-unload s xs st ys e =
 
 -- ---- unload, then load
 
--- A bit that is not set.
-clear : (n t : ℕ) → notForward n t ≡ true → n / 2 ^ t % 2 ≡ 0
-unfolding notForward has
-clear n t e =
-    let not-one : n / 2 ^ t % 2 ≡ 1 → ⊥ = eqb-false (n / 2 ^ t % 2) 1 (not-true (has n t) e) in
-    eq-or-not (n / 2 ^ t % 2) 0 (λ yes. yes) (λ no. absurd (not-one (omega arith)))
-
-low-bits : (n d : ℕ) → Passes (notForward n) d → n % 2 ^ d ≡ 0
-low-bits n zero each = omega arith
-low-bits n (suc d) each =
-    rw (← one-add d, mod-pow-add n 1 d, clear n d (each d (omega arith)), low-bits n d (λ k h. each k (omega arith)), zero-mul (2 ^ d))
-
--- A byte with no bit set.
-no-axis : (n d : ℕ) → Passes (notForward n) d → n < 2 ^ d → n ≡ 0
-no-axis n d each small = sym (mod-eq-of-lt small) ∙ low-bits n d each
-
 -- What is left passed is what the verdict was.
 left-passed : (xs : List ℤ) (v : Verdict) (res ys : List ℤ) → leftBy xs v res ≡ left Passed ys → v ≡ Passed
 left-passed xs verdict.Passed res ys e = refl
@@ -144,7 +114,7 @@ module _ (st : State) (xs : List ℤ) where
     pub scaled : all (scaledAt (st .shape .axes) xs) (length xs) ≡ true
 
   unloads : (ys : List ℤ) → unload st xs ≡ left Passed ys → Unloads
-  unfolding unload checkSampled
+  unfolding unload
   unloads ys e =
       let state = checkState st (length xs) in
       let accepts = all (scaledAt (st .shape .axes) xs) (length xs) in
@@ -157,38 +127,15 @@ module _ (st : State) (xs : List ℤ) where
       }
 
   module _ (u : Unloads) where
-    contents-passed : checkContents st (length xs) ≡ Passed
-    unfolding checkState
-    contents-passed = next-passed (checkShape (st .shape)) (checkContents st (length xs)) (u .state)
+    stands : Stands st (length xs)
+    stands = state-passed st (length xs) (u .state)
 
     opens : Opens (st .shape) (map (quotient (st .shape .axes)) xs)
-    unfolding checkState checkContents
-    opens =
-        let bits = unless (ltb (st .forward) (2 ^ (st .shape .axes))) StrayBit in
-        let n = pointsOf (st .shape) in
-        let long = unless (eqb (length xs) n) TableLength in
-        record {
-          range = passed-in-range (st .shape) (first-passed (checkShape (st .shape)) (checkContents st (length xs)) (u .state));
-          long =
-              length-map xs (quotient (st .shape .axes))
-              ∙ eqb-true (length xs) n (test-passed (eqb (length xs) n) TableLength (next-passed bits long contents-passed));
-        }
-
-    few-bits : st .forward < 2 ^ (st .shape .axes)
-    unfolding checkContents
-    few-bits =
-        let few = ltb (st .forward) (2 ^ (st .shape .axes)) in
-        let long = unless (eqb (length xs) (pointsOf (st .shape))) TableLength in
-        ltb-true (st .forward) (2 ^ (st .shape .axes)) (test-passed few StrayBit (first-passed (unless few StrayBit) long contents-passed))
+    opens = record { range = stands .range; long = length-map xs (quotient (st .shape .axes)) ∙ stands .long }
 
     no-forward : st .forward ≡ 0
-    unfolding checkSampled firstForward
-    no-forward =
-        let first = firstForward st in
-        no-axis (st .forward) (st .shape .axes)
-        (none-first (notForward (st .forward)) (st .shape .axes)
-        (leb-true (st .shape .axes) first (test-passed (leb (st .shape .axes) first) (StillForward (suc first)) (u .sampled))))
-        few-bits
+    unfolding checkSampled
+    no-forward = no-axis (st .forward) (st .shape .axes) (axes-passed true StillForward st (u .sampled)) (stands .few)
 
     value-parts : (p : ℕ) → p < length xs →
         let z = valueAt xs (suc p) in (natAbs z % 2 ^ (st .shape .axes) ≡ 0) × (isRate (quotient (st .shape .axes) z) ≡ true)

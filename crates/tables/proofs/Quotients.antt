@@ -16,12 +16,12 @@ use mir.ValLaws.{toZ-ofZ, toZ-pos}
 use borrow.Author.Tests.{eq-eqb, ne-eqb, eqb-true}
 use Rattle.naturals.proofs.Cases.{eq-or-not, le-or-lt}
 use Rattle.naturals.proofs.Tests.{and-left, and-right}
+use Rattle.naturals.proofs.Shifts.{one-shifted}
 use Rattle.integers.specs.Half.{isRate}
 use Rattle.integers.specs.Floor.{floor}
 use Rattle.integers.proofs.Floors.{shift-floor, floor-unique}
 use Rattle.integers.proofs.Products.{size-times}
 use Rattle.integers.proofs.Sizes.{small-fits, rate-size}
-use Rattle.states.proofs.Bits.{one-shifted}
 use Rattle.tables.specs.Tables.{times, quotient, isScaled}
 
 -- The code's operations: the unit that a one is shifted to, and the shift of a value.

@@ -1,38 +1,30 @@
 -- What load, adopt and unload answer, and what they leave in the table (document 01, "Parents and turns" and refusals).
 -- Assumes nothing.
-use mathlib.Core.Bool.{Bool, not, _&&_}
+use mathlib.Core.Bool.{Bool, true, _&&_}
 use mathlib.Core.List.{List, map}
-use Prim.Native.Nat.{ℕ, zero, suc, _-_, _%_, _^_}
-use lib.Dec.{leb, ltb, eqb}
+use Prim.Native.Nat.{ℕ, suc, _-_, _%_, _^_}
+use lib.Dec.{leb, eqb}
 use lib.IntN.{ℤ, pos, natAbs, _*ℤ_}
 use lib.ListN.{length}
-use Rattle.naturals.specs.Test.{if_then_else_, all}
-use Rattle.refusals.specs.declared.Refusal.the-variants.{TableLength, Rate, Contents, StillForward}
+use Rattle.naturals.specs.Test.{all}
+use Rattle.naturals.specs.FirstFailing.{firstFailing}
+use Rattle.refusals.specs.declared.Refusal.the-variants.{Rate, Contents, StillForward}
 use Rattle.refusals.specs.declared.Verdict.{Verdict}
 use Rattle.refusals.specs.Checks.{unless, _andThen_, answer}
-use Rattle.integers.specs.Half.{inLimit, isRate}
+use Rattle.integers.specs.Half.{contentAt, isRate}
 use Rattle.integers.specs.Floor.{floor}
 use Rattle.hierarchy.specs.Turns.{valueAt}
 use Rattle.shapes.specs.declared.Shape.{Shape}
-use Rattle.shapes.specs.Shapes.{checkShape, pointsOf}
+use Rattle.shapes.specs.Shapes.{checkShape, checkLength}
 use Rattle.states.specs.declared.State.{State}
 use Rattle.states.specs.declared.Answer.{Answer}
 use Rattle.states.specs.declared.Answer.the-variants.{Done, Refused}
 use Rattle.states.specs.After.{After, after, kept, Left, leftBy}
-use Rattle.states.specs.States.{has, checkState}
-
--- The first failing place k below m, or m where there is none, taken one place further.
-abbrev pub further : ℕ → ℕ → Bool → ℕ
-further k m pass = if ltb k m then k else if pass then suc m else m
-
--- The smallest k below m at which a test fails, and m where it passes everywhere.
-unfoldable pub firstFailing : (ℕ → Bool) → ℕ → ℕ
-firstFailing f zero = zero
-firstFailing f (suc m) = further (firstFailing f m) m (f m)
+use Rattle.states.specs.States.{checkAxes, checkState}
 
 -- A table handed in with a shape: refused with 1, 2 or 3.
 unfoldable pub checkTable : Shape → List ℤ → Verdict
-checkTable s xs = checkShape s andThen unless (eqb (length xs) (pointsOf s)) TableLength
+checkTable s xs = checkShape s andThen checkLength s (length xs)
 
 -- The value at point p is a rate.
 unfoldable pub rateAt : List ℤ → ℕ → Bool
@@ -51,10 +43,6 @@ unfoldable pub load : Shape → List ℤ → After
 load s xs =
     answer (kept xs) (checkTable s xs andThen checkRates xs)
     (after (Done (record { shape = s; forward = 0 })) (map (times (s .axes)) xs))
-
--- The value at point p is within the content limit.
-unfoldable pub contentAt : List ℤ → ℕ → Bool
-contentAt xs p = inLimit (valueAt xs (suc p))
 
 -- The state of an adopted table: all axes forward.
 abbrev pub adopted : Shape → State
@@ -77,18 +65,15 @@ isScaled d z = eqb (natAbs z % 2 ^ d) 0 && isRate (quotient d z)
 unfoldable pub scaledAt : ℕ → List ℤ → ℕ → Bool
 scaledAt d xs p = isScaled d (valueAt xs (suc p))
 
--- Place t is not forward; the place of the first axis that is forward, or d.
-unfoldable pub notForward : ℕ → ℕ → Bool
-notForward byte t = not (has byte t)
-
-unfoldable pub firstForward : State → ℕ
-firstForward s = firstFailing (notForward (s .forward)) (s .shape .axes)
+-- No axis is forward, else refused with 18 and the first that is.
+unfoldable pub checkSampled : State → Verdict
+checkSampled s = checkAxes true StillForward s
 
 -- Unload: a table with no axis forward becomes rates, each value divided by 2^d. Refused with 1, 2, 14, 3, 18 (first forward axis) or 10.
 unfoldable pub unload : State → List ℤ → Left
 unload s xs =
     leftBy xs
     (checkState s (length xs)
-    andThen unless (leb (s .shape .axes) (firstForward s)) (StillForward (suc (firstForward s)))
+    andThen checkSampled s
     andThen unless (all (scaledAt (s .shape .axes) xs) (length xs)) Contents)
     (map (quotient (s .shape .axes)) xs)

@@ -10,10 +10,10 @@ ghost use mathlib.Core.Path.{_≡_};
 ghost use Prim.Native.Nat.{_≤_, _-_, _^_};
 ghost use lib.ListN.{length};
 ghost use Rattle.naturals.specs.Test.{all};
+ghost use Rattle.naturals.specs.FirstFailing.{Passes};
 ghost use Rattle.integers.specs.Half.{isRate};
 ghost use Rattle.states.specs.After.{after, left};
-ghost use Rattle.tables.specs.Tables.{checkTable, rateAt, checkRates, times, load, contentAt, adopt, quotient, isScaled, scaledAt, unload};
-ghost use Rattle.tables.specs.Steps.{Passes, checkSampled};
+ghost use Rattle.tables.specs.Tables.{checkTable, rateAt, checkRates, times, load, adopt, quotient, isScaled, scaledAt, checkSampled, unload};
 
 // Refused with 1, 2 or 3.
 fn check_table(shape: Shape, table: &[i64]) -> Verdict
@@ -22,10 +22,7 @@ fn check_table(shape: Shape, table: &[i64]) -> Verdict
     if let Verdict::Refused(r) = shapes::check_shape(shape) {
         return Verdict::Refused(r);
     }
-    if table.len() as u64 != shapes::points_of(shape) {
-        return Verdict::Refused(Refusal::TableLength);
-    }
-    Verdict::Passed
+    shapes::check_length(shape, table.len())
 }
 
 // All values are rates, else refused with 4 and the first place that holds none.
@@ -79,20 +76,6 @@ pub fn load(shape: Shape, table: &mut [i64]) -> Answer
     })
 }
 
-// All values are within the content limit.
-pub fn all_in_limit(table: &[i64]) -> bool
-    ensures { λ r. ⌜ r ≡ all (contentAt (now (table .entry))) (length (now (table .entry))) ⌝ }
-{
-    let mut p: usize = 0;
-    while p < table.len() {
-        if !integers::in_limit(table[p]) {
-            return false;
-        }
-        p += 1;
-    }
-    true
-}
-
 // The byte with a bit for each axis.
 fn all_forward(axes: u32) -> u8
     requires { ⌜ axes ≤ 8 ⌝ }
@@ -109,7 +92,7 @@ pub fn adopt(shape: Shape, table: &[i64]) -> Answer
     if let Verdict::Refused(r) = check_table(shape, table) {
         return Answer::Refused(r);
     }
-    if !all_in_limit(table) {
+    if !integers::all_in_limit(table) {
         return Answer::Refused(Refusal::Contents);
     }
     Answer::Done(State {
@@ -124,14 +107,9 @@ fn check_sampled(state: State) -> Verdict
     ensures { λ r. ⌜ r ≡ checkSampled state ⌝ }
 {
     let shape = state.shape;
-    let axes = shape.axes;
-    let forward = state.forward;
-    let mut t: u32 = 0;
-    while t < axes {
-        if states::has_axis(forward, t) {
-            return Verdict::Refused(Refusal::StillForward(t + 1));
-        }
-        t += 1;
+    let first = states::first_axis(state, true);
+    if first < shape.axes {
+        return Verdict::Refused(Refusal::StillForward(first + 1));
     }
     Verdict::Passed
 }

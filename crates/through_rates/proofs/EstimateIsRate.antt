@@ -2,21 +2,23 @@
 -- a point's coordinates are at most the unit and the coefficients of accepted rates are within the content limit; and the surface passes through the rate.
 -- Assumes nothing.
 use mathlib.Core.Path.{_≡_, refl, ap, sym, _∙_, fun-ext}
-use mathlib.Core.Bool.{true}
+use mathlib.Core.Bool.{true, false}
 use mathlib.Core.List.{List, [], _∷_, _++_}
-use Prim.Native.Nat.{ℕ, zero, suc, _-_, _*_, _^_, _≤_, _<_}
+use Prim.Native.Nat.{ℕ, zero, suc, _*_, _^_, _≤_, _<_}
 use native.Mathlib.Nat.{mul-le-mul-right, zero-mul, zero-div, div-le-of-le-mul}
 use native.Mathlib.Omega.{arith}
 use lib.IntN.{ℤ, pos, natAbs}
 use lib.ListN.{length, getD, length-append, List·getD-append, List·getD-eq-default}
 use lib.Pow.{ones-lt}
 use lib.Seq.{getD-append-seam}
-use borrow.Author.Tests.{le-leb, lt-ltb, eq-eqb}
+use borrow.Author.Tests.{le-leb, eq-eqb}
 use Rattle.naturals.specs.Test.{all}
 use Rattle.naturals.proofs.Cases.{le-or-lt}
 use Rattle.naturals.proofs.Tests.{all-from}
+use Rattle.naturals.proofs.FirstFailing.{first-none}
+use Rattle.refusals.specs.declared.Refusal.the-variants.{StillSampled}
 use Rattle.refusals.specs.declared.Verdict.the-variants.{Passed}
-use Rattle.integers.specs.Half.{inLimit}
+use Rattle.integers.specs.Half.{inLimit, contentAt}
 use Rattle.integers.proofs.Sizes.{rate-size}
 use Rattle.numbering.specs.Point.{at}
 use Rattle.hierarchy.specs.Turns.{valueAt}
@@ -32,10 +34,10 @@ use Rattle.surfaces.specs.Weights.{unit, isCoordinate, coordinate}
 use Rattle.surfaces.specs.Surface.{coordinatesOf, estimateAt}
 use Rattle.surfaces.proofs.Interpolates.{estimate-through}
 use Rattle.states.specs.declared.Answer.the-variants.{Done}
-use Rattle.states.specs.States.{has, checkContents, checkState}
+use Rattle.states.specs.States.{checkState}
 use Rattle.states.proofs.Bits.{all-bits-in}
-use Rattle.tables.specs.Tables.{times, contentAt, adopted, adopt}
-use Rattle.tables.proofs.FirstFailing.{first-none}
+use Rattle.states.proofs.Checked.{state-passes, axes-pass}
+use Rattle.tables.specs.Tables.{times, adopted, adopt}
 use Rattle.tables.proofs.Checking.{table-passes}
 use Rattle.tables.proofs.Answering.{adopt-done}
 use Rattle.whole.specs.Accepted.{Accepted}
@@ -43,7 +45,7 @@ use Rattle.whole.specs.Whole.{coefficientsOf}
 use Rattle.whole.proofs.Inverse.{coefficients-length}
 use Rattle.whole.proofs.AnswersDown.{coefficient-at}
 use Rattle.estimates.specs.declared.Estimated.the-variants.{Value}
-use Rattle.estimates.specs.Estimates.{firstSampled, checkForward, insideAt, firstOutside, checkCoordinates, estimate}
+use Rattle.estimates.specs.Estimates.{checkForward, insideAt, firstOutside, checkCoordinates, estimate}
 use Rattle.estimates.proofs.Answering.{estimated}
 use Rattle.through_rates.specs.Coordinates.{firstValues, coordinateList}
 
@@ -117,22 +119,14 @@ module _ (s : Shape) (rs : List ℤ) (a : Accepted s rs) where
   range : InRange s
   range = passed-in-range s (a .shape)
 
-  state-passes : checkState (adopted s) (length (coefficientsOf s rs)) ≡ Passed
-  unfolding checkState checkContents
-  state-passes =
-      rw (
-        a .shape,
-        lt-ltb (2 ^ (s .axes) - 1) (2 ^ (s .axes)) (ones-lt (s .axes)),
-        eq-eqb (length (coefficientsOf s rs)) (pointsOf s) (coefficients-length s rs),
-      )
+  adopted-passes : checkState (adopted s) (length (coefficientsOf s rs)) ≡ Passed
+  adopted-passes =
+      state-passes (adopted s) (length (coefficientsOf s rs))
+      (record { range = range; few = ones-lt (s .axes); long = coefficients-length s rs })
 
   forward-passes : checkForward (adopted s) ≡ Passed
-  unfolding checkForward firstSampled
-  forward-passes =
-      rw (
-        first-none (has (2 ^ (s .axes) - 1)) (s .axes) (all-bits-in (s .axes)),
-        le-leb (s .axes) (s .axes) (omega arith),
-      )
+  unfolding checkForward
+  forward-passes = axes-pass false StillSampled (adopted s) (all-bits-in (s .axes))
 
   rate-small : (p : ℕ) → natAbs (valueAt rs p) ≤ 2 ^ 31
   rate-small zero = rw (value-zero rs) (omega arith)
@@ -142,7 +136,7 @@ module _ (s : Shape) (rs : List ℤ) (a : Accepted s rs) where
       (λ h. rw (value-suc rs p) (rate-size (getD rs p (pos 0)) (a .each p h)))
 
   contents-pass : all (contentAt (coefficientsOf s rs)) (length (coefficientsOf s rs)) ≡ true
-  unfolding contentAt
+  unfolding contentAt valueAt
   contents-pass =
       all-from (contentAt (coefficientsOf s rs)) (length (coefficientsOf s rs))
       (λ p h.
@@ -161,7 +155,7 @@ module _ (s : Shape) (rs : List ℤ) (a : Accepted s rs) where
       estimate (adopted s) (coefficientsOf s rs) (coordinateList s q) ≡ Value (times (s .axes) (getD rs q (pos 0)))
   unfolding times
   estimate-is-rate q h =
-      estimated (adopted s) (coefficientsOf s rs) (coordinateList s q) state-passes forward-passes (coordinates-pass s q h) contents-pass
+      estimated (adopted s) (coefficientsOf s rs) (coordinateList s q) adopted-passes forward-passes (coordinates-pass s q h) contents-pass
       ∙ ap Value
       (ap (estimateAt s (valueAt (coefficientsOf s rs))) (list-holds s q)
       ∙ estimate-through s (range .low) (omega (arith, range)) (valueAt (coefficientsOf s rs)) (valueAt rs) (value-zero rs)

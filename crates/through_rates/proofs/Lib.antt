@@ -1,3 +1,4 @@
 pub mod ThroughRates
 pub mod EstimateIsRate
 pub mod OneLine
+pub mod LineValues

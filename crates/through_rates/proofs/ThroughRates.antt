@@ -1,5 +1,6 @@
 -- In the words of the calls: the surface of the coefficients of accepted rates passes through every rate, no other coefficients have such a surface, and after a
--- forward turn the sums on the lines along its axis are the values before it. From the same of tables as functions, which the lists of the calls hold.
+-- forward turn the sums on the lines along its axis are the values before it, and those of no other values on a line. From the same of tables as functions, which
+-- the lists of the calls hold.
 -- Assumes nothing.
 use mathlib.Core.Path.{_≡_, ap, sym, _∙_}
 use mathlib.Core.Bool.{true, _&&_}
@@ -30,10 +31,12 @@ use Rattle.turns.specs.Turns.{isAccepted, forwardTurn}
 use Rattle.turns.proofs.Checking.{place-of}
 use Rattle.turns.proofs.Undoing.{turned-holds}
 use Rattle.turns.proofs.BothWays.{went-forward}
+use Rattle.turns.proofs.Lines.{OnLine, along}
 use Rattle.whole.specs.Accepted.{Accepted}
 use Rattle.whole.specs.Whole.{coefficientsOf}
 use Rattle.whole.proofs.Inverse.{coefficients-length}
 use Rattle.whole.proofs.AnswersDown.{coefficient-at}
+use Rattle.through_rates.proofs.LineValues.{line-determines}
 
 module _ (s : Shape) (rs : List ℤ) (a : Accepted s rs) where
   range : InRange s
@@ -95,3 +98,14 @@ turn-on-lines s next xs ys axis e q h =
     ap (λ (f : ℕ → ℤ). lineSum (s .shape) (axis - 1) f q)
     (ap valueAt (sym (went .2)) ∙ turned-holds (s .shape) (axis - 1) xs (may .long))
     ∙ line-through (s .shape) (omega (arith, may .range)) (axis - 1) (place-of may) (valueAt xs) (value-zero xs) (even-sums (s .shape) (axis - 1) xs (went .0 .accepted)) q h
+
+-- No other values on the line of a point have these sums.
+pub only-values-on-line : (s next : State) (xs ys : List ℤ) (axis : ℕ) → forwardTurn s xs axis ≡ after (Done next) ys → (zs : List ℤ) (p : ℕ) →
+    ((q : ℕ) → q < pointsOf (s .shape) → OnLine (s .shape) (axis - 1) p q →
+    lineSum (s .shape) (axis - 1) (valueAt zs) q ≡ valueAt xs (suc q) *ℤ pos unit) →
+    (q : ℕ) → q < pointsOf (s .shape) → OnLine (s .shape) (axis - 1) p q → valueAt zs (suc q) ≡ valueAt ys (suc q)
+only-values-on-line s next xs ys axis e zs p sums q h line =
+    let may = went-forward s next xs ys axis e .0 .may in
+    let t = axis - 1 in
+    line-determines (s .shape) (omega (arith, may .range)) t (place-of may) (valueAt zs) (valueAt ys) q h
+    (λ r lt beside. sums r lt (along (s .shape) t p q r line beside) ∙ sym (turn-on-lines s next xs ys axis e r lt))

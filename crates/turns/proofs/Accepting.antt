@@ -11,13 +11,12 @@ use lib.ListN.{length}
 use Rattle.naturals.specs.Test.{all}
 use Rattle.naturals.proofs.Cases.{le-or-lt, true-or-false}
 use Rattle.naturals.proofs.Tests.{and-left, all-at, all-from, all-fails}
-use Rattle.integers.specs.Half.{inLimit}
+use Rattle.integers.specs.Half.{inLimit, contentAt}
 use Rattle.hierarchy.specs.Turns.{valueAt, acceptedAt, accepted}
 use Rattle.hierarchy.proofs.Values.{value-zero, value-past}
 use Rattle.shapes.specs.Shapes.{pointsOf}
 use Rattle.shapes.specs.declared.Shape.{Shape}
 use Rattle.grids.specs.Grids.{neighbour}
-use Rattle.tables.specs.Tables.{contentAt}
 use Rattle.turns.specs.Steps.{Limited, movesOn}
 use Rattle.turns.proofs.AtPoint.{zero-in-limit}
 
@@ -32,11 +31,11 @@ code-limited xs limited (suc p) =
     (λ inside. limited p inside)
 
 pub limited-passes : (xs : List ℤ) → Limited xs (length xs) → all (contentAt xs) (length xs) ≡ true
-unfolding contentAt
+unfolding contentAt valueAt
 limited-passes xs limited = all-from (contentAt xs) (length xs) limited
 
 pub passed-limited : (xs : List ℤ) → all (contentAt xs) (length xs) ≡ true → Limited xs (length xs)
-unfolding contentAt
+unfolding contentAt valueAt
 passed-limited xs e = all-at (contentAt xs) (length xs) e
 
 -- ---- all points

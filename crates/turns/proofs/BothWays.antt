@@ -1,5 +1,6 @@
 -- Forward then back, and back then forward, give the table and the state that stood before, wherever the first turn was not refused. True since
--- on lists of values forward and back undo each other, and the bit of the axis is set by the one and cleared by the other.
+-- on lists of values forward and back undo each other, and the bit of the axis is set by the one and cleared by the other. So back leaves the one table that an
+-- accepted forward turn takes to the present one, and is refused with 10 where there is none.
 -- Assumes nothing.
 use mathlib.Core.Path.{_≡_, refl, ap, sym, _∙_}
 use mathlib.Core.Bool.{true, false, not}
@@ -23,7 +24,7 @@ use Rattle.states.specs.declared.Answer.the-variants.{Done, Refused}
 use Rattle.states.specs.After.{After, after, kept}
 use Rattle.turns.specs.Turns.{turnedTable, formerTable, isAccepted, checkTurn, forwardTurn, backTurn}
 use Rattle.turns.proofs.Checking.{MayTurn, place-of, turn-passed, may-turn}
-use Rattle.turns.proofs.Undoing.{turned-length, former-length, turned-of-former, former-of-turned, LeadsTo, none-leads, refused-where-none}
+use Rattle.turns.proofs.Undoing.{turned-length, former-length, turned-of-former, former-of-turned, LeadsTo, only-former, leads-former, none-leads, refused-where-none}
 use Rattle.turns.proofs.Answering.{back-done, back-refused}
 
 -- A call that was done passed its checks, and left what its definition says.
@@ -156,3 +157,10 @@ pub none-leads-refused : (s : State) (xs : List ℤ) (axis : ℕ) → checkTurn 
 none-leads-refused s xs axis passed there none =
     back-refused s xs axis passed there
     (refused-where-none (s .shape) (axis - 1) xs (turn-passed s (length xs) axis passed .long) none)
+
+-- Where there is such a table, back leaves it, with the axis cleared.
+pub back-gives : (s : State) (xs ys : List ℤ) (axis : ℕ) → checkTurn s (length xs) axis ≡ verdict.Passed → has (s .forward) (axis - 1) ≡ true →
+    LeadsTo (s .shape) (axis - 1) ys xs → backTurn s xs axis ≡ after (Done (cleared s (axis - 1))) ys
+back-gives s xs ys axis passed there l =
+    back-done s xs axis passed there (leads-former (s .shape) (axis - 1) ys xs l)
+    ∙ ap (after (Done (cleared s (axis - 1)))) (sym (only-former (s .shape) (axis - 1) ys xs l))

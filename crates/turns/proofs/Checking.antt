@@ -4,16 +4,14 @@
 use mathlib.Core.Path.{_≡_}
 use Prim.Native.Nat.{ℕ, _-_, _^_, _≤_, _<_}
 use native.Mathlib.Omega.{arith}
-use lib.Dec.{ltb, eqb}
-use borrow.Author.Tests.{ltb-true, lt-ltb, eqb-true, eq-eqb, le-leb}
-use Rattle.refusals.specs.declared.Refusal.the-variants.{StrayBit, TableLength}
+use borrow.Author.Tests.{le-leb}
 use Rattle.refusals.specs.declared.Verdict.the-variants.{Passed}
-use Rattle.refusals.specs.Checks.{unless, _andThen_}
-use Rattle.refusals.proofs.Passing.{first-passed, next-passed, test-passed}
-use Rattle.shapes.specs.Shapes.{checkShape, checkAxis, pointsOf}
-use Rattle.shapes.proofs.Checked.{InRange, passed-in-range, in-range-passed, axis-in-range}
+use Rattle.refusals.proofs.Passing.{first-passed, next-passed}
+use Rattle.shapes.specs.Shapes.{checkAxis, pointsOf}
+use Rattle.shapes.proofs.Checked.{InRange, axis-in-range}
 use Rattle.states.specs.declared.State.{State}
-use Rattle.states.specs.States.{checkContents, checkState}
+use Rattle.states.specs.States.{checkState}
+use Rattle.states.proofs.Checked.{state-passed, state-passes}
 use Rattle.turns.specs.Turns.{checkTurn}
 
 pub record MayTurn (s : State) (places axis : ℕ) : Type 0 where
@@ -28,31 +26,23 @@ pub place-of : {s : State} {places axis : ℕ} → MayTurn s places axis → axi
 place-of m = omega (arith, m .first, m .last)
 
 pub turn-passed : (s : State) (places axis : ℕ) → checkTurn s places axis ≡ Passed → MayTurn s places axis
-unfolding checkTurn checkState checkContents
+unfolding checkTurn
 turn-passed s places axis e =
-    let axes = s .shape .axes in
-    let bits = unless (ltb (s .forward) (2 ^ axes)) StrayBit in
-    let long = unless (eqb places (pointsOf (s .shape))) TableLength in
-    let state = first-passed (checkShape (s .shape) andThen (bits andThen long)) (checkAxis (s .shape) axis) e in
-    let contents = next-passed (checkShape (s .shape)) (bits andThen long) state in
-    let one = axis-in-range (s .shape) axis (next-passed (checkShape (s .shape) andThen (bits andThen long)) (checkAxis (s .shape) axis) e) in
+    let stands = state-passed s places (first-passed (checkState s places) (checkAxis (s .shape) axis) e) in
+    let one = axis-in-range (s .shape) axis (next-passed (checkState s places) (checkAxis (s .shape) axis) e) in
     record {
-      range = passed-in-range (s .shape) (first-passed (checkShape (s .shape)) (bits andThen long) state);
-      few = ltb-true (s .forward) (2 ^ axes) (test-passed (ltb (s .forward) (2 ^ axes)) StrayBit (first-passed bits long contents));
-      long =
-          eqb-true places (pointsOf (s .shape))
-          (test-passed (eqb places (pointsOf (s .shape))) TableLength (next-passed bits long contents));
+      range = stands .range;
+      few = stands .few;
+      long = stands .long;
       first = one .0;
       last = one .1;
     }
 
 pub may-turn : (s : State) (places axis : ℕ) → MayTurn s places axis → checkTurn s places axis ≡ Passed
-unfolding checkTurn checkState checkContents checkAxis
+unfolding checkTurn checkAxis
 may-turn s places axis m =
     rw (
-      in-range-passed (s .shape) (m .range),
-      lt-ltb (s .forward) (2 ^ (s .shape .axes)) (m .few),
-      eq-eqb places (pointsOf (s .shape)) (m .long),
+      state-passes s places (record { range = m .range; few = m .few; long = m .long }),
       le-leb 1 axis (m .first),
       le-leb axis (s .shape .axes) (m .last),
     )

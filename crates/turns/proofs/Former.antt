@@ -12,7 +12,7 @@ use lib.ListN.{length}
 use Rattle.naturals.specs.Test.{all}
 use Rattle.naturals.proofs.Cases.{eq-or-not, le-or-lt, true-or-false}
 use Rattle.naturals.proofs.Tests.{and-right, all-at, all-from, all-fails}
-use Rattle.integers.specs.Half.{half, isEven, inLimit}
+use Rattle.integers.specs.Half.{half, isEven, inLimit, contentAt}
 use Rattle.hierarchy.specs.Grid.{Still}
 use Rattle.hierarchy.specs.Turns.{valueAt, valuesOf, sumOn, forward, acceptedAt, accepted, backward}
 use Rattle.hierarchy.proofs.Still.{forward-still}
@@ -24,7 +24,6 @@ use Rattle.shapes.specs.Shapes.{pointsOf}
 use Rattle.shapes.specs.declared.Shape.{Shape}
 use Rattle.grids.specs.Grids.{neighbour, depth, height}
 use Rattle.grids.proofs.Instance.{grid, shallow}
-use Rattle.tables.specs.Tables.{contentAt}
 use Rattle.turns.specs.Turns.{formerTable}
 use Rattle.turns.specs.Steps.{Limited, movesOn, between, LoweredBetween, raised, raisesOn, RaisedFrom}
 use Rattle.turns.proofs.Accepting.{limited-passes}

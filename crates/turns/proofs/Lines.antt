@@ -36,10 +36,14 @@ pub record Beside (s : Shape) (t p code : ℕ) : Type 0 where
   pub below : point < pointsOf s
   pub line : OnLine s t p point
 
-itself : (s : Shape) (t p : ℕ) → OnLine s t p p
+-- The points of a line lie on one line, from whichever it is looked at.
+pub itself : (s : Shape) (t p : ℕ) → OnLine s t p p
 itself s t p = record { levels = λ u ne. refl; indices = λ u ne. refl }
 
-along : (s : Shape) (t p q r : ℕ) → OnLine s t p q → OnLine s t q r → OnLine s t p r
+pub other-way : (s : Shape) (t p q : ℕ) → OnLine s t p q → OnLine s t q p
+other-way s t p q a = record { levels = λ u ne. sym (a .levels u ne); indices = λ u ne. sym (a .indices u ne) }
+
+pub along : (s : Shape) (t p q r : ℕ) → OnLine s t p q → OnLine s t q r → OnLine s t p r
 along s t p q r a b =
     record { levels = λ u ne. b .levels u ne ∙ a .levels u ne; indices = λ u ne. b .indices u ne ∙ a .indices u ne }
 

@@ -18,9 +18,9 @@ use Rattle.numbering.proofs.Numbering.{points-is, start-mono, level-zero, level
 use Rattle.numbering.proofs.Subspaces.{first-is, number-behind-first}
 use Rattle.shapes.specs.Shapes.{sparse, pointsOf}
 use Rattle.grids.proofs.Sparse.{points-sparse}
+use Rattle.vectors.specs.Steps.{VectorIn, NextVector, PreviousVector}
 use Rattle.points.specs.Points.{eight}
 use Rattle.points.proofs.Eight.{eight-length, eight-whole}
-use Rattle.vectors.specs.Vectors.{VectorIn, NextVector, PreviousVector}
 
 -- A level vector with its sum and its first number.
 pub record Standing (d sum : ℕ) (ls : List ℕ) (start : ℕ) : Type 0 where

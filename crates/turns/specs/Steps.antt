@@ -14,7 +14,7 @@ use Rattle.hierarchy.specs.Work.{mixed}
 use Rattle.shapes.specs.declared.Shape.{Shape}
 use Rattle.shapes.specs.Shapes.{pointsOf}
 use Rattle.grids.specs.Grids.{neighbour}
-use Rattle.vectors.specs.Vectors.{VectorIn}
+use Rattle.vectors.specs.Steps.{VectorIn}
 
 -- Place t of a shape within the limits, and a table of its points.
 pub record OnAxis (sh : Shape) (t : ℕ) (xs : List ℤ) : Type 0 where

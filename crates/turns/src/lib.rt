@@ -11,7 +11,7 @@ ghost use lib.ListN.{length};
 ghost use Rattle.hierarchy.specs.Turns.{valueAt};
 ghost use Rattle.shapes.specs.Shapes.{pointsOf};
 ghost use Rattle.states.specs.After.{after};
-ghost use Rattle.neighbours.specs.Subspaces.{sparseOf, Seen, Coarser};
+ghost use Rattle.neighbours.specs.Steps.{sparseOf, Seen, Coarser};
 ghost use Rattle.turns.specs.Turns.{checkTurn, forwardTurn, backTurn};
 ghost use Rattle.turns.specs.Steps.{OnAxis, Limited, VectorOf, LoweredBetween, RaisedBetween, RaisedFrom};
 
@@ -206,7 +206,7 @@ pub fn hierarchize(state: State, table: &mut [i64], axis: u32) -> Answer
         level: shape.level,
         place: place, // forward on this axis
     };
-    if !tables::all_in_limit(table) {
+    if !integers::all_in_limit(table) {
         return Answer::Refused(Refusal::Contents);
     }
     let count = table.len() as u64;
@@ -235,7 +235,7 @@ pub fn dehierarchize(state: State, table: &mut [i64], axis: u32) -> Answer
         level: shape.level,
         place: place, // back on this axis
     };
-    if !tables::all_in_limit(table) {
+    if !integers::all_in_limit(table) {
         return Answer::Refused(Refusal::Contents);
     }
     let raised = raise(line, table, 0);

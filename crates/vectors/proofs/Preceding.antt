@@ -17,9 +17,8 @@ use Rattle.numbering.specs.Number.{rank, firstOf}
 use Rattle.numbering.specs.Point.{at}
 use Rattle.numbering.proofs.Numbering.{start-is, start-suc}
 use Rattle.numbering.proofs.Succession.{NextLevels, next-sum, next-rank, rank-first, sum-last, rank-last}
-use Rattle.successor.proofs.Onward.{first, first-zeros}
-use Rattle.vectors.specs.Vectors.{VectorIn, PreviousVector}
-use Rattle.vectors.proofs.Following.{here-first}
+use Rattle.vectors.specs.Steps.{VectorIn, PreviousVector}
+use Rattle.vectors.proofs.Following.{first, first-zeros, here-first}
 
 pub record Flat (d : ℕ) (ls : List ℕ) (k : ℕ) : Type 0 where
   pub some : 1 ≤ k

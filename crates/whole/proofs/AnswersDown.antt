@@ -17,7 +17,7 @@ use Rattle.refusals.specs.declared.Verdict.{Verdict}
 use Rattle.refusals.specs.declared.Verdict.the-variants.{Passed}
 use Rattle.refusals.specs.declared.Verdict.the-variants as verdict
 use Rattle.refusals.specs.Checks.{unless}
-use Rattle.integers.specs.Half.{inLimit}
+use Rattle.integers.specs.Half.{inLimit, contentAt}
 use Rattle.hierarchy.specs.Turns.{valueAt}
 use Rattle.hierarchy.specs.Sets.{tableOf, everyAxis}
 use Rattle.hierarchy.proofs.Bounds.{in-limit}
@@ -29,7 +29,7 @@ use Rattle.grids.specs.Grids.{neighbour}
 use Rattle.states.specs.declared.State.{State}
 use Rattle.states.specs.declared.Answer.the-variants.{Done, Refused}
 use Rattle.states.specs.After.{Left, left, leftBy}
-use Rattle.tables.specs.Tables.{checkTable, contentAt, adopt, quotient, scaledAt, unload}
+use Rattle.tables.specs.Tables.{checkTable, adopt, quotient, scaledAt, unload}
 use Rattle.tables.proofs.Answering.{adopt-unchecked, adopt-refused, adopt-done}
 use Rattle.tables.proofs.Checking.{Opens, table-passed}
 use Rattle.runs.proofs.Calls.{stateOf}
@@ -75,7 +75,7 @@ module _ (s : Shape) (xs : List ℤ) where
 
   -- A table with rates is within the limit.
   content-means : (ys : List ℤ) (p : ℕ) → contentAt ys p ≡ inLimit (valueAt ys (suc p))
-  unfolding contentAt
+  unfolding contentAt valueAt
   content-means ys p = refl
 
   limited : Opens s xs → hasRates s xs ≡ true → all (contentAt xs) (length xs) ≡ true

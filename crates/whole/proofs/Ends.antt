@@ -10,11 +10,12 @@ use lib.Dec.{eqb}
 use lib.IntN.{ℤ, natAbs}
 use lib.ListN.{length}
 use lib.Pow.{ones-lt}
-use borrow.Author.Tests.{eqb-true, eq-eqb, le-leb, lt-ltb}
+use borrow.Author.Tests.{eqb-true, eq-eqb}
 use Rattle.naturals.specs.Test.{all}
 use Rattle.naturals.proofs.Cases.{le-or-lt, true-or-false}
 use Rattle.naturals.proofs.Tests.{and-left, and-right, all-at, all-from}
-use Rattle.refusals.specs.declared.Refusal.the-variants.{Contents}
+use Rattle.refusals.specs.declared.Refusal.the-variants.{Contents, StillForward}
+use Rattle.refusals.specs.declared.Verdict.the-variants.{Passed}
 use Rattle.refusals.specs.Checks.{unless}
 use Rattle.integers.specs.Half.{isRate}
 use Rattle.hierarchy.specs.Turns.{valueAt, valuesOf}
@@ -23,13 +24,13 @@ use Rattle.hierarchy.proofs.Closed.{table-cong}
 use Rattle.hierarchy.proofs.Values.{value-zero, value-suc, value-past, values-at, values-of-value}
 use Rattle.shapes.specs.declared.Shape.{Shape}
 use Rattle.shapes.specs.Shapes.{pointsOf}
-use Rattle.shapes.proofs.Checked.{InRange, in-range-passed}
+use Rattle.shapes.proofs.Checked.{InRange}
 use Rattle.grids.specs.Grids.{neighbour}
-use Rattle.states.specs.States.{has, checkContents, checkState}
+use Rattle.states.specs.States.{has}
 use Rattle.states.specs.After.{leftBy}
 use Rattle.states.proofs.Bits.{all-bits-in, all-bits-out}
-use Rattle.tables.specs.Tables.{rateAt, times, quotient, isScaled, scaledAt, notForward, firstForward, unload}
-use Rattle.tables.proofs.FirstFailing.{first-none}
+use Rattle.states.proofs.Checked.{state-passes, axes-pass}
+use Rattle.tables.specs.Tables.{rateAt, times, quotient, isScaled, scaledAt, checkSampled, unload}
 use Rattle.tables.proofs.Quotients.{quotient-times, times-quotient, times-divisible}
 use Rattle.runs.proofs.Calls.{stateOf, Agrees}
 use Rattle.whole.specs.Whole.{coefficientsOf, backAll, ratesOf, hasRates}
@@ -101,19 +102,16 @@ module _ (s : Shape) (range : InRange s) (xs₀ : List ℤ) (len : length xs₀ 
     unfolding backAll
     held = g .rest
 
-    none-forward : (t : ℕ) → t < s .axes → notForward byte t ≡ true
-    unfolding notForward
-    none-forward t h = rw (g .bits t ∙ up-out 0 t (omega arith))
+    none-forward : checkSampled (stateOf s byte) ≡ Passed
+    unfolding checkSampled
+    none-forward = axes-pass true StillForward (stateOf s byte) (λ t h. g .bits t ∙ up-out 0 t (omega arith))
 
     pub unload-is : unload (stateOf s byte) xs ≡ leftBy xs (unless (all (scaledAt (s .axes) xs) (length xs)) Contents) (map (quotient (s .axes)) xs)
-    unfolding unload checkState checkContents firstForward
+    unfolding unload
     unload-is =
         rw (
-          in-range-passed s range,
-          lt-ltb byte (2 ^ (s .axes)) (g .few),
-          eq-eqb (length xs) (pointsOf s) (g .long),
-          first-none (notForward byte) (s .axes) none-forward,
-          le-leb (s .axes) (s .axes) (omega arith),
+          state-passes (stateOf s byte) (length xs) (record { range = range; few = g .few; long = g .long }),
+          none-forward,
         )
 
     -- Divided, they are the rates of the table.

@@ -1,5 +1,5 @@
 -- The promises of the whole calls, over their definitions: rates to coefficients and back gives the same rates, for all accepted rates; coefficients to rates is
--- refused with 10 if and only if no accepted rates have them; coefficients of a sum are the sums of the coefficients.
+-- refused with 10 if and only if no accepted rates have them; where it passes it leaves the accepted rates that have them.
 -- Assumes nothing.
 use mathlib.Core.Path.{_≡_, refl, ap, sym, _∙_}
 use mathlib.Core.List.{List}
@@ -10,13 +10,16 @@ use lib.ListN.{getD}
 use Rattle.naturals.proofs.Cases.{true-or-false}
 use Rattle.naturals.proofs.Tests.{all-at, all-from}
 use Rattle.refusals.specs.declared.Refusal.the-variants.{Contents}
+use Rattle.refusals.specs.declared.Verdict.{Verdict}
 use Rattle.refusals.specs.declared.Verdict.the-variants.{Passed, Refused}
+use Rattle.refusals.specs.Checks.{unless, _andThen_}
+use Rattle.refusals.proofs.Passing.{first-passed, next-passed, test-passed}
 use Rattle.integers.specs.Half.{isRate}
 use Rattle.hierarchy.proofs.Values.{value-suc}
 use Rattle.shapes.specs.declared.Shape.{Shape}
 use Rattle.shapes.specs.Shapes.{pointsOf}
 use Rattle.shapes.proofs.Checked.{InRange, passed-in-range, in-range-passed}
-use Rattle.states.specs.After.{Left, left}
+use Rattle.states.specs.After.{Left, left, leftBy}
 use Rattle.tables.specs.Tables.{checkTable, rateAt}
 use Rattle.tables.proofs.Checking.{table-passed, table-passes, rates-pass}
 use Rattle.whole.specs.Accepted.{Accepted}
@@ -83,3 +86,20 @@ refused-where s xs e none =
     let there = has-rates s xs (o .long) yes in
     absurd (none (ratesOf s xs) (accepted s (ratesOf s xs) (o .range) (there .0)) (there .1)))
     (λ no-rates. refused-rates s xs e no-rates)
+
+left-passed : (xs ys zs : List ℤ) (v : Verdict) → leftBy xs v zs ≡ left Passed ys → (v ≡ Passed) × (zs ≡ ys)
+left-passed xs ys zs Passed e = (refl, ap (λ (l : Left). l .table) e)
+left-passed xs ys zs (Refused r) e =
+    let f : Refused r ≡ Passed = ap (λ (l : Left). l .verdict) e in
+    let z : _≡_ {A = ℕ} 0 1 = cc in absurd (omega arith)
+
+-- Passed: what it leaves are accepted rates, and rates to coefficients takes them to this table.
+pub passed-means : (s : Shape) (xs ys : List ℤ) → coefficientsToRates s xs ≡ left Passed ys → Accepted s ys × (ratesToCoefficients s ys ≡ left Passed xs)
+unfolding coefficientsToRates
+passed-means s xs ys e =
+    let given = unless (hasRates s xs) Contents in
+    let told = left-passed xs ys (ratesOf s xs) (checkTable s xs andThen given) e in
+    let o = table-passed s xs (first-passed (checkTable s xs) given (told .0)) in
+    let there = has-rates s xs (o .long) (test-passed (hasRates s xs) Contents (next-passed (checkTable s xs) given (told .0))) in
+    let a : Accepted s ys = rw (← told .1) (accepted s (ratesOf s xs) (o .range) (there .0)) in
+    (a, have-coefficients s ys a ∙ ap (left Passed) (ap (coefficientsOf s) (sym (told .1)) ∙ there .1))

@@ -121,7 +121,7 @@ pub fn odd_value(draw: &mut Draw) -> i64 {
 /// accepted rates, nearly so, or something else.
 pub fn contents(draw: &mut Draw, axes: u32, level: u32, bits: u8) -> Vec<i64> {
     let places = count(axes, level) as usize;
-    match draw.below(12) {
+    match draw.below(15) {
         // from accepted rates
         0..=3 => {
             let rates = rates(draw, places);
@@ -169,6 +169,23 @@ pub fn contents(draw: &mut Draw, axes: u32, level: u32, bits: u8) -> Vec<i64> {
             }
             table
         }
+        // within two units of the ends of the limit, or of one of them, in some with one value past it
+        11 | 12 => {
+            let ends = draw.of(&[[LIMIT, -LIMIT], [LIMIT, LIMIT], [-LIMIT, -LIMIT]]);
+            let mut table: Vec<i64> = (0..places)
+                .map(|_| {
+                    let end = draw.of(&ends);
+                    end - end.signum() * (draw.between(0, 2) << axes)
+                })
+                .collect();
+            if draw.one_in(3) {
+                let p = draw.index(places);
+                table[p] = draw.of(&[LIMIT + 1, -LIMIT - 1, i64::MIN, i64::MAX]);
+            }
+            table
+        }
+        // the ends of the type
+        13 => (0..places).map(|_| draw.of(&[i64::MIN, i64::MAX])).collect(),
         // anything
         _ => {
             let mut table: Vec<i64> = (0..places).map(|_| draw.between(-99, 99)).collect();
@@ -219,7 +236,7 @@ pub fn coordinate(draw: &mut Draw) -> u32 {
     let level = draw.below(9) as u32;
     let on_grid = (draw.below(1 << (level + 1)) as u32 + 1) << (15 - level);
     match draw.below(9) {
-        0 => draw.of(&[0, 1, 2, 65_535, 65_536, 32_767, 32_768, 32_769]),
+        0 => draw.of(&[0, 1, 2, 65_535, 65_536, 32_767, 32_768, 32_769, 21_845, 43_691]),
         1 | 2 => on_grid,
         3 => on_grid - 1,
         4 => (on_grid + 1).min(65_536),

@@ -11,7 +11,7 @@ mod lent;
 mod model;
 mod report;
 
-use checks::{estimates, exhaustive, files, points, rates, runs, threads, turns, walks, worked};
+use checks::{edges, estimates, exhaustive, files, points, rates, runs, threads, turns, walks, worked};
 use draw::Draw;
 use report::Report;
 use std::time::Instant;
@@ -27,21 +27,22 @@ fn setting(name: &str, usual: u64) -> u64 {
 }
 
 /// What each call can answer, as refusal numbers, 0 for success: all of it has to have been met.
-const ANSWERS: [(&str, &[u32]); 14] = [
+const ANSWERS: [(&str, &[u32]); 15] = [
     ("count", &[0, 1, 2]),
-    ("number_of_point", &[0, 1, 2, 7, 9]),
+    ("number", &[0, 1, 2, 7, 9]),
     ("successor", &[0, 1, 2, 7, 9]),
-    ("point_of_number", &[0, 1, 2, 6]),
+    ("point", &[0, 1, 2, 6]),
+    ("parent", &[0, 1, 2, 5, 7, 9]),
     ("load", &[0, 1, 2, 3, 4]),
     ("adopt", &[0, 1, 2, 3, 10]),
     ("forward", &[0, 1, 2, 14, 3, 5, 15, 10]),
     ("back", &[0, 1, 2, 14, 3, 5, 16, 10]),
     ("unload", &[0, 1, 2, 14, 3, 18, 10]),
-    ("rates_to_coefficients", &[0, 1, 2, 3, 4]),
-    ("coefficients_to_rates", &[0, 1, 2, 3, 10]),
-    ("run", &[0, 7]),
+    ("whole forward", &[0, 1, 2, 3, 4]),
+    ("whole back", &[0, 1, 2, 3, 10]),
+    ("run", &[0, 1, 2, 14, 3, 7]),
     ("estimate", &[0, 1, 2, 14, 3, 17, 7, 8, 10]),
-    ("read_house_file", &[0, 11, 12, 1, 2, 3, 13]),
+    ("read", &[0, 11, 12, 1, 2, 3, 13]),
 ];
 
 fn main() {
@@ -60,11 +61,25 @@ fn main() {
     files::short_files(&mut draw, &mut report);
     step(&clock, "worked tables, shapes, short files");
 
+    edges::of_points(&mut draw, &mut report);
+    edges::of_turns(&mut draw, &mut report);
+    edges::of_tables(&mut draw, &mut report);
+    edges::of_runs(&mut draw, &mut report);
+    edges::of_estimates(&mut draw, &mut report);
+    step(&clock, "each call at its edges");
+
     exhaustive::states(&mut draw, &mut report);
     exhaustive::lengths(&mut draw, &mut report);
     exhaustive::line(&mut draw, &mut report);
     exhaustive::small_tables(&mut draw, &mut report);
-    step(&clock, "all states, all lengths, all coordinates of a line, all small tables");
+    exhaustive::worked_orders(&mut draw, &mut report);
+    for (axes, level) in [(1, 8), (2, 4), (3, 3), (4, 2), (5, 1), (8, 0)] {
+        estimates::lattice(&mut draw, &mut report, axes, level);
+    }
+    step(
+        &clock,
+        "all states, all lengths, all coordinates of a line and of lattices, all small tables, all orders of axes",
+    );
 
     for axes in 1..=8 {
         for level in 0..=8 {
@@ -74,6 +89,9 @@ fn main() {
         }
     }
     step(&clock, "every point of every shape with up to 7,000 points");
+
+    shapes(&mut draw, &mut report);
+    step(&clock, "lists of turns, damaged coefficients and extreme tables of chosen shapes");
 
     for round in 0..count {
         one_round(&mut draw, &mut report, round);
@@ -109,6 +127,44 @@ fn step(clock: &Instant, what: &str) {
     println!("{:7.1} s  {what}", clock.elapsed().as_secs_f64());
 }
 
+/// Longer trials on chosen shapes.
+fn shapes(draw: &mut Draw, report: &mut Report) {
+    for (axes, level) in [(1, 0), (1, 4), (2, 3), (3, 3), (4, 2), (5, 2), (8, 1), (8, 2), (8, 3), (8, 4)] {
+        let rounds = if axes == 8 && level > 2 { 2 } else { 27 };
+        for _ in 0..rounds {
+            turns::carried(draw, report, axes, level);
+        }
+        for _ in 0..rounds.min(8) {
+            runs::long(draw, report, axes, level);
+            rates::one_off(draw, report, axes, level);
+        }
+    }
+    let read = [
+        (1, 0),
+        (1, 8),
+        (2, 4),
+        (2, 8),
+        (3, 3),
+        (3, 6),
+        (4, 3),
+        (4, 5),
+        (5, 2),
+        (5, 4),
+        (6, 2),
+        (6, 4),
+        (7, 2),
+        (7, 4),
+        (8, 1),
+        (8, 3),
+        (8, 4),
+        (8, 5),
+    ];
+    for (axes, level) in read {
+        estimates::extremes(draw, report, axes, level);
+        estimates::through_rates(draw, report, axes, level);
+    }
+}
+
 /// One random input to every call; now and then a larger table.
 fn one_round(draw: &mut Draw, report: &mut Report, round: u64) {
     let most = match round % 100 {
@@ -136,7 +192,6 @@ fn model_against_itself(draw: &mut Draw, report: &mut Report) {
         let rates = inputs::rates(draw, model::grid::count(axes, level) as usize);
         let say = || format!("axes {axes} level {level} rates {}", checks::short(&rates));
         let turned = model::rates::coefficients_by_turns(axes, level, &rates);
-        report.case(CALL, 0);
         report.same(
             CALL,
             "axes in the other order",

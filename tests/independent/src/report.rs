@@ -3,16 +3,47 @@
 use std::collections::BTreeMap;
 use std::fmt::Debug;
 
+/// The calls of the boundary.
+pub const KINDS: [&str; 15] = [
+    "count",
+    "number",
+    "point",
+    "successor",
+    "parent",
+    "load",
+    "adopt",
+    "unload",
+    "forward",
+    "back",
+    "run",
+    "whole forward",
+    "whole back",
+    "estimate",
+    "read",
+];
+
 #[derive(Default)]
 struct Tally {
-    cases: u64,
+    calls: u64,
+    walked: u64,
     comparisons: u64,
     refusals: BTreeMap<u32, u64>,
 }
 
+impl Tally {
+    fn add(&mut self, other: &Tally) {
+        self.calls += other.calls;
+        self.walked += other.walked;
+        self.comparisons += other.comparisons;
+        for (number, times) in &other.refusals {
+            *self.refusals.entry(*number).or_default() += times;
+        }
+    }
+}
+
 #[derive(Default)]
 pub struct Report {
-    calls: BTreeMap<&'static str, Tally>,
+    kinds: BTreeMap<&'static str, Tally>,
     pub differences: u64,
 }
 
@@ -21,10 +52,22 @@ const SHOWN: u64 = 25;
 
 impl Report {
     /// One call was made, and separate code answers this refusal number, 0 for none.
-    pub fn case(&mut self, call: &'static str, number: u32) {
-        let tally = self.calls.entry(call).or_default();
-        tally.cases += 1;
+    pub fn case(&mut self, kind: &'static str, number: u32) {
+        let tally = self.kinds.entry(kind).or_default();
+        tally.calls += 1;
         *tally.refusals.entry(number).or_default() += 1;
+    }
+
+    /// So many calls were made that none refuses.
+    pub fn made(&mut self, kind: &'static str, times: u64) {
+        let tally = self.kinds.entry(kind).or_default();
+        tally.calls += times;
+        *tally.refusals.entry(0).or_default() += times;
+    }
+
+    /// One call of a walk over the points of a shape.
+    pub fn walked(&mut self, kind: &'static str) {
+        self.kinds.entry(kind).or_default().walked += 1;
     }
 
     pub fn same<T: PartialEq + Debug + ?Sized>(
@@ -35,7 +78,7 @@ impl Report {
         got: &T,
         input: &dyn Fn() -> String,
     ) {
-        self.calls.entry(call).or_default().comparisons += 1;
+        self.kinds.entry(call).or_default().comparisons += 1;
         if expected != got {
             self.differences += 1;
             if self.differences <= SHOWN {
@@ -49,46 +92,37 @@ impl Report {
 
     pub fn merge(&mut self, other: Report) {
         self.differences += other.differences;
-        for (call, theirs) in other.calls {
-            let tally = self.calls.entry(call).or_default();
-            tally.cases += theirs.cases;
-            tally.comparisons += theirs.comparisons;
-            for (number, times) in theirs.refusals {
-                *tally.refusals.entry(number).or_default() += times;
-            }
+        for (kind, theirs) in other.kinds {
+            self.kinds.entry(kind).or_default().add(&theirs);
         }
     }
 
     /// A refusal, or success as 0, that a call can give and that no case gave.
-    pub fn never_met(&self, call: &str, numbers: &[u32]) -> Vec<u32> {
-        let met = |n: &u32| self.calls.get(call).is_some_and(|t| t.refusals.contains_key(n));
+    pub fn never_met(&self, kind: &str, numbers: &[u32]) -> Vec<u32> {
+        let met = |n: &u32| self.kinds.get(kind).is_some_and(|t| t.refusals.contains_key(n));
         numbers.iter().copied().filter(|n| !met(n)).collect()
     }
 
+    /// The calls by kind, what they were answered with, and the calls of walks.
     pub fn print(&self) {
-        for (call, tally) in &self.calls {
-            let refusals: Vec<String> = tally
+        println!("{:14}{:>9}{:>11}  answered with", "calls", "", "in walks");
+        for kind in KINDS {
+            let Some(tally) = self.kinds.get(kind) else { continue };
+            let answers: Vec<String> = tally
                 .refusals
                 .iter()
                 .map(|(n, times)| format!("{}: {times}", if *n == 0 { "done".into() } else { n.to_string() }))
                 .collect();
-            println!(
-                "{call}: {} calls compared with separate code in {} places ({})",
-                tally.cases,
-                tally.comparisons,
-                refusals.join(", ")
-            );
+            println!("{kind:14}{:9}{:11}  {}", tally.calls, tally.walked, answers.join(", "));
         }
     }
 
     pub fn last_line(&self) -> String {
-        let calls: Vec<String> = self.calls.iter().map(|(call, t)| format!("{call} {}", t.cases)).collect();
-        let cases: u64 = self.calls.values().map(|t| t.cases).sum();
-        let comparisons: u64 = self.calls.values().map(|t| t.comparisons).sum();
+        let mut all = Tally::default();
+        self.kinds.values().for_each(|tally| all.add(tally));
         format!(
-            "independent: {} differences in {comparisons} comparisons, {cases} calls ({})",
-            self.differences,
-            calls.join(", ")
+            "independent: {} differences in {} comparisons; {} calls, and {} more in walks over all points",
+            self.differences, all.comparisons, all.calls, all.walked
         )
     }
 }

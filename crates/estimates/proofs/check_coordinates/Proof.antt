@@ -9,9 +9,8 @@ use lib.ListN.{length}
 use borrow.Author.Count.{below-more}
 use borrow.Author.Needs.{needs}
 use borrow.Author.Tests.{eq-eqb, ne-eqb, le-leb, lt-leb, not-true, not-false}
-use Rattle.tables.specs.Tables.{firstFailing}
-use Rattle.tables.specs.Steps.{Passes}
-use Rattle.tables.proofs.FirstFailing.{first-none, first-at}
+use Rattle.naturals.specs.FirstFailing.{Passes, firstFailing}
+use Rattle.naturals.proofs.FirstFailing.{first-none, first-at}
 use Rattle.estimates.specs.Estimates.{insideAt, firstOutside, checkCoordinates}
 use Rattle.estimates.proofs.check_coordinates.Statement.{statement}
 use Rattle.estimates.proofs.check_coordinates.Tie as tie
@@ -24,7 +23,9 @@ abbrev μ-loop : tie.MeasureT-loop
 
 returns : tie.Need-returns Inv-loop μ-loop
 unfolding checkCoordinates
-returns c = rw (ne-eqb (length (c .before .before .args .coordinates .now)) (c .before .before .args .axes) (c .if1 .taken))
+returns c =
+    let a = c .before .before .args in
+    rw (ne-eqb (length (a .coordinates .now)) (a .axes) (λ e. omega (arith, e, c .if1 .taken)))
 
 loop-holds : tie.Need-loop-holds Inv-loop μ-loop
 loop-holds c = (search needs, λ k h. absurd (omega arith))
@@ -58,7 +59,7 @@ returns-2 c =
     let first : firstFailing (insideAt (a .coordinates .now)) (a .axes) ≡ loop .t =
     first-at (insideAt (a .coordinates .now)) (a .axes) (loop .t) (loop .inv .1) (tested (c .before) ∙ not-true _ (c .if2 .taken)) (omega arith) in
     rw (
-      eq-eqb (length (a .coordinates .now)) (a .axes) (c .before .before .before .before .before .if1 .left),
+      eq-eqb (length (a .coordinates .now)) (a .axes) (omega (arith, c .before .before .before .before .before .if1 .left)),
       first,
       lt-leb (a .axes) (loop .t) (omega arith),
       add-one (loop .t),
@@ -81,7 +82,7 @@ unfolding checkCoordinates firstOutside
 returns-3 c =
     let a = c .before .before .before .before .args in
     rw (
-      eq-eqb (length (a .coordinates .now)) (a .axes) (c .before .before .if1 .left),
+      eq-eqb (length (a .coordinates .now)) (a .axes) (omega (arith, c .before .before .if1 .left)),
       first-none (insideAt (a .coordinates .now)) (a .axes) (λ k h. c .before .loop .inv .1 k (omega arith)),
       le-leb (a .axes) (a .axes) (omega arith),
     )

@@ -3,7 +3,7 @@
 use Prim.Native.Nat.{_-_, _<_}
 use native.Mathlib.Omega.{arith}
 use borrow.Author.Needs.{needs}
-use Rattle.neighbours.proofs.Coarsening.{Coarsened, coarsened-starts, coarsened-ends, level-small, changed-sum, changed-length, coarsened-steps}
+use Rattle.neighbours.proofs.Coarsening.{Coarsened, coarsened-starts, coarsened-ends, level-small, changed-sum, coarsened-steps}
 use Rattle.neighbours.proofs.coarser.Statement.{statement}
 use Rattle.neighbours.proofs.coarser.Tie as tie
 
@@ -27,24 +27,20 @@ array-write-levels c =
     let pre = c .before .before .before .before .before .before .pre in
     omega (arith, pre .axis, pre .few)
 
-slice-aggregate-first-of : tie.Need-slice-aggregate-first-of Inv-loop μ-loop
-slice-aggregate-first-of c = search needs
-
 first-of-requires : tie.Need-first-of-requires Inv-loop μ-loop
 first-of-requires c κs =
-    let loop = c .before .before .before .loop in
-    let pre = c .before .before .before .before .before .before .before .pre in (
+    let loop = c .before .before .loop in
+    let pre = c .before .before .before .before .before .before .pre in (
       omega (arith, pre .axis),
       pre .few,
-      omega (arith, pre .few, changed-length pre _ _ _ (loop .inv) (c .before .if1 .taken)),
-      changed-sum pre _ _ _ (loop .inv) (c .before .if1 .taken),
+      changed-sum pre _ _ _ (loop .inv) (c .if1 .taken),
     )
 
 -- a level below another is below 8
-small : (c : tie.After-first-of Inv-loop μ-loop) → c .before .before .before .before .loop .m < 8
+small : (c : tie.After-first-of Inv-loop μ-loop) → c .before .before .before .loop .m < 8
 small c =
-    level-small (c .before .before .before .before .before .before .before .before .pre) _ _ _ (c .before .before .before .before .loop .inv)
-    (c .before .before .if1 .taken)
+    level-small (c .before .before .before .before .before .before .before .pre) _ _ _ (c .before .before .before .loop .inv)
+    (c .before .if1 .taken)
 
 cast-starts : tie.Need-cast-starts Inv-loop μ-loop
 cast-starts c = omega (arith, small c)
@@ -59,12 +55,12 @@ add-m : tie.Need-add-m Inv-loop μ-loop
 add-m c = omega (arith, small c)
 
 loop-less : tie.Need-loop-less Inv-loop μ-loop
-loop-less c = omega (arith, c .before .before .if1 .taken)
+loop-less c = omega (arith, c .before .if1 .taken)
 
 loop-again : tie.Need-loop-again Inv-loop μ-loop
 loop-again c =
-    coarsened-steps (c .before .before .before .before .before .before .before .before .pre) _ _ _ (c .before .before .before .before .loop .inv)
-    (c .before .before .if1 .taken) _ (c .first-of .ensures)
+    coarsened-steps (c .before .before .before .before .before .before .before .pre) _ _ _ (c .before .before .before .loop .inv)
+    (c .before .if1 .taken) _ (c .first-of .ensures)
 
 returns : tie.Need-returns Inv-loop μ-loop
 returns c = coarsened-ends _ _ _ (c .before .before .loop .inv) (c .if1 .left)
@@ -79,7 +75,6 @@ coarser-spec =
     loop-holds
     mul-levels
     array-write-levels
-    slice-aggregate-first-of
     first-of-requires
     cast-starts
     mul-starts

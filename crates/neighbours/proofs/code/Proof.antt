@@ -1,48 +1,50 @@
--- `neighbours::code` meets its contract: the two tests decide the border, and past them every shift and sum is exact.
+-- `neighbours::code` meets its contract: the border is told, and within the borders every shift and sum is exact.
 -- Assumes nothing.
-use Prim.Native.Nat.{_+_, _-_, _*_, _/_, _%_, _^_, _<_}
-use lib.Count.{trailingZeros}
-use Rattle.numbering.specs.Point.{at}
+use mathlib.Core.Bool.{false}
+use mathlib.Core.Path.{_≡_, sym, _∙_}
+use Prim.Native.Nat.{_+_, _*_, _/_, _%_, _^_, _<_}
 use native.Mathlib.Omega.{arith}
 use borrow.Author.Needs.{needs}
-use Rattle.neighbours.proofs.Coding.{at-zero, at-one, zeros-le, falls, half-small, first-small, total-small, computed}
+use Rattle.numbering.specs.Point.{at}
+use Rattle.numbering.specs.Parent.{isBorder}
+use Rattle.neighbours.proofs.Coding.{at-border, between, falls, total-small, computed}
 use Rattle.neighbours.proofs.code.Statement.{statement}
 use Rattle.neighbours.proofs.code.Tie as tie
 
+is-border-requires : tie.Need-is-border-requires
+is-border-requires c κs = omega (arith, c .pre .0 .bits)
+
 returns : tie.Need-returns
-returns c = at-zero (c .before .pre .0) _ _ _ (c .if1 .taken)
+returns c = at-border (c .before .before .pre .0) _ _ _ (sym (c .before .is-border .ensures) ∙ c .if1 .taken)
 
-shl-if2 : tie.Need-shl-if2
-shl-if2 c = omega (arith, c .before .pre .0 .bits)
+-- past the test the numerator is not on the border
+inner : (c : tie.Else1) → isBorder (c .before .before .args .v .own) (c .before .before .args .numerator) ≡ false
+inner c = sym (c .before .is-border .ensures) ∙ c .if1 .left
 
-returns-2 : tie.Need-returns-2
-returns-2 c = at-one (c .before .before .pre .0) _ _ _ (c .if2 .taken)
+reduce-requires : tie.Need-reduce-requires
+reduce-requires c κs =
+    let pre = c .before .before .pre in
+    let within = between (pre .0) 0 0 _ (pre .3) (pre .4) (inner c) in
+    (omega (arith, pre .0 .bits), within .even, within .pos, within .below)
 
-sub-level : tie.Need-sub-level
-sub-level c =
-    let start = c .before .before in
-    zeros-le (start .pre .0) 0 0 _ (start .pre .3) (start .pre .4) (c .before .if1 .left) (c .if2 .left)
-
-shr-half : tie.Need-shr-half
-shr-half c =
-    let start = c .before .before in
-    omega (arith, zeros-le (start .pre .0) 0 0 _ (start .pre .3) (start .pre .4) (c .before .if1 .left) (c .if2 .left), start .pre .0 .bits)
-
-cast-half : tie.Need-cast-half
-cast-half c =
-    let start = c .before .before in
-    omega (arith, half-small (start .pre .0) 0 0 _ (start .pre .3) (start .pre .4) (c .before .if1 .left) (c .if2 .left))
+-- the parent's level is below the point's
+lower : (c : tie.After-reduce) → c .reduce .result .level < c .before .before .before .args .v .own
+lower c =
+    let pre = c .before .before .before .pre in
+    let up = c .reduce .ensures in
+    falls (pre .0) 0 0 _ (pre .3) (pre .4) (inner (c .before)) _ _ (up .0) (up .1)
 
 -- all sums are below 2^33
-small : (c : tie.After-result) → let start = c .before .before .before in
-    at (start .args .coarser .now) (start .args .v .own - trailingZeros 32 (start .args .numerator))
-    + start .args .before
-    + start .args .numerator / 2 ^ trailingZeros 32 (start .args .numerator) / 2 * 2 ^ start .args .v .low % 2 ^ 64
-    + start .args .beyond * 2 ^ (start .args .v .low + (start .args .v .own - trailingZeros 32 (start .args .numerator))) % 2 ^ 64
-    < 2 ^ 33
+small : (c : tie.After-reduce) → let a = c .before .before .before .args in
+    let up = c .reduce .result in
+    at (a .coarser .now) (up .level) + a .before + up .index / 2 * 2 ^ a .v .low % 2 ^ 64 + a .beyond * 2 ^ (a .v .low + up .level) % 2 ^ 64 < 2 ^ 33
 small c =
-    let start = c .before .before .before in
-    total-small (start .pre .0) _ _ _ (start .pre .3) (start .pre .4) (c .before .before .if1 .left) (c .before .if2 .left) (start .pre .2) (start .pre .1)
+    let pre = c .before .before .before .pre in
+    let up = c .reduce .ensures in
+    total-small (pre .0) _ _ _ (pre .3) (pre .4) (inner (c .before)) _ _ (up .0) (up .1) (pre .2) (pre .1)
+
+cast-half : tie.Need-cast-half
+cast-half c = search needs
 
 cast-result : tie.Need-cast-result
 cast-result c = search needs
@@ -51,14 +53,10 @@ mul-result : tie.Need-mul-result
 mul-result c = search needs
 
 element-copy-out-result : tie.Need-element-copy-out-result
-element-copy-out-result c =
-    let start = c .before .before in
-    omega (arith, falls (start .pre .0) 0 0 _ (start .pre .3) (start .pre .4) (c .before .if1 .left) (c .if2 .left), start .pre .0 .bits)
+element-copy-out-result c = omega (arith, lower (c .before), c .before .before .before .before .pre .0 .bits)
 
 add-result : tie.Need-add-result
-add-result c =
-    let start = c .before .before .before in
-    omega (arith, first-small (start .pre .0) 0 0 _ (start .pre .3) (start .pre .4) (c .before .before .if1 .left) (c .before .if2 .left), start .pre .1)
+add-result c = omega (arith, small (c .before .before))
 
 cast-result-2 : tie.Need-cast-result-2
 cast-result-2 c = search needs
@@ -67,38 +65,41 @@ shl-result : tie.Need-shl-result
 shl-result c = search needs
 
 add-result-2 : tie.Need-add-result-2
-add-result-2 c = omega (arith, small (c .before))
+add-result-2 c = omega (arith, small (c .before .before .before))
 
 add-result-3 : tie.Need-add-result-3
-add-result-3 c = search needs
+add-result-3 c =
+    let reduced = c .before .before .before .before in
+    omega (arith, lower reduced, reduced .before .before .before .pre .0 .bits)
 
 cast-result-3 : tie.Need-cast-result-3
 cast-result-3 c = search needs
 
 shl-result-2 : tie.Need-shl-result-2
-shl-result-2 c = search needs
+shl-result-2 c =
+    let reduced = c .before .before .before .before in
+    omega (arith, lower reduced, reduced .before .before .before .pre .0 .bits)
 
 add-result-4 : tie.Need-add-result-4
-add-result-4 c = omega (arith, small (c .before .before))
+add-result-4 c = omega (arith, small (c .before .before .before .before))
 
 add-result-5 : tie.Need-add-result-5
-add-result-5 c = omega (arith, small (c .before .before))
+add-result-5 c = omega (arith, small (c .before .before .before .before))
 
-returns-3 : tie.Need-returns-3
-returns-3 c =
-    let past = c .before .before .before in
-    let start = past .before .before in
-    computed (start .pre .0) _ _ _ (start .pre .3) (start .pre .4) (past .before .if1 .left) (past .if2 .left) (start .pre .2)
+returns-2 : tie.Need-returns-2
+returns-2 c =
+    let reduced = c .before .before .before .before in
+    let pre = reduced .before .before .before .pre in
+    let up = reduced .reduce .ensures in
+    computed (pre .0) _ _ _ (pre .3) (pre .4) (inner (reduced .before)) _ _ (up .0) (up .1) (pre .2)
 
 pub code-spec : {M : Type 1} → statement M
 code-spec =
     tie.close
     (tie.spec
+    is-border-requires
     returns
-    shl-if2
-    returns-2
-    sub-level
-    shr-half
+    reduce-requires
     cast-half
     cast-result
     mul-result
@@ -112,4 +113,4 @@ code-spec =
     shl-result-2
     add-result-4
     add-result-5
-    returns-3)
+    returns-2)

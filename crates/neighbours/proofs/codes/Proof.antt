@@ -6,7 +6,7 @@ use native.Mathlib.Nat.{pow-suc}
 use native.Mathlib.Omega.{arith}
 use lib.Pow.{pow-mono}
 use borrow.Author.Needs.{needs}
-use Rattle.neighbours.specs.Subspaces.{codeFrom}
+use Rattle.neighbours.specs.Steps.{codeFrom}
 use Rattle.neighbours.proofs.Beside.{sized, before-small, beyond-small, digit-small, beyondOf, left-code, right-code}
 use Rattle.neighbours.proofs.codes.Statement.{statement}
 use Rattle.neighbours.proofs.codes.Tie as tie

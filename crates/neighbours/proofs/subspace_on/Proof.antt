@@ -4,7 +4,8 @@ use mathlib.Core.Path.{refl, ap}
 use Prim.Native.Nat.{ℕ, _+_}
 use native.Mathlib.Omega.{arith}
 use borrow.Author.Needs.{needs}
-use Rattle.neighbours.proofs.Seeing.{shift-is, before-small, end-small, seen}
+use Rattle.naturals.proofs.Shifts.{one-shifted}
+use Rattle.neighbours.proofs.Seeing.{before-small, end-small, seen}
 use Rattle.neighbours.proofs.subspace_on.Statement.{statement}
 use Rattle.neighbours.proofs.subspace_on.Tie as tie
 
@@ -19,27 +20,24 @@ add-t10 c =
     let pre = c .before .pre in
     omega (arith, end-small _ _ _ _ _ _ (pre .0) (pre .1) (pre .2) (pre .3) (pre .4) (pre .5))
 
-slice-aggregate-level-sum : tie.Need-slice-aggregate-level-sum
-slice-aggregate-level-sum c = search needs
-
 level-sum-requires : tie.Need-level-sum-requires
 level-sum-requires c κs =
-    let pre = c .before .before .pre in
-    (omega (arith, pre .0, pre .2, slice-aggregate-level-sum c), before-small _ _ _ _ _ _ (pre .0) (pre .1) (pre .2) (pre .3) (pre .4) (pre .5))
+    let pre = c .before .pre in
+    (omega (arith, pre .0, pre .2), before-small _ _ _ _ _ _ (pre .0) (pre .1) (pre .2) (pre .3) (pre .4) (pre .5))
 
-mul-t14 : tie.Need-mul-t14
-mul-t14 c = search needs
+mul-t13 : tie.Need-mul-t13
+mul-t13 c = search needs
 
-array-read-t17 : tie.Need-array-read-t17
-array-read-t17 c = search needs
+array-read-t16 : tie.Need-array-read-t16
+array-read-t16 c = search needs
 
 returns : tie.Need-returns
 returns c =
-    let pre = c .before .before .before .pre in (
+    let pre = c .before .before .pre in (
       seen _ _ _ _ _ _ (pre .0) (pre .1) (pre .2) (pre .3) (pre .4) (pre .5) _ (c .level-sum .ensures),
       refl,
       refl,
-      ap (λ (x : ℕ). c .before .before .before .args .start + x) (shift-is _ (omega (arith, pre .1, pre .4))),
+      ap (λ (x : ℕ). c .before .before .args .start + x) (one-shifted 64 _ (omega (arith, pre .1, pre .4))),
     )
 
 pub subspace-on-spec : {M : Type 1} → statement M
@@ -49,8 +47,7 @@ subspace-on-spec =
     cast-place
     shl-t9
     add-t10
-    slice-aggregate-level-sum
     level-sum-requires
-    mul-t14
-    array-read-t17
+    mul-t13
+    array-read-t16
     returns)

@@ -32,8 +32,8 @@ shl-result c = search needs
 whole : (c : tie.After-start-of) →
     c .start-of .result + c .before .before .vector-rank .result * 2 ^ c .before .before .before .before .level-sum .result % 2 ^ 64
     ≡ firstOf
-    (c .before .before .before .before .before .before .before .args .axes)
-    (at (c .before .before .before .before .before .before .before .args .levels .now))
+    (c .before .before .before .before .before .before .args .axes)
+    (at (c .before .before .before .before .before .before .args .levels))
 whole c =
     first-of-parts _ _ (search needs) (search needs) (search needs)
     (c .start-of .ensures)
@@ -42,8 +42,8 @@ whole c =
 
 add-result : tie.Need-add-result
 add-result c =
-    let enter = c .before .before .before .before .before .before .before in
-    let small = first-small (enter .args .axes) (at (enter .args .levels .now)) (search needs) (search needs) (search needs) in
+    let enter = c .before .before .before .before .before .before in
+    let small = first-small (enter .args .axes) (at (enter .args .levels)) (search needs) (search needs) (search needs) in
     omega (arith, whole c, small)
 
 returns : tie.Need-returns

@@ -20,13 +20,13 @@ position-at-requires c κs = search needs
 whole : (c : tie.After-position-at) →
     c .before .first-of .result + c .position-at .result
     ≡ number
-    (c .before .before .before .before .args .axes)
-    (at (c .before .before .before .before .args .levels .now))
-    (at (c .before .before .before .before .args .indices .now))
+    (c .before .before .before .args .axes)
+    (at (c .before .before .before .args .p .levels))
+    (at (c .before .before .before .args .p .indices))
 whole c = number-of-parts _ _ _ (c .before .first-of .ensures) (c .position-at .ensures)
 
 add-result : tie.Need-add-result
-add-result c = omega (arith, whole c, number-small (c .before .before .before .before .pre .4) (search needs) (search needs))
+add-result c = omega (arith, whole c, number-small (c .before .before .before .pre .2) (search needs) (search needs))
 
 returns : tie.Need-returns
 returns c = whole c

@@ -2,18 +2,20 @@
 -- Assumes nothing.
 use Prim.Native.Nat.{_+_, _-_, _≤_}
 use native.Mathlib.Omega.{arith}
+use lib.Pow.{pow-mono}
 use borrow.Author.Needs.{needs}
+use Rattle.naturals.proofs.Summed.{summed-fits}
 use Rattle.numbering.specs.Point.{at}
-use Rattle.numbers.proofs.Summed.{summed-fits}
+use Rattle.numbering.proofs.Position.{half-lt}
 use Rattle.numbers.proofs.Packed.{Packed, packed-starts, packed-fits, packed-steps, packed-ends}
 use Rattle.numbers.proofs.position_at.Statement.{statement}
 use Rattle.numbers.proofs.position_at.Tie as tie
 
 abbrev Inv-loop : tie.InvT-loop
-Inv-loop axes levels indices position₀ sum₀ t₀ position sum t = Packed (at levels) (at indices) axes t position sum
+Inv-loop axes p position₀ sum₀ t₀ position sum t = Packed (at (p .levels)) (at (p .indices)) axes t position sum
 
 abbrev μ-loop : tie.MeasureT-loop
-μ-loop axes levels indices position₀ sum₀ t₀ position sum t = axes - t
+μ-loop axes p position₀ sum₀ t₀ position sum t = axes - t
 
 loop-holds : tie.Need-loop-holds Inv-loop μ-loop
 loop-holds c = packed-starts _ _ _
@@ -21,30 +23,37 @@ loop-holds c = packed-starts _ _ _
 mul-half : tie.Need-mul-half Inv-loop μ-loop
 mul-half c = search needs
 
-shared-slice-read-half : tie.Need-shared-slice-read-half Inv-loop μ-loop
-shared-slice-read-half c = search needs
+element-copy-out-half : tie.Need-element-copy-out-half Inv-loop μ-loop
+element-copy-out-half c = search needs
 
 sub-half : tie.Need-sub-half Inv-loop μ-loop
-sub-half c = omega (arith, c .before .before .before .pre .2 .odd (c .before .before .loop .t) (c .before .loop-test .taken))
+sub-half c = omega (arith, c .before .before .before .pre .1 .odd (c .before .before .loop .t) (c .before .loop-test .taken))
 
 mul-bits : tie.Need-mul-bits Inv-loop μ-loop
 mul-bits c = search needs
 
-shared-slice-read-bits : tie.Need-shared-slice-read-bits Inv-loop μ-loop
-shared-slice-read-bits c = search needs
+element-copy-out-bits : tie.Need-element-copy-out-bits Inv-loop μ-loop
+element-copy-out-bits c = search needs
 
 -- the levels so far sum to at most 8
-few : (c : tie.After-shared-slice-known2 Inv-loop μ-loop) →
-    c .before .before .before .loop .sum + at (c .before .before .before .before .args .levels .now) (c .before .before .before .loop .t) ≤ 8
+few : (c : tie.After-bits Inv-loop μ-loop) →
+    c .before .before .before .loop .sum + at (c .before .before .before .before .args .t2 .levels) (c .before .before .before .loop .t) ≤ 8
 few c =
     omega (
       arith,
       summed-fits (c .before .before .before .loop .inv .sums) (c .before .before .loop-test .taken),
-      c .before .before .before .before .pre .2 .sum,
+      c .before .before .before .before .pre .1 .sum,
     )
 
 cast-position : tie.Need-cast-position Inv-loop μ-loop
-cast-position c = omega (arith, c .before .shared-slice-known .given (c .before .before .before .loop .t))
+cast-position c =
+    let start = c .before .before .before .before in
+    let t = c .before .before .before .loop .t in
+    omega (
+      arith,
+      half-lt (start .pre .1) t (c .before .before .loop-test .taken),
+      pow-mono {i = at (start .args .t2 .levels) t} {j = 8} (omega (arith, few c)),
+    )
 
 cast-position-2 : tie.Need-cast-position-2 Inv-loop μ-loop
 cast-position-2 c = omega (arith, few c)
@@ -56,7 +65,7 @@ add-position : tie.Need-add-position Inv-loop μ-loop
 add-position c =
     omega (
       arith,
-      packed-fits (c .before .before .before .before .pre .2) (c .before .before .before .loop .inv) (c .before .before .loop-test .taken),
+      packed-fits (c .before .before .before .before .pre .1) (c .before .before .before .loop .inv) (c .before .before .loop-test .taken),
     )
 
 add-sum : tie.Need-add-sum Inv-loop μ-loop
@@ -69,7 +78,7 @@ loop-less : tie.Need-loop-less Inv-loop μ-loop
 loop-less c = search needs
 
 loop-again : tie.Need-loop-again Inv-loop μ-loop
-loop-again c = packed-steps (c .before .before .before .before .pre .2) (c .before .before .before .loop .inv) (c .before .before .loop-test .taken)
+loop-again c = packed-steps (c .before .before .before .before .pre .1) (c .before .before .before .loop .inv) (c .before .before .loop-test .taken)
 
 returns : tie.Need-returns Inv-loop μ-loop
 returns c = packed-ends (c .before .loop .inv) (c .loop-test .left)
@@ -82,10 +91,10 @@ position-at-spec =
     μ-loop
     loop-holds
     mul-half
-    shared-slice-read-half
+    element-copy-out-half
     sub-half
     mul-bits
-    shared-slice-read-bits
+    element-copy-out-bits
     cast-position
     cast-position-2
     shl-position

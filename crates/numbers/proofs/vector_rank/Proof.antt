@@ -3,8 +3,8 @@
 use Prim.Native.Nat.{_-_}
 use native.Mathlib.Omega.{arith}
 use borrow.Author.Needs.{needs}
+use Rattle.naturals.proofs.Summed.{summed-so-far, summed-fits}
 use Rattle.numbering.specs.Point.{at}
-use Rattle.numbers.proofs.Summed.{summed-so-far, summed-fits}
 use Rattle.numbers.proofs.Ranked.{Ranked, ranked-starts, ranked-fits, ranked-sub, ranked-steps, ranked-ends}
 use Rattle.numbers.proofs.vector_rank.Statement.{statement}
 use Rattle.numbers.proofs.vector_rank.Tie as tie
@@ -21,11 +21,11 @@ loop-holds c = ranked-starts _ _
 mul-next : tie.Need-mul-next Inv-loop μ-loop
 mul-next c = search needs
 
-shared-slice-read-next : tie.Need-shared-slice-read-next Inv-loop μ-loop
-shared-slice-read-next c = search needs
+array-read-next : tie.Need-array-read-next Inv-loop μ-loop
+array-read-next c = search needs
 
 add-next : tie.Need-add-next Inv-loop μ-loop
-add-next c = omega (arith, summed-fits (c .before .before .loop .inv .sums) (c .before .loop-test .taken))
+add-next c = omega (arith, summed-fits (c .before .loop .inv .sums) (c .loop-test .taken))
 
 cast-row : tie.Need-cast-row Inv-loop μ-loop
 cast-row c = search needs
@@ -35,24 +35,24 @@ add-row c = search needs
 
 vector-count-requires : tie.Need-vector-count-requires Inv-loop μ-loop
 vector-count-requires c κs =
-    let fits = summed-fits (c .before .before .loop .inv .sums) (c .before .loop-test .taken) in
+    let fits = summed-fits (c .before .loop .inv .sums) (c .loop-test .taken) in
     (search needs, omega arith, omega arith, omega (arith, fits))
 
 add-rank : tie.Need-add-rank Inv-loop μ-loop
 add-rank c =
     let fits =
-    ranked-fits (c .before .before .before .loop .inv) (c .before .before .loop-test .taken) (search needs) (search needs) _
+    ranked-fits (c .before .before .loop .inv) (c .before .loop-test .taken) (search needs) (search needs) _
     (c .vector-count .ensures) in
     omega (arith, fits)
 
 vector-count-requires-2 : tie.Need-vector-count-requires-2 Inv-loop μ-loop
 vector-count-requires-2 c κs =
-    let fits = summed-so-far (c .before .before .before .loop .inv .sums) in
+    let fits = summed-so-far (c .before .before .loop .inv .sums) in
     (search needs, omega arith, omega arith, omega (arith, fits))
 
 sub-rank : tie.Need-sub-rank Inv-loop μ-loop
 sub-rank c =
-    ranked-sub (c .before .before .before .before .loop .inv) (c .before .before .before .loop-test .taken) _ _
+    ranked-sub (c .before .before .before .loop .inv) (c .before .before .loop-test .taken) _ _
     (c .before .vector-count .ensures)
     (c .vector-count2 .ensures)
 
@@ -64,7 +64,7 @@ loop-less c = search needs
 
 loop-again : tie.Need-loop-again Inv-loop μ-loop
 loop-again c =
-    ranked-steps (c .before .before .before .before .loop .inv) (c .before .before .before .loop-test .taken) _ _
+    ranked-steps (c .before .before .before .loop .inv) (c .before .before .loop-test .taken) _ _
     (c .before .vector-count .ensures)
     (c .vector-count2 .ensures)
 
@@ -79,7 +79,7 @@ vector-rank-spec =
     μ-loop
     loop-holds
     mul-next
-    shared-slice-read-next
+    array-read-next
     add-next
     cast-row
     add-row

@@ -1,8 +1,6 @@
--- `parents::check` meets its contract: the first check that refuses decides, and where the shape has passed the check of the point is that of
--- the lists.
+-- `parents::check` meets its contract: the first check that refuses decides.
 -- Assumes nothing.
 use borrow.Author.Needs.{needs}
-use Rattle.points.specs.Points.{checkPoint}
 use Rattle.parents.proofs.check.Statement.{statement}
 use Rattle.parents.proofs.check.Tie as tie
 
@@ -24,9 +22,6 @@ enum-known-r-2 c = search needs
 enum-told-2 : tie.Need-enum-told-2
 enum-told-2 c = search needs
 
-check-point-requires : tie.Need-check-point-requires
-check-point-requires c κs = search needs
-
 returns : tie.Need-returns
 returns c = rw (← c .before .before .before .check-shape .ensures, c .before .r .given .1)
 
@@ -40,16 +35,13 @@ returns-2 c =
     )
 
 returns-3 : tie.Need-returns-3
-unfolding checkPoint
 returns-3 c =
     rw (
-      ← c .before .before .before .before .before .before .check-shape .ensures,
-      c .before .before .before .before .enum-told .given .1,
-      ← c .before .before .before .check-axis .ensures,
-      c .before .enum-told2 .given .1,
+      ← c .before .before .before .before .before .check-shape .ensures,
+      c .before .before .before .enum-told .given .1,
+      ← c .before .before .check-axis .ensures,
+      c .enum-told2 .given .1,
     )
-    (rw (← c .before .before .before .before .before .before .check-shape .ensures, c .before .before .before .before .enum-told .given .1) at
-    (c .check-point .ensures))
 
 pub check-spec : {M : Type 1} → statement M
 check-spec =
@@ -61,7 +53,6 @@ check-spec =
     check-axis-requires
     enum-known-r-2
     enum-told-2
-    check-point-requires
     returns
     returns-2
     returns-3)

@@ -1,18 +1,20 @@
--- `parents::parent` meets its contract: the check decides the refusal, and of what it passes the padded lists are stepped along the axis.
+-- `parents::parent` meets its contract: the checks decide the refusal, and of what they pass the point is stepped along the axis.
 -- Assumes nothing.
-use mathlib.Core.Path.{sym, ap, _∙_}
-use native.Mathlib.Omega.{arith}
+use mathlib.Core.Path.{sym, _∙_}
 use borrow.Author.Needs.{needs}
-use Rattle.parents.specs.Parents.{located, parentOf}
-use Rattle.parents.proofs.Accepted.{Accepted, accepted, padded-steps, padded-parent}
+use Rattle.parents.specs.Parents.{parentOf}
+use Rattle.parents.proofs.Accepted.{Accepted, checks, accepted}
 use Rattle.parents.proofs.parent.Statement.{statement}
 use Rattle.parents.proofs.parent.Tie as tie
 
--- what the passed check tells
-known : (c : tie.After-enum-told) →
-    let a = c .before .before .before .before .before .args in
-    Accepted (a .levels .now) (a .indices .now) (a .axis)
-known c = accepted _ _ _ _ (sym (c .before .before .check .ensures) ∙ c .enum-told .given .1)
+-- what the passed checks tell
+known : (c : tie.After-enum-told) → let a = c .before .before .before .before .before .before .args in
+    Accepted (a .shape) (a .levels .now) (a .indices .now) (a .axis) (c .before .before .before .point-from .result .point)
+known c =
+    accepted _ _ _ _ (c .before .before .before .point-from .ensures) (sym (c .before .before .check .ensures) ∙ c .enum-told .given .1)
+
+point-from-requires : tie.Need-point-from-requires
+point-from-requires c κs = search needs
 
 check-requires : tie.Need-check-requires
 check-requires c κs = search needs
@@ -26,45 +28,49 @@ nowhere-requires c κs = search needs
 enum-told : tie.Need-enum-told
 enum-told c = search needs
 
-padded-requires : tie.Need-padded-requires
-padded-requires c κs = search needs
-
-padded-requires-2 : tie.Need-padded-requires-2
-padded-requires-2 c κs = search needs
-
 sub-parent-on : tie.Need-sub-parent-on
-sub-parent-on c = omega (arith, known (c .before .before))
+sub-parent-on c = known c .low
 
 cast-parent-on : tie.Need-cast-parent-on
 cast-parent-on c = search needs
 
 parent-on-requires : tie.Need-parent-on-requires
 parent-on-requires c κs =
-    let s = padded-steps (known (c .before .before)) in
-    rw (c .before .padded .ensures, c .padded2 .ensures) (s .place, s .small, s .odd, s .below)
+    let s = known c .steps in
+    (s .place, s .small, s .odd, s .below)
 
 returns : tie.Need-returns
 unfolding parentOf
 returns c =
-    rw (← c .before .before .before .before .check .ensures, c .before .before .r .given .1) (c .nowhere .ensures)
+    rw (
+      ← checks _ _ _ _ (c .before .before .before .before .before .point-from .ensures),
+      ← c .before .before .before .before .check .ensures,
+      c .before .before .r .given .1,
+    )
+    (c .nowhere .ensures)
 
 returns-2 : tie.Need-returns-2
 unfolding parentOf
 returns-2 c =
-    rw (← c .before .before .before .before .before .check .ensures, c .before .before .before .enum-told .given .1)
-    ((rw (c .before .before .padded .ensures, c .before .padded2 .ensures) at (c .parent-on .ensures))
-    ∙ ap located (padded-parent (known (c .before .before .before)) _ _))
+    let p = known (c .before) .handed in
+    rw (
+      ← checks _ _ _ _ (c .before .before .before .before .point-from .ensures),
+      ← c .before .before .before .check .ensures,
+      c .before .enum-told .given .1,
+      ← p .levels,
+      ← p .indices,
+    )
+    (c .parent-on .ensures)
 
 pub parent-spec : {M : Type 1} → statement M
 parent-spec =
     tie.close
     (tie.spec
+    point-from-requires
     check-requires
     enum-known-r
     nowhere-requires
     enum-told
-    padded-requires
-    padded-requires-2
     sub-parent-on
     cast-parent-on
     parent-on-requires

@@ -1,16 +1,16 @@
--- `parents::parent_on` meets its contract: the two tests decide the border, and past them the writes in the two lists of eight are the step of
--- `Stepped` along one axis.
+-- `parents::parent_on` meets its contract: the border is told from the numerator, and within the borders the writes in the two lists of eight are the step
+-- of `Stepped` along one axis.
 -- Assumes nothing.
-use mathlib.Core.Path.{_≡_, _∙_}
-use Prim.Native.Nat.{suc, _≤_}
+use mathlib.Core.Path.{_≡_, sym, _∙_}
+use Prim.Native.Nat.{suc}
 use native.Mathlib.Omega.{arith}
-use lib.Count.{trailingZeros}
 use lib.ListN.{length, length-map}
 use lib.Pow.{pow-mono}
 use borrow.Author.Needs.{needs}
 use Rattle.numbering.specs.Point.{at}
+use Rattle.numbering.proofs.Parents.{Inside, inside}
 use Rattle.parents.specs.Parents.{located}
-use Rattle.parents.proofs.Stepped.{at-zero, at-one, zeros-le, stepped}
+use Rattle.parents.proofs.Stepped.{to-border, to-parent}
 use Rattle.parents.proofs.parent_on.Statement.{statement}
 use Rattle.parents.proofs.parent_on.Tie as tie
 
@@ -21,13 +21,16 @@ eight-levels c = simp length-map at (c .good .1 .1 .0 .1 .1 .0 .1 .0 .1)
 eight-indices : (c : tie.Start) → length (c .args .t3 .indices) ≡ 8
 eight-indices c = simp length-map at (c .good .1 .1 .0 .1 .1 .1 .0 .1 .0 .1)
 
--- past the two tests the numerator has no more twos than the level
-zeros : (c : tie.Else2) → trailingZeros 32 (c .before .before .neighbour .result)
-    ≤ at (c .before .before .before .before .before .args .t3 .levels) (c .before .before .before .before .before .args .t)
-zeros c =
-    let a = c .before .before .before .before .before .args in
-    let pre = c .before .before .before .before .before .pre in
-    zeros-le (a .t) (a .side) (a .t3 .levels) (a .t3 .indices) _ (c .before .before .neighbour .ensures) (pre .1) (c .before .if1 .left) (c .if2 .left) (pre .2) (pre .3)
+-- past the test the numerator lies within the borders
+between : (c : tie.Else1) → let a = c .before .before .before .before .before .args in
+    Inside (at (a .t3 .levels) (a .t)) (c .before .before .neighbour .result)
+between c =
+    let start = c .before .before .before .before .before in
+    let a = start .args in
+    let numerator = c .before .before .neighbour .ensures in
+    rw numerator
+    (inside (a .side) (at (a .t3 .levels) (a .t)) (at (a .t3 .indices) (a .t)) (start .pre .2) (start .pre .3)
+    (rw numerator at (sym (c .before .is-border .ensures) ∙ c .if1 .left)))
 
 mul-level : tie.Need-mul-level
 mul-level c = search needs
@@ -46,32 +49,25 @@ neighbour-requires c κs =
     let l = at (c .before .before .args .t3 .levels) (c .before .before .args .t) in
     omega (arith, c .before .before .pre, pow-mono {i = suc l} {j = 9} (omega (arith, c .before .before .pre)))
 
+is-border-requires : tie.Need-is-border-requires
+is-border-requires c κs = search needs
+
 nowhere-requires : tie.Need-nowhere-requires
 nowhere-requires c κs = search needs
 
 returns : tie.Need-returns
 unfolding located
 returns c =
-    let a = c .before .before .before .before .before .args in
+    let there = c .before .before in
+    let a = there .before .before .before .before .args in
     c .nowhere .ensures
-    ∙ at-zero (a .t) (a .side) (a .t3 .levels) (a .t3 .indices) _ (c .before .before .neighbour .ensures) (c .before .if1 .taken)
+    ∙ to-border (a .t) (a .side) (a .t3 .levels) (a .t3 .indices) _ (there .before .neighbour .ensures)
+    (sym (there .is-border .ensures) ∙ c .before .if1 .taken)
 
-shl-if2 : tie.Need-shl-if2
-shl-if2 c = search needs
-
-nowhere-requires-2 : tie.Need-nowhere-requires-2
-nowhere-requires-2 c κs = search needs
-
-returns-2 : tie.Need-returns-2
-unfolding located
-returns-2 c =
-    let start = c .before .before .before .before .before .before in
-    let a = start .args in
-    c .nowhere2 .ensures
-    ∙ at-one (a .t) (a .side) (a .t3 .levels) (a .t3 .indices) _ (c .before .before .before .neighbour .ensures) (start .pre .1) (c .before .if2 .taken)
-
-sub-parent : tie.Need-sub-parent
-sub-parent c = zeros c
+reduce-requires : tie.Need-reduce-requires
+reduce-requires c κs =
+    let within = between c in
+    (c .before .before .before .before .before .pre .1, within .even, within .pos, within .below)
 
 mul-parent : tie.Need-mul-parent
 mul-parent c = search needs
@@ -79,21 +75,21 @@ mul-parent c = search needs
 element-write-parent : tie.Need-element-write-parent
 element-write-parent c = search needs
 
-shr-parent : tie.Need-shr-parent
-shr-parent c = omega (arith, zeros c, c .before .before .before .before .before .pre)
-
 mul-parent-2 : tie.Need-mul-parent-2
 mul-parent-2 c = search needs
 
 element-write-parent-2 : tie.Need-element-write-parent-2
 element-write-parent-2 c = search needs
 
-returns-3 : tie.Need-returns-3
-returns-3 c =
-    let start = c .before .before .before .before .before in
+returns-2 : tie.Need-returns-2
+returns-2 c =
+    let past = c .before in
+    let start = past .before .before .before .before .before in
     let a = start .args in
-    stepped (a .t) (a .side) (a .t3 .levels) (a .t3 .indices) _ (c .before .before .neighbour .ensures) (start .pre .1) (c .before .if1 .left) (c .if2 .left) (start .pre .2) (start .pre .3) (start .pre .0)
-    (eight-levels start) (eight-indices start)
+    let up = c .reduce .ensures in
+    to-parent (a .t) (a .side) (a .t3 .levels) (a .t3 .indices) _ (past .before .before .neighbour .ensures)
+    (sym (past .before .is-border .ensures) ∙ past .if1 .left)
+    (start .pre .0) (eight-levels start) (eight-indices start) _ _ (up .0) (up .1)
 
 pub parent-on-spec : {M : Type 1} → statement M
 parent-on-spec =
@@ -104,15 +100,12 @@ parent-on-spec =
     mul-neighbour
     element-copy-out-neighbour
     neighbour-requires
+    is-border-requires
     nowhere-requires
     returns
-    shl-if2
-    nowhere-requires-2
-    returns-2
-    sub-parent
+    reduce-requires
     mul-parent
     element-write-parent
-    shr-parent
     mul-parent-2
     element-write-parent-2
-    returns-3)
+    returns-2)

@@ -1,13 +1,15 @@
 -- `runs::run` meets its contract: each turn of the loop is one call more of the run, and after the last the lists hold all answers.
 -- Assumes nothing.
 use mathlib.Core.Logic.{⊎-elim}
-use mathlib.Core.Path.{sym}
+use mathlib.Core.Path.{_≡_, sym, _∙_}
 use Prim.Native.Nat.{_-_}
 use native.Mathlib.Omega.{arith}
 use lib.ListN.{length}
 use borrow.Author.Needs.{needs}
 use borrow.Author.Tests.{eqb-true, eqb-false, not-true, not-false}
-use Rattle.runs.proofs.Appending.{matched-or-refused}
+use Rattle.refusals.specs.declared.Verdict.the-variants.{Passed}
+use Rattle.states.specs.States.{checkState}
+use Rattle.runs.proofs.Appending.{run-unchecked, matched-or-refused}
 use Rattle.runs.proofs.Reporting.{Reporting, reporting-starts, reporting-steps, reporting-ends, numbers-kept, places-kept}
 use Rattle.runs.proofs.run.Statement.{statement}
 use Rattle.runs.proofs.run.Tie as tie
@@ -19,10 +21,32 @@ Inv-loop table₀ directions axes numbers₀ places₀ count reached₀ i₀ tab
 abbrev μ-loop : tie.MeasureT-loop
 μ-loop table₀ directions axes numbers₀ places₀ count reached₀ i₀ table numbers places reached i = length directions - i
 
+-- the check of the state and the table passed
+checked : (c : tie.After-enum-told Inv-loop μ-loop) → let a = c .before .before .before .before .before .before .before .args in checkState (a .state) (length (a .table .now)) ≡ Passed
+checked c = sym (c .before .before .check-state .ensures) ∙ c .enum-told .given .1
+
+check-state-requires : tie.Need-check-state-requires Inv-loop μ-loop
+check-state-requires c κs = search needs
+
+enum-known-r : tie.Need-enum-known-r Inv-loop μ-loop
+enum-known-r c = search needs
+
 returns : tie.Need-returns Inv-loop μ-loop
 returns c =
-    let a = c .before .before .before .before .before .args in
-    matched-or-refused (a .state) (a .table .now) (a .directions .now) (a .axes .now) (a .numbers .now) (a .places .now)
+    let called = c .before .before .before in
+    let a = called .before .before .before .before .before .args in
+    sym
+    (run-unchecked (a .state) (a .table .now) (a .directions .now) (a .axes .now) (a .numbers .now) (a .places .now) (c .before .r .given .0 .0)
+    (sym (called .check-state .ensures) ∙ c .before .r .given .1))
+
+enum-told : tie.Need-enum-told Inv-loop μ-loop
+enum-told c = search needs
+
+returns-2 : tie.Need-returns-2 Inv-loop μ-loop
+returns-2 c =
+    let told = c .before in
+    let a = told .before .before .before .before .before .before .before .args in
+    matched-or-refused (a .state) (a .table .now) (a .directions .now) (a .axes .now) (a .numbers .now) (a .places .now) (checked told)
     (λ m.
     absurd
     (⊎-elim
@@ -35,7 +59,7 @@ returns c =
 
 loop-holds : tie.Need-loop-holds Inv-loop μ-loop
 loop-holds c =
-    reporting-starts _ _ _ _ _ _
+    reporting-starts _ _ _ _ _ _ (checked (c .before .before .before))
     (record {
       axes-long = c .before .before .if1 .left;
       numbers-long = eqb-true _ _ (not-false _ (c .before .if2 .left));
@@ -103,8 +127,8 @@ same-length-2 c = numbers-kept _ _ _ _ _ _ _ _ _ _ _ (c .before .loop .inv)
 same-length-3 : tie.Need-same-length-3 Inv-loop μ-loop
 same-length-3 c = places-kept _ _ _ _ _ _ _ _ _ _ _ (c .before .loop .inv)
 
-returns-2 : tie.Need-returns-2 Inv-loop μ-loop
-returns-2 c = reporting-ends _ _ _ _ _ _ _ _ _ _ _ (c .before .loop .inv) (c .loop-test .left)
+returns-3 : tie.Need-returns-3 Inv-loop μ-loop
+returns-3 c = reporting-ends _ _ _ _ _ _ _ _ _ _ _ (c .before .loop .inv) (c .loop-test .left)
 
 pub run-spec : {M : Type 1} → statement M
 run-spec =
@@ -112,7 +136,11 @@ run-spec =
     (tie.spec
     Inv-loop
     μ-loop
+    check-state-requires
+    enum-known-r
     returns
+    enum-told
+    returns-2
     loop-holds
     shared-slice-read-turn
     mul-turn
@@ -131,4 +159,4 @@ run-spec =
     same-length
     same-length-2
     same-length-3
-    returns-2)
+    returns-3)

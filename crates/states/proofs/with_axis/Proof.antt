@@ -3,7 +3,8 @@
 use mathlib.Core.Path.{ap, _∙_}
 use Prim.Native.Nat.{ℕ}
 use borrow.Author.Needs.{needs}
-use Rattle.states.proofs.Bits.{one-shifted, or-sets}
+use Rattle.naturals.proofs.Shifts.{one-shifted}
+use Rattle.states.proofs.Bits.{or-sets}
 use lib.Bits.{bitOr}
 use Rattle.states.proofs.with_axis.Statement.{statement}
 use Rattle.states.proofs.with_axis.Tie as tie

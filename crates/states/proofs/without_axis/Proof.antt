@@ -3,7 +3,8 @@
 use mathlib.Core.Path.{ap, _∙_}
 use Prim.Native.Nat.{ℕ}
 use borrow.Author.Needs.{needs}
-use Rattle.states.proofs.Bits.{one-shifted, xor-clears}
+use Rattle.naturals.proofs.Shifts.{one-shifted}
+use Rattle.states.proofs.Bits.{xor-clears}
 use lib.Bits.{bitXor}
 use Rattle.states.proofs.without_axis.Statement.{statement}
 use Rattle.states.proofs.without_axis.Tie as tie

@@ -39,7 +39,9 @@ returns-2 : tie.Need-returns-2
 returns-2 c =
     let told = c .before .before in
     let a = told .before .before .before .args in
-    sym (adopt-refused (a .shape) (a .table .now) (opened told) (sym (c .before .all-in-limit .ensures) ∙ not-true _ (c .if1 .taken)))
+    sym
+    (adopt-refused (a .shape) (a .table .now) (opened told)
+    (sym (c .before .all-in-limit .ensures) ∙ not-true (c .before .all-in-limit .result) (search needs)))
 
 all-forward-requires : tie.Need-all-forward-requires
 all-forward-requires c κs =

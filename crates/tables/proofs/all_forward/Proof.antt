@@ -5,7 +5,7 @@ use Prim.Native.Nat.{ℕ, _-_}
 use native.Mathlib.Omega.{arith}
 use borrow.Author.Needs.{needs}
 use lib.Pow.{pow-pos, pow-mono}
-use Rattle.states.proofs.Bits.{one-shifted}
+use Rattle.naturals.proofs.Shifts.{one-shifted}
 use Rattle.tables.proofs.all_forward.Statement.{statement}
 use Rattle.tables.proofs.all_forward.Tie as tie
 

@@ -10,11 +10,10 @@ use lib.IntN.{pos}
 use lib.ListN.{length, getD}
 use mir.Syntax.{w64}
 use mir.ValLaws.{toZ-ofZ}
-use Rattle.naturals.proofs.Tests.{all-from}
+use Rattle.naturals.proofs.Tests.{all-from, all-fails}
+use Rattle.naturals.specs.FirstFailing.{Passes}
 use Rattle.hierarchy.proofs.Values.{value-suc}
 use Rattle.tables.specs.Tables.{isScaled, scaledAt}
-use Rattle.tables.specs.Steps.{Passes}
-use Rattle.naturals.proofs.Tests.{all-fails}
 use Rattle.tables.proofs.all_scaled.Statement.{statement}
 use Rattle.tables.proofs.all_scaled.Tie as tie
 

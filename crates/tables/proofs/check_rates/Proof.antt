@@ -10,11 +10,11 @@ use lib.IntN.{pos}
 use lib.ListN.{length, getD}
 use mir.Syntax.{w64}
 use mir.ValLaws.{toZ-ofZ}
+use Rattle.naturals.specs.FirstFailing.{Passes, firstFailing}
+use Rattle.naturals.proofs.FirstFailing.{first-none, first-at}
 use Rattle.integers.specs.Half.{isRate}
 use Rattle.hierarchy.proofs.Values.{value-suc}
-use Rattle.tables.specs.Tables.{firstFailing, rateAt, checkRates}
-use Rattle.tables.specs.Steps.{Passes}
-use Rattle.tables.proofs.FirstFailing.{first-none, first-at}
+use Rattle.tables.specs.Tables.{rateAt, checkRates}
 use Rattle.tables.proofs.check_rates.Statement.{statement}
 use Rattle.tables.proofs.check_rates.Tie as tie
 

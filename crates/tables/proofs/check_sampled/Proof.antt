@@ -1,80 +1,32 @@
--- `tables::check_sampled` meets its contract. The loop's invariant: the axes passed are not forward. The measure is what is left of the axes.
+-- `tables::check_sampled` meets its contract: the first axis that is forward, where there is one, is the place of the refusal.
 -- Assumes nothing.
-use mathlib.Core.Path.{_≡_, ap, sym, _∙_}
-use mathlib.Core.Bool.{not}
-use Prim.Native.Nat.{_≤_, _-_}
-use native.Mathlib.Numerals.{add-one}
+use mathlib.Core.Path.{sym}
+use mathlib.Core.Bool.{true}
 use native.Mathlib.Omega.{arith}
-use borrow.Author.Count.{below-more}
 use borrow.Author.Needs.{needs}
-use borrow.Author.Tests.{le-leb, lt-leb}
-use Rattle.tables.specs.Tables.{firstFailing, notForward, firstForward}
-use Rattle.tables.specs.Steps.{Passes, checkSampled}
-use Rattle.tables.proofs.FirstFailing.{first-none, first-at}
+use Rattle.refusals.specs.declared.Refusal.the-variants.{StillForward}
+use Rattle.states.proofs.Checked.{axis-found, none-found}
+use Rattle.tables.specs.Tables.{checkSampled}
 use Rattle.tables.proofs.check_sampled.Statement.{statement}
 use Rattle.tables.proofs.check_sampled.Tie as tie
 
-abbrev Inv-loop : tie.InvT-loop
-Inv-loop axes forward t₀ t = (t ≤ axes) × Passes (notForward forward) t
+first-axis-requires : tie.Need-first-axis-requires
+first-axis-requires c κs = search needs
 
-abbrev μ-loop : tie.MeasureT-loop
-μ-loop axes forward t₀ t = axes - t
+add-t5 : tie.Need-add-t5
+add-t5 c = search needs
 
--- the test's answer
-tested : (c : tie.After-has-axis Inv-loop μ-loop) →
-    notForward (c .before .before .before .before .args .state .forward) (c .before .before .loop .t) ≡ not (c .has-axis .result)
-unfolding notForward
-tested c = ap not (sym (c .has-axis .ensures))
-
-loop-holds : tie.Need-loop-holds Inv-loop μ-loop
-loop-holds c = (search needs, λ k h. absurd (omega arith))
-
-has-axis-requires : tie.Need-has-axis-requires Inv-loop μ-loop
-has-axis-requires c κs = search needs
-
-add-t8 : tie.Need-add-t8 Inv-loop μ-loop
-add-t8 c = search needs
-
-returns : tie.Need-returns Inv-loop μ-loop
-unfolding checkSampled firstForward
+returns : tie.Need-returns
+unfolding checkSampled
 returns c =
-    let state = c .before .before .before .before .before .args .state in
-    let loop = c .before .before .before .loop in
-    let first : firstFailing (notForward (state .forward)) (state .shape .axes) ≡ loop .t =
-    first-at (notForward (state .forward)) (state .shape .axes) (loop .t) (loop .inv .1) (tested (c .before) ∙ ap not (c .if1 .taken))
-    (omega arith) in
-    rw (first, lt-leb (state .shape .axes) (loop .t) (omega arith), add-one (loop .t))
+    let found = c .before .before .first-axis in
+    sym (axis-found true StillForward (c .before .before .before .before .args .state) (found .result) (found .ensures) (omega arith))
 
-add-t : tie.Need-add-t Inv-loop μ-loop
-add-t c = search needs
-
-loop-less : tie.Need-loop-less Inv-loop μ-loop
-loop-less c = search needs
-
-loop-again : tie.Need-loop-again Inv-loop μ-loop
-loop-again c =
-    (search needs, below-more _ _ (c .before .before .before .loop .inv .1) (tested (c .before) ∙ ap not (c .if1 .left)))
-
-returns-2 : tie.Need-returns-2 Inv-loop μ-loop
-unfolding checkSampled firstForward
+returns-2 : tie.Need-returns-2
+unfolding checkSampled
 returns-2 c =
-    let state = c .before .before .before .args .state in
-    rw (
-      first-none (notForward (state .forward)) (state .shape .axes) (λ k h. c .before .loop .inv .1 k (omega arith)),
-      le-leb (state .shape .axes) (state .shape .axes) (omega arith),
-    )
+    let found = c .before .before .first-axis in
+    sym (none-found true StillForward (c .before .before .before .before .args .state) (found .result) (found .ensures) (omega arith))
 
 pub check-sampled-spec : {M : Type 1} → statement M
-check-sampled-spec =
-    tie.close
-    (tie.spec
-    Inv-loop
-    μ-loop
-    loop-holds
-    has-axis-requires
-    add-t8
-    returns
-    add-t
-    loop-less
-    loop-again
-    returns-2)
+check-sampled-spec = tie.close (tie.spec first-axis-requires add-t5 returns returns-2)

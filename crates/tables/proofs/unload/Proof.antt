@@ -8,12 +8,10 @@ use borrow.Author.Tests.{not-true, not-false}
 use lib.IntN.{ℤ}
 use lib.ListN.{length}
 use Rattle.refusals.specs.declared.Verdict.the-variants.{Passed}
-use Rattle.refusals.proofs.Passing.{first-passed}
-use Rattle.shapes.specs.Shapes.{checkShape}
-use Rattle.shapes.proofs.Checked.{passed-in-range}
 use Rattle.states.specs.After.{left}
-use Rattle.states.specs.States.{checkContents, checkState}
-use Rattle.tables.specs.Steps.{checkSampled}
+use Rattle.states.specs.States.{checkState}
+use Rattle.states.proofs.Checked.{state-passed}
+use Rattle.tables.specs.Tables.{checkSampled}
 use Rattle.tables.proofs.Answering.{unload-unchecked, unload-forward, unload-refused, unload-done}
 use Rattle.tables.proofs.unload.Statement.{statement}
 use Rattle.tables.proofs.unload.Tie as tie
@@ -24,10 +22,7 @@ checked : (c : tie.After-enum-told) →
 checked c = sym (c .before .before .check-state .ensures) ∙ c .enum-told .given .1
 
 few : (c : tie.After-enum-told) → c .before .before .before .args .state .shape .axes ≤ 8
-unfolding checkState
-few c =
-    let a = c .before .before .before .args in
-    passed-in-range (a .state .shape) (first-passed (checkShape (a .state .shape)) (checkContents (a .state) (length (a .table .now))) (checked c)) .high
+few c = let a = c .before .before .before .args in state-passed (a .state) (length (a .table .now)) (checked c) .range .high
 
 -- no axis is forward
 sampled : (c : tie.After-enum-told2) → checkSampled (c .before .before .before .before .before .before .args .state) ≡ Passed

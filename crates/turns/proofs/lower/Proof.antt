@@ -6,10 +6,10 @@ use Prim.Native.Nat.{_+_, _-_, _^_, _≤_, _<_}
 use native.Mathlib.Omega.{arith}
 use lib.Pow.{pow-pos}
 use borrow.Author.Needs.{needs}
+use Rattle.naturals.proofs.Shifts.{one-shifted}
 use Rattle.shapes.specs.Shapes.{pointsOf}
 use Rattle.grids.proofs.Sparse.{points-sparse}
-use Rattle.neighbours.specs.Subspaces.{sparseOf}
-use Rattle.neighbours.proofs.Seeing.{shift-is}
+use Rattle.neighbours.specs.Steps.{sparseOf}
 use Rattle.turns.specs.Steps.{VectorOf}
 use Rattle.turns.proofs.Lowering.{Lowering, lowering-starts, lowering-ends, all-limited, lowering-block, block-stops}
 use Rattle.turns.proofs.Standing.{Standing, sum-inside, position-le, stands, inside, room, stands-before}
@@ -165,7 +165,7 @@ loop-again c =
     let found = c .before in
     let s = at-loop found .loop .inv in
     let tested = found .before .before .before in
-    let shift = shift-is (found .previous-vector .result .sum) (sum-small found) in (
+    let shift = one-shifted 64 (found .previous-vector .result .sum) (omega (arith, sum-small found)) in (
       rw (sym (all-of-it tested)) (lowering-block _ _ _ _ _ _ (s .0) _ _ _ (tested .before .before .lower-vector .ensures)),
       rw shift (before-it found),
       omega (arith, shift, has-room found, pow-pos (found .previous-vector .result .sum)),

@@ -12,7 +12,7 @@ use borrow.Author.Needs.{needs}
 use borrow.Author.Tests.{not-true, not-false}
 use Rattle.integers.specs.Half.{half, isEven}
 use Rattle.hierarchy.specs.Turns.{valueAt}
-use Rattle.neighbours.specs.Subspaces.{sparseOf}
+use Rattle.neighbours.specs.Steps.{sparseOf}
 use Rattle.neighbours.proofs.Beside.{end-inside}
 use Rattle.turns.proofs.AtPoint.{AtParents, given-is}
 use Rattle.turns.proofs.Lowering.{Lowering, lowering-starts, lowering-ends, parents-limited, odd-stops, values-limited, large-stops, lowering-steps}

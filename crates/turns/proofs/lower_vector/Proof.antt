@@ -7,7 +7,7 @@ use borrow.Author.Needs.{needs}
 use Rattle.numbering.specs.declared.Side.{Side}
 use Rattle.shapes.specs.Shapes.{pointsOf}
 use Rattle.grids.specs.Grids.{neighbour}
-use Rattle.neighbours.specs.Subspaces.{sparseOf}
+use Rattle.neighbours.specs.Steps.{sparseOf}
 use Rattle.neighbours.proofs.Beside.{end-inside, flat}
 use Rattle.turns.proofs.Flat.{lowered-flat}
 use Rattle.turns.proofs.lower_vector.Statement.{statement}

@@ -8,13 +8,14 @@ use native.Mathlib.Omega.{arith}
 use lib.ListN.{length}
 use lib.Pow.{pow-pos}
 use borrow.Author.Needs.{needs}
+use Rattle.naturals.proofs.Shifts.{one-shifted}
 use Rattle.numbering.specs.declared.Side.{Side}
 use Rattle.shapes.specs.Shapes.{pointsOf}
 use Rattle.grids.specs.Grids.{neighbour}
 use Rattle.grids.proofs.Sparse.{points-sparse}
-use Rattle.neighbours.specs.Subspaces.{sparseOf}
+use Rattle.neighbours.specs.Steps.{sparseOf}
 use Rattle.neighbours.proofs.Beside.{end-inside, parent-before}
-use Rattle.neighbours.proofs.Seeing.{shift-is, end-small, seen}
+use Rattle.neighbours.proofs.Seeing.{end-small, seen}
 use Rattle.turns.specs.Steps.{VectorOf}
 use Rattle.turns.proofs.AtPoint.{LeftAlone}
 use Rattle.turns.proofs.Rising.{Rising, rising-starts, all-limited, rising-block, block-stops}
@@ -116,7 +117,7 @@ ends : (c : tie.In-loop Inv-loop μ-loop) →
 ends c =
     let on = c .before .loop .inv .0 .axis in
     let v = vector-of c in
-    rw (shift-is (c .before .loop .sum) (sum-small c)) at
+    rw (one-shifted 64 (c .before .loop .sum) (omega (arith, sum-small c))) at
     (end-inside (seen _ _ _ _ _ _ (on .few) (on .low) (on .place) (v .vector) (v .low) (v .first) _ refl))
 
 before : (c : tie.In-loop Inv-loop μ-loop) (q : ℕ) → c .before .loop .p ≤ q → q < c .before .loop .start + 2 ^ c .before .loop .sum → (b : Side) →
@@ -126,7 +127,7 @@ before c q from to b =
     let on = c .before .loop .inv .0 .axis in
     let v = vector-of c in
     let first = parent-before (seen _ _ _ _ _ _ (on .few) (on .low) (on .place) (v .vector) (v .low) (v .first) _ refl) q
-    (omega (arith, c .before .loop .inv .2)) (omega (arith, shift-is (c .before .loop .sum) (sum-small c))) b in
+    (omega (arith, c .before .loop .inv .2)) (omega (arith, one-shifted 64 (c .before .loop .sum) (omega (arith, sum-small c)))) b in
     inl (omega (arith, first, c .before .loop .inv .2))
 
 returns-2 : tie.Need-returns-2 Inv-loop μ-loop
@@ -136,7 +137,7 @@ returns-2 c =
     let done = c .before .before .raise-vector .ensures in
     record {
       up = rising-block _ _ _ _ _ _ s _ (ends going) (before going) _ _ done .up;
-      stopped = λ more. block-stops _ _ _ _ _ _ s _ (ends going) (before going) _ _ done (omega (arith, c .if2 .taken, shift-is (going .before .loop .sum) (sum-small going)));
+      stopped = λ more. block-stops _ _ _ _ _ _ s _ (ends going) (before going) _ _ done (omega (arith, c .if2 .taken, one-shifted 64 (going .before .loop .sum) (omega (arith, sum-small going))));
     }
 
 cast-next-vector : tie.Need-cast-next-vector Inv-loop μ-loop
@@ -152,14 +153,14 @@ loop-less : tie.Need-loop-less Inv-loop μ-loop
 loop-less c =
     let going = c .before .before .before .before .before .before .before in
     let s = going .before .loop .inv in
-    omega (arith, s .3, ends going, s .0 .axis .long, s .0 .up .long, going .loop-test .taken, shift-is (going .before .loop .sum) (sum-small going))
+    omega (arith, s .3, ends going, s .0 .axis .long, s .0 .up .long, going .loop-test .taken, one-shifted 64 (going .before .loop .sum) (omega (arith, sum-small going)))
 
 loop-again : tie.Need-loop-again Inv-loop μ-loop
 loop-again c =
     let going = c .before .before .before .before .before .before .before in
     let s = going .before .loop .inv in
     let done = c .before .before .before .before .before .raise-vector .ensures in
-    let shift = shift-is (going .before .loop .sum) (sum-small going) in
+    let shift = one-shifted 64 (going .before .loop .sum) (omega (arith, sum-small going)) in
     let all : c .before .before .before .before .before .raise-vector .result ≡ going .before .loop .start + 2 ^ going .before .loop .sum
     = omega (arith, done .to, shift, c .before .before .before .if2 .left) in (
       rw (shift, sym all) (rising-block _ _ _ _ _ _ (s .0) _ (ends going) (before going) _ _ done),

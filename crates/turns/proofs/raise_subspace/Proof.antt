@@ -16,7 +16,7 @@ use Rattle.integers.specs.Half.{half, isEven}
 use Rattle.numbering.specs.declared.Side.{Side}
 use Rattle.hierarchy.specs.Turns.{valueAt}
 use Rattle.grids.specs.Grids.{neighbour}
-use Rattle.neighbours.specs.Subspaces.{sparseOf}
+use Rattle.neighbours.specs.Steps.{sparseOf}
 use Rattle.neighbours.proofs.Beside.{end-inside, parent-before}
 use Rattle.turns.proofs.AtPoint.{AtParents, LeftAlone, given-is}
 use Rattle.turns.proofs.Raising.{Raising, raising-starts, raising-ends, parents-limited, odd-stops, all-limited, large-stops, raising-steps}

@@ -29,7 +29,7 @@ fn second_night(saved: &[u8]) -> Result<(), Refusal> {
     let (mut state, mut table) = restore(saved);
     println!("second night: found {table:?}, forward axes {:#04b}", state.bits);
     // the whole list again: what is done already is refused, and the run goes on
-    for answer in state.run(&mut table, &[Turn::Forward(2), Turn::Forward(1)]) {
+    for answer in state.run(&mut table, &[Turn::Forward(2), Turn::Forward(1)])? {
         match answer {
             Ok(()) => println!("  carried out"),
             Err(refusal) => println!("  {refusal}"),

@@ -1,6 +1,6 @@
 //! The reviewer: gets coefficients, and gets back the very rates that were sampled, or a refusal.
 
-use numolefays::{Refusal, Shape};
+use numolefays::{Refusal, Shape, Side};
 
 fn main() -> Result<(), Refusal> {
     let shape = Shape::new(2, 1);
@@ -26,6 +26,15 @@ fn main() -> Result<(), Refusal> {
     let mut damaged = [16, 4, 12, 0, 17];
     let refusal = shape.coefficients_to_rates(&mut damaged).unwrap_err();
     println!("{refusal}; the table is still {damaged:?}");
+
+    // the parents of point 4 on axis 2: what its coefficient was made with
+    let point = shape.point(4)?;
+    for side in [Side::Left, Side::Right] {
+        match shape.parent(point.levels(), point.indices(), 2, side)? {
+            Some(parent) => println!("parent of point 4, {side:?}: point {}", shape.number_of(parent.levels(), parent.indices())?),
+            None => println!("parent of point 4, {side:?}: the border"),
+        }
+    }
 
     // unloading too early
     let mut table = coefficients;

@@ -4,6 +4,7 @@ use super::{estimates, points, rates, turns};
 use crate::draw::Draw;
 use crate::inputs;
 use crate::model::grid::count;
+use crate::model::turns::turn;
 use crate::report::Report;
 
 /// Every set of bits in every number of axes, with every axis up to 10, on a small table: forward, back, unload, estimate.
@@ -95,6 +96,27 @@ pub fn small_tables(draw: &mut Draw, report: &mut Report) {
                 rates::rates_to_coefficients(draw, report, 1, 1, &table);
                 rates::unload(draw, report, 1, 1, 0, &table);
                 rates::adopt(draw, report, 1, 1, &table);
+            }
+        }
+    }
+}
+
+/// The worked tables of document 01, turned axis by axis in every order of the axes, and back in every order.
+pub fn worked_orders(draw: &mut Draw, report: &mut Report) {
+    let tables: [(u32, u32, &[i64]); 4] =
+        [(1, 0, &[-2]), (1, 1, &[6, 10, 14]), (2, 1, &[16, 12, 20, 8, 24]), (2, 2, &[4; 17])];
+    for (axes, level, loaded) in tables {
+        let orders: &[&[u32]] = if axes == 1 { &[&[1]] } else { &[&[1, 2], &[2, 1]] };
+        for there in orders {
+            for home in orders {
+                let (mut table, mut bits) = (loaded.to_vec(), 0);
+                for (back, order) in [(false, there), (true, home)] {
+                    for &axis in *order {
+                        turns::turn(draw, report, back, axes, level, bits, &table, axis);
+                        (table, bits) = turn(back, axes, level, bits, &table, axis).expect("a loaded table");
+                    }
+                }
+                report.same("back", "there and back", loaded, &table[..], &|| format!("{there:?} {home:?}"));
             }
         }
     }

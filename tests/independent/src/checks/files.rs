@@ -9,7 +9,7 @@ use crate::model::grid::count;
 use crate::report::Report;
 use numolefays::{boundary, read_house_file, Shape};
 
-const CALL: &str = "read_house_file";
+const CALL: &str = "read";
 
 pub fn read(draw: &mut Draw, report: &mut Report, bytes: &[u8], places: usize) {
     let want = model::read(bytes, places);

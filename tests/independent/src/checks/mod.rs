@@ -1,5 +1,6 @@
 //! Each call, once through the boundary with every output and buffer compared, and once through the safe wrapper.
 
+pub mod edges;
 pub mod estimates;
 pub mod exhaustive;
 pub mod files;

@@ -1,4 +1,4 @@
-//! Count, number of a point, point of a number, successor.
+//! Count, number of a point, point of a number, successor, parent.
 
 use super::{answer, refusal};
 use crate::draw::Draw;
@@ -6,7 +6,7 @@ use crate::inputs;
 use crate::model::grid::{count, grid};
 use crate::model::points as model;
 use crate::report::Report;
-use numolefays::{boundary, Point, Shape};
+use numolefays::{boundary, Point, Shape, Side};
 
 pub fn count_of(draw: &mut Draw, report: &mut Report, axes: u32, level: u32) {
     const CALL: &str = "count";
@@ -23,7 +23,7 @@ pub fn count_of(draw: &mut Draw, report: &mut Report, axes: u32, level: u32) {
 }
 
 pub fn number_of(draw: &mut Draw, report: &mut Report, axes: u32, level: u32, levels: &[u32], indices: &[u32]) {
-    const CALL: &str = "number_of_point";
+    const CALL: &str = "number";
     let want = model::number_of(axes, level, levels, indices);
     let (number, place) = answer(&want);
     report.case(CALL, number);
@@ -37,7 +37,7 @@ pub fn number_of(draw: &mut Draw, report: &mut Report, axes: u32, level: u32, le
 }
 
 pub fn point_of(draw: &mut Draw, report: &mut Report, axes: u32, level: u32, number: u64) {
-    const CALL: &str = "point_of_number";
+    const CALL: &str = "point";
     let want = model::point_of(axes, level, number);
     let (refused, place) = answer(&want);
     report.case(CALL, refused);
@@ -74,6 +74,39 @@ pub fn successor(draw: &mut Draw, report: &mut Report, axes: u32, level: u32, le
     report.same(CALL, "wrapper", &want.map_err(refusal), &Shape::new(axes, level).successor(levels, indices), &say);
 }
 
+#[allow(clippy::too_many_arguments)]
+pub fn parent(
+    draw: &mut Draw,
+    report: &mut Report,
+    axes: u32,
+    level: u32,
+    levels: &[u32],
+    indices: &[u32],
+    axis: u32,
+    side: u32,
+) {
+    const CALL: &str = "parent";
+    let want = model::parent(axes, level, levels, indices, axis, side != 0);
+    let (number, place) = answer(&want);
+    report.case(CALL, number);
+    let say = || format!("axes {axes} level {level} levels {levels:?} indices {indices:?} axis {axis} side {side}");
+    let junk: [[u32; 8]; 2] = [[draw.bits() as u32; 8], [draw.bits() as u32; 8]];
+    let ([mut l, mut i], junk_border) = (junk, draw.bits() as u32);
+    let (mut border, mut at) = (junk_border, draw.bits());
+    let got = boundary::parent(axes, level, levels, indices, axis, side, &mut l, &mut i, &mut border, &mut at);
+    report.same(CALL, "answer and place", &(number, place), &(got, at), &say);
+    let want_border = match want {
+        Ok(Some(_)) => 0,
+        Ok(None) => 1,
+        Err(_) => junk_border,
+    };
+    report.same(CALL, "border", &want_border, &border, &say);
+    report.same(CALL, "levels and indices", &want.ok().flatten().unwrap_or((junk[0], junk[1])), &(l, i), &say);
+    let want = want.map(|up| up.map(|(l, i)| Point { axes, all_levels: l, all_indices: i }));
+    let to = if side == 0 { Side::Left } else { Side::Right };
+    report.same(CALL, "wrapper", &want.map_err(refusal), &Shape::new(axes, level).parent(levels, indices, axis, to), &say);
+}
+
 /// One random case of each.
 pub fn random(draw: &mut Draw, report: &mut Report, most: u64) {
     let (axes, level) = inputs::shape(draw, most);
@@ -82,6 +115,9 @@ pub fn random(draw: &mut Draw, report: &mut Report, most: u64) {
     number_of(draw, report, axes, level, &levels, &indices);
     let (levels, indices) = lists(draw, axes, level);
     successor(draw, report, axes, level, &levels, &indices);
+    let (levels, indices) = lists(draw, axes, level);
+    let (axis, side) = (inputs::axis(draw, axes), draw.of(&[0, 0, 1, 1, 2, 1 << 31, u32::MAX]));
+    parent(draw, report, axes, level, &levels, &indices, axis, side);
     let n = if inputs::is_shape(axes, level) { count(axes, level) as u64 } else { 5 };
     let inside = draw.below(n);
     let beyond =

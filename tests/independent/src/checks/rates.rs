@@ -4,6 +4,7 @@ use super::{answer, refusal, short};
 use crate::draw::Draw;
 use crate::inputs;
 use crate::lent;
+use crate::model::grid::count;
 use crate::model::rates as model;
 use crate::model::Refused;
 use crate::report::Report;
@@ -69,7 +70,7 @@ pub fn rates_to_coefficients(draw: &mut Draw, report: &mut Report, axes: u32, le
     let shape = Shape::new(axes, level);
     let say = || format!("axes {axes} level {level} table {}", short(table));
     in_place(
-        "rates_to_coefficients",
+        "whole forward",
         draw,
         report,
         table,
@@ -85,7 +86,7 @@ pub fn coefficients_to_rates(draw: &mut Draw, report: &mut Report, axes: u32, le
     let shape = Shape::new(axes, level);
     let say = || format!("axes {axes} level {level} table {}", short(table));
     in_place(
-        "coefficients_to_rates",
+        "whole back",
         draw,
         report,
         table,
@@ -94,6 +95,19 @@ pub fn coefficients_to_rates(draw: &mut Draw, report: &mut Report, axes: u32, le
         |t, place| boundary::coefficients_to_rates(axes, level, t, place),
         |t| shape.coefficients_to_rates(t),
     );
+}
+
+/// The coefficients of accepted rates with one place off by 1 or by 2^d either way, sixteen times, and as they are.
+pub fn one_off(draw: &mut Draw, report: &mut Report, axes: u32, level: u32) {
+    let rates = inputs::rates(draw, count(axes, level) as usize);
+    let coefficients = model::coefficients(axes, level, &rates);
+    for _ in 0..16 {
+        let mut table = coefficients.clone();
+        table[draw.index(rates.len())] += draw.of(&[1, -1, 1 << axes, -(1 << axes)]);
+        coefficients_to_rates(draw, report, axes, level, &table);
+    }
+    coefficients_to_rates(draw, report, axes, level, &coefficients);
+    adopt(draw, report, axes, level, &coefficients);
 }
 
 /// A call that answers nothing but a refusal and works in the table.

@@ -59,7 +59,8 @@ pub fn run(draw: &mut Draw, report: &mut Report, axes: u32, level: u32, bits: u8
     let guarded = lent.guarded() && numbers.guarded() && places.guarded();
     report.same(CALL, "outside the buffers", &true, &guarded, &say);
 
-    if let Ok(want) = &want {
+    // the wrapper makes its lists of one length
+    if answer(&want).0 != 7 {
         let turns: Vec<Turn> = lists
             .directions
             .iter()
@@ -69,19 +70,18 @@ pub fn run(draw: &mut Draw, report: &mut Report, axes: u32, level: u32, bits: u8
         let mut again = table.to_vec();
         let mut state = State::saved(Shape::new(axes, level), bits);
         let got = state.run(&mut again, &turns);
-        let answers: Vec<_> = want
-            .numbers
-            .iter()
-            .zip(&want.places)
-            .map(|(&n, &p)| if n == 0 { Ok(()) } else { Err(refusal((n, p))) })
-            .collect();
+        let answers = want.as_ref().map_err(|&why| refusal(why)).map(|want| {
+            let each = want.numbers.iter().zip(&want.places);
+            each.map(|(&n, &p)| if n == 0 { Ok(()) } else { Err(refusal((n, p))) }).collect::<Vec<_>>()
+        });
         report.same(CALL, "wrapper", &answers, &got, &say);
-        report.same(CALL, "wrapper's state", &want.bits, &state.bits, &say);
-        report.same(CALL, "wrapper's table", &want.table[..], &again[..], &say);
+        report.same(CALL, "wrapper's state", &want_bits, &state.bits, &say);
+        report.same(CALL, "wrapper's table", want_table, &again[..], &say);
     }
 }
 
-/// Demand 3: a load, then a run, then nothing but what the model of sets says; the list handed in whole and in two parts.
+/// Demand 3: a load, then a run, then nothing but what the model of sets says; the list handed in whole and in two parts. With no axis forward at the
+/// end, unload gives the rates.
 pub fn demand3(
     draw: &mut Draw,
     report: &mut Report,
@@ -91,14 +91,13 @@ pub fn demand3(
     directions: &[u8],
     turned: &[u32],
 ) {
-    const CALL: &str = "run after load";
     let want = model::demand3(axes, level, rates, directions, turned);
-    report.case(CALL, 0);
     let say =
         || format!("axes {axes} level {level} directions {directions:?} turned {turned:?} rates {}", short(rates));
     let cut = draw.index(directions.len() + 1);
     for cut in [0, cut] {
         let mut table = rates.to_vec();
+        report.made("load", 1);
         let Ok(mut state) = Shape::new(axes, level).load(&mut table) else {
             report.same(CALL, "load", &true, &false, &say);
             return;
@@ -112,17 +111,36 @@ pub fn demand3(
                 &mut numbers[part.clone()],
                 &mut places[part],
             );
+            report.made(CALL, 1);
             report.same(CALL, "run", &Ok(()), &done, &say);
         }
         report.same(CALL, "numbers", &want.numbers, &numbers, &say);
         report.same(CALL, "places", &want.places, &places, &say);
         report.same(CALL, "bits", &want.bits, &state.bits, &say);
         report.same(CALL, "table", &want.table, &table, &say);
+        if want.bits == 0 {
+            report.made("unload", 1);
+            report.same("unload", "after a run", &Ok(()), &state.unload(&mut table), &say);
+            report.same("unload", "table after a run", rates, &table[..], &say);
+        }
     }
+}
+
+/// A load and 200 turns, then every axis back.
+pub fn long(draw: &mut Draw, report: &mut Report, axes: u32, level: u32) {
+    let rates = inputs::rates(draw, crate::model::grid::count(axes, level) as usize);
+    let (mut directions, mut turned) = some_turns(draw, axes, 200);
+    directions.extend([255; 25]);
+    turned.extend(1..=25);
+    demand3(draw, report, axes, level, &rates, &directions, &turned);
 }
 
 fn turns(draw: &mut Draw, axes: u32) -> (Vec<u8>, Vec<u32>) {
     let count = draw.index(13);
+    some_turns(draw, axes, count)
+}
+
+fn some_turns(draw: &mut Draw, axes: u32, count: usize) -> (Vec<u8>, Vec<u32>) {
     (0..count)
         .map(|_| {
             let direction = if draw.one_in(2) { 0 } else { draw.of(&[1, 1, 1, 2, 128, 255]) };

@@ -36,7 +36,6 @@ pub fn own_tables(seed: u64, cases: u64) -> Report {
 
 /// Tables side by side in one allocation, each turned by its own thread; and one table of coefficients read by all.
 pub fn neighbouring_tables(seed: u64, rounds: u64, report: &mut Report) {
-    const CALL: &str = "threads";
     let mut draw = Draw::new(seed ^ 0x6265_7369_6465);
     for round in 0..rounds {
         let (axes, level) = [(3, 3), (8, 2), (5, 4), (1, 8), (2, 6)][(round % 5) as usize];
@@ -61,9 +60,13 @@ pub fn neighbouring_tables(seed: u64, rounds: u64, report: &mut Report) {
             let want = model_rates::load(axes, level, mine).unwrap().0;
             let (want, bits) = model_turns::turn(false, axes, level, 0, &want, axes).unwrap();
             let estimate = model_estimates::estimate(axes, level, inputs::all_bits(axes), &shared, &at[k]).unwrap();
-            report.case(CALL, 0);
-            report.same(CALL, "state and estimate", &Some((bits, estimate)), &answer, &say);
-            report.same(CALL, "table", &want[..], &tables[k * n..(k + 1) * n], &say);
+            let turns = 2 * u64::from(axes);
+            report.made("load", 1);
+            report.made("forward", turns + 1);
+            report.made("back", turns);
+            report.made("estimate", turns);
+            report.same("estimate", "in threads, and the bits", &Some((bits, estimate)), &answer, &say);
+            report.same("forward", "table, in threads", &want[..], &tables[k * n..(k + 1) * n], &say);
         }
     }
 }

@@ -48,6 +48,28 @@ pub fn turn(
     report.same(call, "wrapper's table", want_table, &again[..], &say);
 }
 
+/// Thirty calls one after the other on one table: back on an axis that is forward and forward on one that is not, and now and then the other way, with
+/// another set, shape or length.
+pub fn carried(draw: &mut Draw, report: &mut Report, axes: u32, level: u32) {
+    let any = inputs::bits(draw, axes) & inputs::all_bits(axes);
+    let mut bits = draw.of(&[0, inputs::all_bits(axes), any]);
+    let mut table = inputs::contents(draw, axes, level, bits);
+    for _ in 0..30 {
+        let axis = inputs::axis(draw, axes);
+        let handed = if draw.one_in(8) { inputs::bits(draw, axes) } else { bits };
+        let held = (1..=8).contains(&axis) && crate::model::is_forward(handed, axis);
+        let back = held != draw.one_in(4);
+        let places = if draw.one_in(16) { inputs::places(draw, axes, level).min(table.len()) } else { table.len() };
+        let (a, l) = if draw.one_in(16) { inputs::shape(draw, 300) } else { (axes, level) };
+        turn(draw, report, back, a, l, handed, &table[..places], axis);
+        if let Ok((after, set)) = model::turn(back, a, l, handed, &table[..places], axis) {
+            if (a, l) == (axes, level) {
+                (table, bits) = (after, set);
+            }
+        }
+    }
+}
+
 /// One random case of each.
 pub fn random(draw: &mut Draw, report: &mut Report, most: u64) {
     for back in [false, true] {

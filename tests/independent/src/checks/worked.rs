@@ -4,23 +4,21 @@ use crate::model;
 use crate::report::Report;
 use numolefays::{read_house_file, Refusal, Shape, State};
 
-const CALL: &str = "worked tables";
-
 pub fn worked(report: &mut Report) {
-    let mut paper = |what: &str, want: Vec<i64>, separate: Vec<i64>, library: Vec<i64>| {
-        report.case(CALL, 0);
-        report.same(CALL, "separate code", &want, &separate, &|| what.to_string());
-        report.same(CALL, "library", &want, &library, &|| what.to_string());
+    let mut paper = |kind: &'static str, want: Vec<i64>, separate: Vec<i64>, library: Vec<i64>| {
+        report.made(kind, 1);
+        report.same(kind, "separate code", &want, &separate, &|| format!("document 01: {want:?}"));
+        report.same(kind, "library", &want, &library, &|| format!("document 01: {want:?}"));
     };
     let sizes =
         [(1, 0, 1), (2, 2, 17), (3, 2, 31), (1, 8, 511), (2, 3, 49), (8, 4, 6_401), (8, 5, 31_745), (8, 8, 2_228_225)];
     for (axes, level, n) in sizes {
         let library = Shape::new(axes, level).points().map_or(-1, |n| n as i64);
-        paper("N", vec![n], vec![model::grid::count(axes, level) as i64], vec![library]);
+        paper("count", vec![n], vec![model::grid::count(axes, level) as i64], vec![library]);
     }
     let separate = model::points::number_of(2, 3, &[1, 2], &[3, 1]).map_or(-1, |n| n as i64);
     let library = Shape::new(2, 3).number_of(&[1, 2], &[3, 1]).map_or(-1, |n| n as i64);
-    paper("levels (1,2), indices (3,1)", vec![34], vec![separate], vec![library]);
+    paper("number", vec![34], vec![separate], vec![library]);
 
     let tables: [(u32, u32, &[i64], &[i64]); 4] = [
         (1, 1, &[3, 5, 7], &[6, 7, 11]),
@@ -33,15 +31,10 @@ pub fn worked(report: &mut Report) {
         let mut there = rates.to_vec();
         let done = shape.rates_to_coefficients(&mut there);
         let separate = model::rates::rates_to_coefficients(axes, level, rates).unwrap_or_default();
-        paper(
-            "rates to coefficients",
-            coefficients.to_vec(),
-            separate,
-            if done.is_ok() { there.clone() } else { vec![] },
-        );
+        paper("whole forward", coefficients.to_vec(), separate, if done.is_ok() { there.clone() } else { vec![] });
         let done = shape.coefficients_to_rates(&mut there);
         let separate = model::rates::coefficients_to_rates(axes, level, coefficients).unwrap_or_default();
-        paper("coefficients to rates", rates.to_vec(), separate, if done.is_ok() { there } else { vec![] });
+        paper("whole back", rates.to_vec(), separate, if done.is_ok() { there } else { vec![] });
     }
 
     let readings: [(&[i64], u32, i64); 5] = [
@@ -62,7 +55,7 @@ pub fn worked(report: &mut Report) {
     let separate = |r: Result<u64, model::Refused>| r.map_or_else(|r| i64::from(r.0), |_| 0);
     for (axes, level, want) in [(8, 0, 0), (9, 0, 1), (1, 9, 2), (0, 9, 1)] {
         paper(
-            "shapes",
+            "count",
             vec![want],
             vec![separate(model::points::points(axes, level))],
             vec![library(Shape::new(axes, level).points())],
@@ -71,17 +64,17 @@ pub fn worked(report: &mut Report) {
     for (x, want) in [(65_536, 0), (65_537, 8)] {
         let l = State::saved(Shape::new(1, 0), 1).estimate(&[4], &[x]).map(|_| 0);
         let s = model::estimates::estimate(1, 0, 1, &[4], &[x]).map(|_| 0);
-        paper("coordinates", vec![want], vec![separate(s)], vec![library(l)]);
+        paper("estimate", vec![want], vec![separate(s)], vec![library(l)]);
     }
     for (coefficient, want) in [(3, vec![-10]), (4, vec![2])] {
         let mut table = [coefficient];
         let l = Shape::new(1, 0).coefficients_to_rates(&mut table);
         let l = l.map_or_else(|r| vec![-i64::from(r.number())], |()| table.to_vec());
         let s = model::rates::coefficients_to_rates(1, 0, &[coefficient]).unwrap_or_else(|r| vec![-i64::from(r.0)]);
-        paper("one coefficient", want, s, l);
+        paper("whole back", want, s, l);
     }
     let mut table = [0; 4];
     let shape = read_house_file(&[0x01, 0x01, 0x06, 0x0a, 0x0e], &mut table);
     let read = model::files::read(&[0x01, 0x01, 0x06, 0x0a, 0x0e], 4).map_or(vec![], |f| f.rates);
-    paper("house file", vec![3, 5, 7], read, if shape == Ok(Shape::new(1, 1)) { table[..3].to_vec() } else { vec![] });
+    paper("read", vec![3, 5, 7], read, if shape == Ok(Shape::new(1, 1)) { table[..3].to_vec() } else { vec![] });
 }

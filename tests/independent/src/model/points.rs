@@ -1,7 +1,7 @@
-//! Count, number of a point, point of a number, successor.
+//! Count, number of a point, point of a number, successor, parent.
 
-use super::grid::{count, grid, At};
-use super::{shape, Refused};
+use super::grid::{count, grid, level_and_index, At};
+use super::{axis as check_axis, shape, Refused};
 
 pub type Lists = ([u32; 8], [u32; 8]);
 
@@ -52,4 +52,28 @@ pub fn successor(axes: u32, level: u32, levels: &[u32], indices: &[u32]) -> Resu
         return Ok(None);
     }
     point_of(axes, level, next).map(Some)
+}
+
+/// The point at (i − 1) / 2^(l+1), or at (i + 1) / 2^(l+1), on this axis; none where that is 0 or 1.
+pub fn parent(
+    axes: u32,
+    level: u32,
+    levels: &[u32],
+    indices: &[u32],
+    axis: u32,
+    right: bool,
+) -> Result<Option<Lists>, Refused> {
+    shape(axes, level)?;
+    check_axis(axes, axis)?;
+    let at = coordinates(axes, level, levels, indices)?[axis as usize - 1];
+    let step = 512 / 2u16.pow(level_and_index(at).0 + 1);
+    let beside = if right { at + step } else { at - step };
+    if beside == 0 || beside == 512 {
+        return Ok(None);
+    }
+    let (mut all_levels, mut all_indices) = ([0; 8], [0; 8]);
+    all_levels[..levels.len()].copy_from_slice(levels);
+    all_indices[..indices.len()].copy_from_slice(indices);
+    (all_levels[axis as usize - 1], all_indices[axis as usize - 1]) = level_and_index(beside);
+    Ok(Some((all_levels, all_indices)))
 }

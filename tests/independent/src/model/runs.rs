@@ -2,7 +2,7 @@
 
 use super::grid::grid;
 use super::turns::{forward_of, turn};
-use super::Refused;
+use super::{bits as check_bits, places as check_places, shape, Refused};
 use std::collections::BTreeSet;
 
 pub struct Run {
@@ -12,7 +12,8 @@ pub struct Run {
     pub bits: u8,
 }
 
-/// `numbers` and `places` are the lengths of those lists. Each call handed what the one before it left.
+/// `numbers` and `places` are the lengths of those lists. State and table are looked at before the lists, also where these are
+/// empty. Each call is handed what the one before it left.
 #[allow(clippy::too_many_arguments)]
 pub fn run(
     axes: u32,
@@ -24,6 +25,9 @@ pub fn run(
     numbers: usize,
     places: usize,
 ) -> Result<Run, Refused> {
+    shape(axes, level)?;
+    check_bits(axes, bits)?;
+    check_places(axes, level, table.len())?;
     let count = directions.len();
     if turned.len() != count || numbers != count || places != count {
         return Err((7, 0));
