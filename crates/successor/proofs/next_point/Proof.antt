@@ -37,19 +37,24 @@ nowhere-requires c κs = search needs
 
 returns-2 : tie.Need-returns-2
 returns-2 c =
-    let summed = c .before .before .before .before .before in
+    let next = c .before .before .before .before in
+    let summed = next .before in
     let stepped = summed .before .before .before .before in
-    let start = stepped .before .before .before in
-    let way = none-left (start .pre .3) (stepped .next-indices .ensures) (not-false _ (summed .before .if1 .left)) (summed .level-sum .ensures) (c .before .before .before .before .next-vector .ensures) (c .before .if2 .taken) in
-    c .nowhere .ensures ∙ way
+    let pre = stepped .before .before .before .pre in
+    let past = not-false _ (summed .before .if1 .left) in
+    c .nowhere .ensures
+    ∙ none-left (pre .3) (stepped .next-indices .ensures) past (summed .level-sum .ensures) (next .next-vector .ensures)
+    (c .before .if2 .taken)
 
 returns-3 : tie.Need-returns-3
 returns-3 c =
-    let summed = c .before .before .before .before .before in
+    let next = c .before .before .before .before in
+    let summed = next .before in
     let stepped = summed .before .before .before .before in
-    let start = stepped .before .before .before in
-    let way = first-of-next (start .pre .3) (stepped .next-indices .ensures) (not-false _ (summed .before .if1 .left)) (summed .level-sum .ensures) (c .before .before .before .before .next-vector .ensures) (c .before .if2 .left) in
-    way
+    let pre = stepped .before .before .before .pre in
+    let past = not-false _ (summed .before .if1 .left) in
+    first-of-next (pre .3) (stepped .next-indices .ensures) past (summed .level-sum .ensures) (next .next-vector .ensures)
+    (c .before .if2 .left)
 
 pub next-point-spec : {M : Type 1} → statement M
 next-point-spec =
