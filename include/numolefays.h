@@ -40,7 +40,8 @@ enum numolefays_refusal {
     /* because of the input */
     NUMOLEFAYS_AXES = 1,             /* d outside 1 to 8 */
     NUMOLEFAYS_LEVEL = 2,            /* n above 8 */
-    NUMOLEFAYS_TABLE_LENGTH = 3,     /* table not of exactly N places (reader: fewer than N) */
+    NUMOLEFAYS_TABLE_LENGTH = 3,     /* table not of exactly N places (reader: fewer than N);
+                                        output buffer shorter than the file that is written */
     NUMOLEFAYS_RATE = 4,             /* a rate out of range; place: smallest such point number */
     NUMOLEFAYS_AXIS = 5,             /* axis outside 1 to d; place: the axis given */
     NUMOLEFAYS_POINT_NUMBER = 6,     /* point number N or more */
@@ -188,7 +189,7 @@ uint32_t numolefays_estimate(uint32_t axes, uint32_t level, uint8_t forward, con
                              size_t table_length, const uint32_t *coordinates, size_t coordinates_length,
                              int64_t *estimate, uint64_t *place);
 
-/* ---- house files [12] ---- */
+/* ---- house files [12, 16] ---- */
 
 /*
  * A house file's N rates into the first N places of the table; the places after them hold what they held.
@@ -197,6 +198,36 @@ uint32_t numolefays_estimate(uint32_t axes, uint32_t level, uint8_t forward, con
  */
 uint32_t numolefays_read_house_file(const uint8_t *bytes, size_t bytes_length, int64_t *table,
                                     size_t table_length, uint32_t *axes, uint32_t *level, uint64_t *place);
+
+/*
+ * The shape of a house file and its N, from the first two numbers alone: how long a table to lend to the reader.
+ * Whether N rates come after them is for the reader to say.
+ * Refused: 11 or 12 for d, 11 or 12 for n, 1, 2.
+ */
+uint32_t numolefays_house_file_shape(const uint8_t *bytes, size_t bytes_length, uint32_t *axes, uint32_t *level,
+                                     uint64_t *points, uint64_t *place);
+
+/*
+ * The house file of a shape and its N rates, each number in its fewest groups: equal tables, equal files. The
+ * rates are only read. `*length` gets the file's length, at most 2 + 5 N; the file goes to the first `*length`
+ * bytes of the output buffer, and the bytes after them hold what they held.
+ * Refused: 1, 2, 3 (not exactly N rates), 4 (the smallest point number with no rate), 3 (output buffer shorter
+ * than the file).
+ */
+uint32_t numolefays_write_house_file(uint32_t axes, uint32_t level, const int64_t *rates, size_t rates_length,
+                                     uint8_t *out, size_t out_length, uint64_t *length, uint64_t *place);
+
+/*
+ * A house file read and written again, without a table: the one form of all files of that shape and these rates.
+ * It is never longer than the file, and rewriting it changes no byte; but the two buffers must not overlap [15].
+ * A file of more than most_points points is refused as by a reader with that many places; 2,228,225 is no limit.
+ * `*length` gets the form's length; the form goes to the first `*length` bytes of the output buffer, and the bytes
+ * after them hold what they held.
+ * Refused: 11 or 12 for d, 11 or 12 for n, 1, 2, 3 (N above most_points), 11 or 12 for each rate, 13, 3 (output
+ * buffer shorter than the form).
+ */
+uint32_t numolefays_rewrite_house_file(const uint8_t *bytes, size_t bytes_length, size_t most_points,
+                                       uint8_t *out, size_t out_length, uint64_t *length, uint64_t *place);
 
 #ifdef __cplusplus
 }

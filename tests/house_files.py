@@ -1,6 +1,7 @@
 #!/usr/bin/env python3
 """The sample files of crates/house_files (its data/) and what the program has to print of them (its stdout), made without its code: document 01's
-rules for house files, word by word. `house_files.py FOLDER` writes both; the seed is fixed, so that it writes the same each time."""
+rules for house files, word by word. `house_files.py FOLDER` writes both; the seed is fixed, so that it writes the same each time. For rewriting.py:
+the one form of a house file, by document 02's words."""
 import os
 import random
 import sys
@@ -11,7 +12,7 @@ PLACES = 8192
 TOP = 2 ** 32 - 1
 
 
-# ---- what the program has to print
+# ---- what the program coefficients has to print
 
 class Refused(Exception):
     pass
@@ -35,14 +36,14 @@ def number(data, at):
     return value, at
 
 
-def table(data):
+def table(data, places=PLACES):
     d, at = number(data, 0)
     n, at = number(data, at)
     if not 1 <= d <= 8:
         raise Refused(1)
     if n > 8:
         raise Refused(2)
-    if size(d, n) > PLACES:
+    if size(d, n) > places:
         raise Refused(3)
     rates = []
     for _ in range(size(d, n)):
@@ -62,6 +63,16 @@ def report(data):
     lines = ["axes %d level %d points %d" % (d, n, len(rates))]
     lines += ["%d %d" % line for line in enumerate(table_of_set(d, n, rates, range(1, d + 1)))]
     return "".join(line + "\n" for line in lines)
+
+
+# ---- what the program rewrite has to print
+
+def rewritten(data, places):
+    """On standard output the shape and the rates of the file, each number in its fewest groups; else its refusal on standard error."""
+    try:
+        return file_of(*table(data, places)), b""
+    except Refused as why:
+        return b"", b"refused %d\n" % why.args
 
 
 # ---- sample files

@@ -134,6 +134,28 @@ static void analyst(const struct kept *half, const struct kept *whole)
     ask(&k, 10000, 65537);
 }
 
+/* The rates as a house file, the same for every such table, and read back; a longer file of the same table has this one as its form. */
+static void file_again(const struct kept *rates)
+{
+    static const uint8_t longer[] = {0x82, 0x00, 0x01, 0x88, 0x80, 0x00, 0x06, 0x0A, 0x04, 0x0C};
+    uint8_t file[2 + 5 * POINTS], form[sizeof longer];
+    uint64_t length, points, form_length, place;
+    struct kept again = {0};
+
+    must("writer", numolefays_write_house_file(rates->axes, rates->level, rates->table, POINTS, file, sizeof file, &length, &place), &place);
+    printf("house file:");
+    for (size_t k = 0; k < length; k++)
+        printf(" %02x", (unsigned)file[k]);
+    must("shape", numolefays_house_file_shape(file, length, &again.axes, &again.level, &points, &place), &place);
+    must("reader", numolefays_read_house_file(file, length, again.table, POINTS, &again.axes, &again.level, &place), &place);
+    printf("\nread back, %" PRIu64 " points: %s\n", points,
+           again.axes == rates->axes && again.level == rates->level && memcmp(again.table, rates->table, sizeof again.table) == 0
+               ? "the same shape and rates" : "another table");
+    must("rewriting", numolefays_rewrite_house_file(longer, sizeof longer, POINTS, form, sizeof form, &form_length, &place), &place);
+    printf("rewritten from %zu bytes: %s\n", sizeof longer,
+           form_length == length && memcmp(form, file, length) == 0 ? "the same file" : "another file");
+}
+
 /* The reviewer: the very rates that were sampled come back, by single turns and whole; a table that no rates have is refused and left. */
 static void reviewer(const struct kept *coefficients)
 {
@@ -150,6 +172,7 @@ static void reviewer(const struct kept *coefficients)
     printf("the coefficients of the job: %s\n", memcmp(k.table, coefficients->table, sizeof k.table) == 0 ? "the same" : "others");
     tell("coefficients to rates", numolefays_coefficients_to_rates(k.axes, k.level, k.table, POINTS, &place), &place);
     show("rates", &k);
+    file_again(&k);
 
     k = *coefficients;
     k.table[3] += 1;

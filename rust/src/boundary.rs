@@ -151,6 +151,33 @@ mod raw {
             level: *mut u32,
             place: *mut u64,
         ) -> u32;
+        pub fn numolefays_house_file_shape(
+            bytes: *const u8,
+            bytes_len: usize,
+            axes: *mut u32,
+            level: *mut u32,
+            points: *mut u64,
+            place: *mut u64,
+        ) -> u32;
+        pub fn numolefays_write_house_file(
+            axes: u32,
+            level: u32,
+            rates: *const i64,
+            rates_len: usize,
+            out: *mut u8,
+            out_len: usize,
+            length: *mut u64,
+            place: *mut u64,
+        ) -> u32;
+        pub fn numolefays_rewrite_house_file(
+            bytes: *const u8,
+            bytes_len: usize,
+            most_points: usize,
+            out: *mut u8,
+            out_len: usize,
+            length: *mut u64,
+            place: *mut u64,
+        ) -> u32;
     }
 }
 
@@ -358,6 +385,53 @@ pub fn read_house_file(bytes: &[u8], table: &mut [i64], axes: &mut u32, level: &
             table.len(),
             axes,
             level,
+            place,
+        )
+    }
+}
+
+/// The shape of a house file and its number of points, from the first two numbers alone. Section 16. Refused with 11 or 12
+/// for d and for n, 1, 2.
+pub fn house_file_shape(bytes: &[u8], axes: &mut u32, level: &mut u32, points: &mut u64, place: &mut u64) -> u32 {
+    unsafe { raw::numolefays_house_file_shape(bytes.as_ptr(), bytes.len(), axes, level, points, place) }
+}
+
+/// The house file of a shape and its rates into the first bytes of `out`; `length` is how many they are. Section 16. Refused
+/// with 1, 2, 3, 4, and with 3 where `out` is shorter than the file.
+pub fn write_house_file(
+    axes: u32,
+    level: u32,
+    rates: &[i64],
+    out: &mut [u8],
+    length: &mut u64,
+    place: &mut u64,
+) -> u32 {
+    unsafe {
+        raw::numolefays_write_house_file(
+            axes,
+            level,
+            rates.as_ptr(),
+            rates.len(),
+            out.as_mut_ptr(),
+            out.len(),
+            length,
+            place,
+        )
+    }
+}
+
+/// The one form of a house file of at most `most_points` points into the first bytes of `out`; `length` is how many they are.
+/// Section 16. Refused with 11 or 12 for d and for n, 1, 2, 3, 11 or 12 for each rate, 13, and with 3 where `out` is shorter
+/// than the form.
+pub fn rewrite_house_file(bytes: &[u8], most_points: usize, out: &mut [u8], length: &mut u64, place: &mut u64) -> u32 {
+    unsafe {
+        raw::numolefays_rewrite_house_file(
+            bytes.as_ptr(),
+            bytes.len(),
+            most_points,
+            out.as_mut_ptr(),
+            out.len(),
+            length,
             place,
         )
     }

@@ -4,7 +4,8 @@
 //!
 //! A table is a slice of `i64`, one place for each point of its [`Shape`], in the order of the point numbers. The library
 //! allocates nothing and keeps nothing between calls: a [`State`] says which axes are forward, and whoever holds the table
-//! holds the state beside it. Calls on different tables may run at the same time in different threads.
+//! holds the state beside it. Calls on different tables may run at the same time in different threads. Of this crate only
+//! [`house_file`] and [`rewritten_house_file`] allocate, the `Vec` that they answer.
 //!
 //! There are no preconditions on values: whatever numbers, lists and slices a call is handed, it either succeeds or answers a
 //! [`Refusal`], and after a refusal the table, the state and every other buffer hold what they held. What C asks of its
@@ -34,7 +35,9 @@ mod shape;
 mod state;
 mod turn;
 
-pub use house_file::read_house_file;
+pub use house_file::{
+    house_file, house_file_shape, read_house_file, rewrite_house_file, rewritten_house_file, write_house_file,
+};
 pub use point::{Point, Side};
 pub use refusal::Refusal;
 pub use shape::Shape;

@@ -9,7 +9,8 @@ pub enum Refusal {
     Axes,
     /// 2: the top level is above 8.
     Level,
-    /// 3: the table has not exactly as many places as the shape has points (the reader: fewer).
+    /// 3: the table has not exactly as many places as the shape has points (the reader: fewer), or the output buffer is
+    /// shorter than the file that is written.
     TableLength,
     /// 4: a rate is out of range; the smallest such point number.
     Rate(u64),
@@ -139,7 +140,7 @@ impl fmt::Display for Refusal {
         match self {
             Refusal::Axes => write!(f, "the number of axes is outside 1 to 8"),
             Refusal::Level => write!(f, "the top level is above 8"),
-            Refusal::TableLength => write!(f, "the table has the wrong number of places"),
+            Refusal::TableLength => write!(f, "the table has the wrong number of places, or the output buffer too few"),
             Refusal::Rate(point) => write!(f, "the rate of point {point} is out of range"),
             Refusal::Axis(axis) => write!(f, "there is no axis {axis}"),
             Refusal::PointNumber => write!(f, "there is no point of this number"),

@@ -9,6 +9,7 @@ pub mod hashed;
 pub mod points;
 pub mod walk;
 pub mod whole;
+pub mod words;
 
 /// The content limit, on either side of zero.
 pub const LIMIT: i64 = 1 << 47;

@@ -17,10 +17,10 @@ use Rattle.refusals.specs.Checks.{unless}
 use Rattle.refusals.proofs.Passing.{test-passed}
 use Rattle.integers.specs.Half.{isRate}
 use Rattle.shapes.specs.declared.Shape.{Shape}
-use Rattle.shapes.specs.Shapes.{sparse, checkShape, pointsOf}
+use Rattle.shapes.specs.Shapes.{checkShape, pointsOf}
 use Rattle.house_file.specs.Reading.{Read, got, refused, _next_, _thenRead_}
 use Rattle.house_file.specs.Numbers.{groups, largest, limited, readNumber, rateOf}
-use Rattle.house_file.specs.Files.{prepended, readRates, Contents, ended, readTable, readContents}
+use Rattle.house_file.specs.Files.{readHead, prepended, readRates, Contents, ended, readTable, readContents}
 use Rattle.house_file.proofs.Filing.{rate-filed}
 
 -- Every place of a list holds a rate.
@@ -104,43 +104,59 @@ rates-rated (suc m) bytes rates rest e =
     (rate-filed (t .value) (number-small bytes (t .value) (t .middle) (t .first)))
     (rates-rated m (t .middle) (w .value) (w .middle) (w .first)))
 
+-- An accepted file in its parts: d and n, and after them the rates and nothing else.
+pub record Whole (places : ℕ) (bytes : List ℕ) (s : Shape) (rates : List ℤ) (rest : List ℕ) : Type 0 where
+  pub after : List ℕ
+  pub head : readHead bytes ≡ got s after
+  pub shaped : checkShape s ≡ verdict.Passed
+  pub room : pointsOf s ≤ places
+  pub filled : readRates (pointsOf s) after ≡ got rates rest
+  pub ends : length rest ≡ 0
+
+whole : (places : ℕ) (bytes : List ℕ) (s : Shape) (rates : List ℤ) (middle : List ℕ) (c : Contents) (rest : List ℕ) →
+    got (record { shape = s; rates = rates }) middle ≡ got c rest → Whole places bytes s rates middle → Whole places bytes (c .shape) (c .rates) rest
+whole places bytes s rates middle c rest e w =
+    let contents : c ≡ record { shape = s; rates = rates } = cc in
+    let after : rest ≡ middle = cc in
+    rw (contents, after) w
+
+pub contents-whole : (places : ℕ) (bytes : List ℕ) (c : Contents) (rest : List ℕ) → readContents places bytes ≡ got c rest →
+    Whole places bytes (c .shape) (c .rates) rest
+unfolding readContents readTable ended
+contents-whole places bytes c rest e =
+    let h = through (readHead bytes) (readTable places) e in
+    let s = h .value in
+    let n = pointsOf s in
+    let x = readRates n (h .middle) next ended s in
+    let places-test = unless (leb n places) TableLength in
+    let roomy = read-next (checkShape s) (places-test thenRead x) (h .second) in
+    let t = through (readRates n (h .middle)) (ended s) (read-next places-test x roomy) in
+    let end-test = unless (eqb (length (t .middle)) 0) BytesLeft in
+    let all : Read Contents = got (record { shape = s; rates = t .value }) (t .middle) in
+    let same : all ≡ got c rest = read-next end-test all (t .second) in
+    whole places bytes s (t .value) (t .middle) c rest same
+    (record {
+      after = h .middle;
+      head = h .first;
+      shaped = passed-first (checkShape s) (places-test thenRead x) (h .second);
+      room = leb-true n places (test-passed (leb n places) TableLength (passed-first places-test x roomy));
+      filled = t .first;
+      ends = eqb-true (length (t .middle)) 0 (test-passed (eqb (length (t .middle)) 0) BytesLeft (passed-first end-test all (t .second)));
+    })
+
 pub record Accepted (places : ℕ) (s : Shape) (rates : List ℤ) (rest : List ℕ) : Type 0 where
   pub shaped : checkShape s ≡ verdict.Passed
   pub room : pointsOf s ≤ places
   pub rated : Rated (pointsOf s) rates
   pub ends : length rest ≡ 0
 
-held : (places : ℕ) (s : Shape) (rates : List ℤ) (middle : List ℕ) (c : Contents) (rest : List ℕ) →
-    got (record { shape = s; rates = rates }) middle ≡ got c rest → Accepted places s rates middle → Accepted places (c .shape) (c .rates) rest
-held places s rates middle c rest e a =
-    let contents : c ≡ record { shape = s; rates = rates } = cc in
-    let after : rest ≡ middle = cc in
-    rw (contents, after) a
-
-table-accepted : (places : ℕ) (s : Shape) (bytes : List ℕ) (c : Contents) (rest : List ℕ) → readTable places s bytes ≡ got c rest →
-    Accepted places (c .shape) (c .rates) rest
-unfolding readTable ended
-table-accepted places s bytes c rest e =
-    let n = pointsOf s in
-    let x = readRates n bytes next ended s in
-    let places-test = unless (leb n places) TableLength in
-    let roomy = read-next (checkShape s) (places-test thenRead x) e in
-    let t = through (readRates n bytes) (ended s) (read-next places-test x roomy) in
-    let end-test = unless (eqb (length (t .middle)) 0) BytesLeft in
-    let all : Read Contents = got (record { shape = s; rates = t .value }) (t .middle) in
-    let same : all ≡ got c rest = read-next end-test all (t .second) in
-    held places s (t .value) (t .middle) c rest same
-    (record {
-      shaped = passed-first (checkShape s) (places-test thenRead x) e;
-      room = leb-true n places (test-passed (leb n places) TableLength (passed-first places-test x roomy));
-      rated = rates-rated n bytes (t .value) (t .middle) (t .first);
-      ends = eqb-true (length (t .middle)) 0 (test-passed (eqb (length (t .middle)) 0) BytesLeft (passed-first end-test all (t .second)));
-    })
-
 pub contents-accepted : (places : ℕ) (bytes : List ℕ) (c : Contents) (rest : List ℕ) → readContents places bytes ≡ got c rest →
     Accepted places (c .shape) (c .rates) rest
-unfolding readContents
 contents-accepted places bytes c rest e =
-    let t = through (readNumber bytes) _ e in
-    let w = through (readNumber (t .middle)) _ (t .second) in
-    table-accepted places (sparse (t .value) (w .value)) (w .middle) c rest (w .second)
+    let w = contents-whole places bytes c rest e in
+    record {
+      shaped = w .shaped;
+      room = w .room;
+      rated = rates-rated (pointsOf (c .shape)) (w .after) (c .rates) rest (w .filled);
+      ends = w .ends;
+    }

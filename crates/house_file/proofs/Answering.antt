@@ -1,8 +1,9 @@
 -- What a file's head, its table and the whole file give, by the first check that refuses. Each case is the definition with its tests decided.
 -- Assumes nothing.
-use mathlib.Core.Path.{_≡_, refl, ap, _∙_}
+use mathlib.Core.Path.{_≡_, refl, sym, ap, _∙_}
 use mathlib.Core.List.{List}
 use Prim.Native.Nat.{ℕ, _≤_}
+use native.Mathlib.Omega.{arith}
 use lib.Dec.{leb}
 use lib.IntN.{ℤ}
 use borrow.Author.Tests.{leb-true}
@@ -13,12 +14,11 @@ use Rattle.refusals.specs.declared.Verdict.the-variants as verdict
 use Rattle.refusals.specs.Checks.{unless, _andThen_}
 use Rattle.refusals.proofs.Passing.{first-passed, next-passed, test-passed}
 use Rattle.shapes.specs.declared.Shape.{Shape}
-use Rattle.shapes.specs.Shapes.{sparse, checkShape, pointsOf}
-use Rattle.house_file.specs.declared.Opened.the-variants.{Holds, Refused}
+use Rattle.shapes.specs.Shapes.{checkShape, pointsOf}
 use Rattle.house_file.specs.Reading.{Read, got, refused, _next_, _thenRead_}
 use Rattle.house_file.specs.Numbers.{readNumber}
-use Rattle.house_file.specs.Files.{Contents, readRates, ended, readTable, readContents, afterReading, filledWith}
-use Rattle.house_file.specs.Steps.{named, readHead, checkPlaces, checkedRates, ratesOver}
+use Rattle.house_file.specs.Files.{named, readHead, Contents, readRates, ended, readTable, readContents}
+use Rattle.house_file.specs.Steps.{checkPlaces, checkedRates, checkedRest, ratesRead}
 
 module _ (bytes : List ℕ) where
   pub first-refused : {r : Refusal} → readNumber bytes ≡ refused r → readHead bytes ≡ refused r
@@ -36,19 +36,13 @@ module _ (bytes : List ℕ) where
 
   -- A whole file is its head and then its table.
   pub head-first : (places : ℕ) → readContents places bytes ≡ readHead bytes next readTable places
-  unfolding readContents readHead
-  head-first places = go (readNumber bytes)
-    where
-      second : (d : ℕ) (x : Read ℕ) →
-          x next (λ n rest. readTable places (sparse d n) rest) ≡ x next named d next readTable places
-      second d (got n rest) = refl
-      second d (refused r) = refl
+  unfolding readContents
+  head-first places = refl
 
-      go : (x : Read ℕ) →
-          x next (λ d more. readNumber more next (λ n rest. readTable places (sparse d n) rest))
-          ≡ x next (λ d more. readNumber more next named d) next readTable places
-      go (got d more) = second d (readNumber more)
-      go (refused r) = refl
+-- A table is read, of this shape and with these rates.
+pub record Opens (x : Read Contents) (s : Shape) (rates : List ℤ) : Type 0 where
+  pub left : List ℕ
+  pub is : x ≡ got (record { shape = s; rates = rates }) left
 
 -- What passed checks of the shape and of the places tell.
 pub record Fitting (s : Shape) (places : ℕ) : Type 0 where
@@ -80,14 +74,40 @@ module _ (places : ℕ) (s : Shape) (rest : List ℕ) where
   pub placed : checkPlaces s places ≡ verdict.Passed → readTable places s rest ≡ readRates (pointsOf s) rest next ended s
   placed e = checks-first ∙ rw e
 
-module _ (s : Shape) where
-  pub unchecked : (x : Read (List ℤ)) (r : Refusal) → checkedRates x ≡ verdict.Refused r → x next ended s ≡ refused r
-  unfolding checkedRates ended
-  unchecked (got rates rest) r e = rw e
-  unchecked (refused q) r e = ap refused (cc)
+-- What the check of all that follows d and n decides.
+module _ (places : ℕ) (s : Shape) (rest : List ℕ) where
+  all-rates : Read (List ℤ)
+  all-rates = readRates (pointsOf s) rest
 
-  pub checked : (table : List ℤ) (x : Read (List ℤ)) → checkedRates x ≡ verdict.Passed →
-      filledWith table (x next ended s) ≡ afterReading (Holds s) (ratesOver table x)
-  unfolding checkedRates ended ratesOver
-  checked table (got rates rest) e = rw e
-  checked table (refused q) e = cc
+  end-refused : (x : Read (List ℤ)) {r : Refusal} → checkedRates x ≡ verdict.Refused r → x next ended s ≡ refused r
+  unfolding checkedRates ended
+  end-refused (got rates left) e = rw e
+  end-refused (refused q) e = ap refused (cc)
+
+  pub table-refused : {r : Refusal} → checkedRest places s rest ≡ verdict.Refused r → readTable places s rest ≡ refused r
+  unfolding checkedRest all-rates
+  table-refused {r} e = go (checkPlaces s places) refl
+    where
+      go : (v : Verdict) → checkPlaces s places ≡ v → readTable places s rest ≡ refused r
+      go verdict.Passed h = placed places s rest h ∙ end-refused all-rates (sym (rw h refl) ∙ e)
+      go (verdict.Refused q) h = unplaced places s rest h ∙ ap refused (cc)
+
+  module _ (e : checkedRest places s rest ≡ verdict.Passed) where
+    fits-first : checkPlaces s places ≡ verdict.Passed
+    unfolding checkedRest
+    fits-first = first-passed (checkPlaces s places) (checkedRates (readRates (pointsOf s) rest)) e
+
+    pub table-fits : Fitting s places
+    table-fits = places-passed s places fits-first
+
+    pub rates-checked : checkedRates (readRates (pointsOf s) rest) ≡ verdict.Passed
+    unfolding checkedRest
+    rates-checked = next-passed (checkPlaces s places) (checkedRates (readRates (pointsOf s) rest)) e
+
+    end-passed : (x : Read (List ℤ)) → checkedRates x ≡ verdict.Passed → Opens (x next ended s) s (ratesRead x)
+    unfolding checkedRates ended ratesRead
+    end-passed (got rates left) h = record { left = left; is = rw h }
+    end-passed (refused q) h = let z : _≡_ {A = ℕ} 0 1 = cc in absurd (omega arith)
+
+    pub table-opens : Opens (readTable places s rest) s (ratesRead (readRates (pointsOf s) rest))
+    table-opens = rw (placed places s rest fits-first) (end-passed (readRates (pointsOf s) rest) rates-checked)

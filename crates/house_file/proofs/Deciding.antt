@@ -1,5 +1,5 @@
--- The first 40,971 bytes decide for a buffer of at most 8,192 places: what stands after them is not looked at, except that bytes are left. True since a
--- number takes at most 5 bytes, so that no file of more than 10 + 5 × 8,192 bytes is accepted.
+-- The first bytes decide, one more than 10 and 5 for each place of the buffer: what stands after them is not looked at, except that bytes are left. True
+-- since a number takes at most 5 bytes, so that no longer file is accepted.
 -- Assumes nothing.
 use mathlib.Core.Path.{_≡_, refl}
 use mathlib.Core.Bool.{Bool, true, false}
@@ -20,7 +20,7 @@ use Rattle.shapes.specs.declared.Shape.{Shape}
 use Rattle.shapes.specs.Shapes.{sparse, checkShape, pointsOf}
 use Rattle.house_file.specs.Reading.{Read, got, refused, _next_, _thenRead_}
 use Rattle.house_file.specs.Numbers.{below, groups, largest, limited, readNumber, rateOf}
-use Rattle.house_file.specs.Files.{Contents, prepended, readRates, ended, readTable, readContents, filledWith, readFile}
+use Rattle.house_file.specs.Files.{named, readHead, Contents, prepended, readRates, ended, readTable, readContents, filledWith, readFile}
 
 -- From the first bytes the same is read as from all of them, with at least m of the bytes after it; or both are refused alike.
 pub data Agree {A : Type 0} (m : ℕ) (cut whole : Read A) : Type 0 where
@@ -74,10 +74,10 @@ ended-agree s rates (suc j) (b ∷ rest) h =
     (rw (ne-eqb (suc (length (take j rest))) 0 (λ e. omega arith)))
     (rw (ne-eqb (suc (length rest)) 0 (λ e. omega arith)))
 
-table-agree : (places : ℕ) → places ≤ 8192 → (s : Shape) (j : ℕ) (rest : List ℕ) → 40961 ≤ j →
+table-agree : (places : ℕ) (s : Shape) (j : ℕ) (rest : List ℕ) → 5 * places + 1 ≤ j →
     Agree 0 (readTable places s (take j rest)) (readTable places s rest)
 unfolding readTable
-table-agree places few s j rest h =
+table-agree places s j rest h =
     let n = pointsOf s in
     checked-agree (checkShape s)
     (λ _.
@@ -85,18 +85,22 @@ table-agree places few s j rest h =
     (λ room.
     then-agree (rates-agree n 1 j rest (omega (arith, leb-true n places room))) (ended s) (λ rates i more le. ended-agree s rates i more le)))
 
-contents-agree : (places : ℕ) → places ≤ 8192 → (bytes : List ℕ) → Agree 0 (readContents places (take 40971 bytes)) (readContents places bytes)
+head-agree : (m j : ℕ) (bytes : List ℕ) → 10 + m ≤ j → Agree m (readHead (take j bytes)) (readHead bytes)
+unfolding readHead
+head-agree m j bytes h =
+    then-agree (number-agree (5 + m) j bytes (omega arith)) _
+    (λ d i more le. then-agree (number-agree m i more le) (named d) (λ n k rest few. same (sparse d n) k rest few refl refl))
+
+pub contents-agree : (places j : ℕ) → 5 * places + 11 ≤ j → (bytes : List ℕ) →
+    Agree 0 (readContents places (take j bytes)) (readContents places bytes)
 unfolding readContents
-contents-agree places few bytes =
-    then-agree (number-agree 40966 40971 bytes (omega arith)) _
-    (λ d j more h.
-    then-agree (number-agree 40961 j more h) _
-    (λ n i rest le. table-agree places few (sparse d n) i rest le))
+contents-agree places j h bytes =
+    then-agree (head-agree (5 * places + 1) j bytes (omega arith)) (readTable places) (λ s i rest le. table-agree places s i rest le)
 
 left-same : (table : List ℤ) {cut whole : Read Contents} → Agree 0 cut whole → filledWith table cut ≡ filledWith table whole
 left-same table (same c j rest h e w) = rw (e, w)
 left-same table (neither r e w) = rw (e, w)
 
-pub first-bytes-decide : (bytes : List ℕ) (table : List ℤ) → length table ≤ 8192 → readFile (take 40971 bytes) table ≡ readFile bytes table
+pub first-bytes-decide : (bytes : List ℕ) (table : List ℤ) (j : ℕ) → 5 * length table + 11 ≤ j → readFile (take j bytes) table ≡ readFile bytes table
 unfolding readFile
-first-bytes-decide bytes table few = left-same table (contents-agree (length table) few bytes)
+first-bytes-decide bytes table j h = left-same table (contents-agree (length table) j h bytes)

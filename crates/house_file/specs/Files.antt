@@ -14,10 +14,30 @@ use Rattle.house_file.specs.declared.Opened.the-variants.{Holds, Refused
 use Rattle.house_file.specs.Reading.{Read, got, refused, _next_, _thenRead_}
 use Rattle.house_file.specs.Numbers.{readNumber, rateOf}
 
--- m rates in a row.
+-- d and n, before they are checked.
+abbrev pub named : ℕ → ℕ → List ℕ → Read Shape
+named d n rest = got (sparse d n) rest
+
+unfoldable pub readHead : List ℕ → Read Shape
+readHead bytes = readNumber bytes next (λ d more. readNumber more next named d)
+
+-- Where both were read, refused with 1 or 2.
+unfoldable pub headChecked : Shape → List ℕ → Read Shape
+headChecked s rest = checkShape s thenRead got s rest
+
+abbrev pub shapeRead : Read Shape → Opened
+shapeRead (got s rest) = Holds s
+shapeRead (refused r) = Refused r
+
+-- The shape that a file names, from d and n alone: 11 or 12 for d, 11 or 12 for n, then 1 or 2.
+unfoldable pub shapeOfFile : List ℕ → Opened
+shapeOfFile bytes = shapeRead (readHead bytes next headChecked)
+
+-- A rate before others.
 unfoldable pub prepended : ℤ → List ℤ → List ℕ → Read (List ℤ)
 prepended rate rates rest = got (rate ∷ rates) rest
 
+-- m rates in a row.
 unfoldable pub readRates : ℕ → List ℕ → Read (List ℤ)
 readRates zero bytes = got [] bytes
 readRates (suc m) bytes = readNumber bytes next (λ u rest. readRates m rest next prepended (rateOf u))
@@ -40,8 +60,7 @@ readTable places s rest =
 
 -- A whole file, for a buffer of that many places.
 unfoldable pub readContents : ℕ → List ℕ → Read Contents
-readContents places bytes =
-    readNumber bytes next (λ d more. readNumber more next (λ n rest. readTable places (sparse d n) rest))
+readContents places bytes = readHead bytes next readTable places
 
 -- What the reader leaves: its answer, and the contents of the buffer.
 pub record AfterReading : Type 0 where

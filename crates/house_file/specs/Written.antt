@@ -1,4 +1,4 @@
--- Numbers and files as they are written: each number in the fewest groups of seven bits (document 01, "House file").
+-- Numbers and files as they are written: each number in the fewest groups of seven bits (document 01, "House file"; document 02, a).
 -- Assumes nothing.
 use mathlib.Core.List.{List, [], _∷_, _++_}
 use Prim.Native.Nat.{ℕ, zero, suc, _+_, _/_, _%_}

@@ -9,8 +9,10 @@ use Rattle.numbering.specs.declared.Side.the-variants.{Right}
 use Rattle.states.specs.declared.Answer.{Answer}
 use Rattle.states.specs.After.{After, after, Left, left}
 use Rattle.runs.specs.Calls.{Report, report}
+use Rattle.house_writer.specs.declared.Filed.{Filed}
+use Rattle.house_writer.specs.Writing.{AfterWriting, afterWriting}
 use Rattle.numolefays.specs.Returned.{Told, told, toldOf, Returned, leaving, returned}
-use Rattle.numolefays.specs.Answers.{sideOf, ofAnswer, ofAfter, ofLeft, ofReport}
+use Rattle.numolefays.specs.Answers.{sideOf, ofAnswer, ofAfter, ofLeft, ofReport, ofFiled, ofWriting}
 
 -- A number other than 0 names the right side.
 pub right : (s : ℕ) → (s ≡ 0 → ⊥) → Right ≡ sideOf s
@@ -35,3 +37,8 @@ module _ {n p : ℕ} where
       returned n p (f, xs, ns, ps) ≡ ofReport held l
   reporting held {f} {a} {xs} {ns} {ps} {l} e h =
       ap (λ (x : Returned ℕ). leaving (x .told) (x .outputs, xs, ns, ps)) e ∙ ap (ofReport held) h
+
+  -- A length and an output buffer.
+  pub filing : (held : ℕ) {f : ℕ} {a : Filed} {out : List ℕ} {l : AfterWriting} → returned n p f ≡ ofFiled held a → afterWriting a out ≡ l →
+      returned n p (f, out) ≡ ofWriting held l
+  filing held {f} {a} {out} {l} e h = ap (λ (x : Returned ℕ). leaving (x .told) (x .outputs, out)) e ∙ ap (ofWriting held) h

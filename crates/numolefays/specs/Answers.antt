@@ -8,6 +8,7 @@ use Rattle.numbering.specs.declared.Side.the-variants as side
 use Rattle.shapes.specs.declared.Shape.{Shape}
 use Rattle.shapes.specs.declared.Counted.{Counted}
 use Rattle.shapes.specs.declared.Counted.the-variants as counted
+use Rattle.shapes.specs.Shapes.{pointsOf}
 use Rattle.points.specs.declared.Located.{Located}
 use Rattle.points.specs.declared.Outcome.{Outcome}
 use Rattle.points.specs.declared.Outcome.the-variants as outcome
@@ -24,6 +25,9 @@ use Rattle.estimates.specs.declared.Estimated.the-variants as estimated
 use Rattle.house_file.specs.declared.Opened.{Opened}
 use Rattle.house_file.specs.declared.Opened.the-variants as opened
 use Rattle.house_file.specs.Files.{AfterReading}
+use Rattle.house_writer.specs.declared.Filed.{Filed}
+use Rattle.house_writer.specs.declared.Filed.the-variants as filed
+use Rattle.house_writer.specs.Writing.{AfterWriting}
 use Rattle.numolefays.specs.Returned.{Returned, toldOf, leaving, done, refused}
 
 -- A shape and a state, from the numbers that stand for them.
@@ -95,3 +99,16 @@ ofOpened held (opened.Refused r) = refused held r
 abbrev pub ofReading : ℕ × ℕ → AfterReading → Returned (ℕ × ℕ × List ℤ)
 ofReading held a =
     leaving (ofOpened held (a .answer) .told) (ofOpened held (a .answer) .outputs .0, ofOpened held (a .answer) .outputs .1, a .table)
+
+-- The shape that a house file names, with its number of points.
+abbrev pub ofNamed : ℕ × ℕ × ℕ → Opened → Returned (ℕ × ℕ × ℕ)
+ofNamed held (opened.Holds s) = done (s .axes, s .level, pointsOf s)
+ofNamed held (opened.Refused r) = refused held r
+
+-- The length of a written file, and the output buffer.
+abbrev pub ofFiled : ℕ → Filed → Returned ℕ
+ofFiled held (filed.Length n) = done n
+ofFiled held (filed.Refused r) = refused held r
+
+abbrev pub ofWriting : ℕ → AfterWriting → Returned (ℕ × List ℕ)
+ofWriting held a = leaving (ofFiled held (a .answer) .told) (ofFiled held (a .answer) .outputs, a .out)

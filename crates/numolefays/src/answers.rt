@@ -1,4 +1,5 @@
 // An answer of the library as a number, a place and outputs.
+use house_writer::Filed;
 use numbering::Side;
 use points::Located;
 use points::Outcome;
@@ -9,7 +10,7 @@ use states::Answer;
 use states::State;
 ghost use mathlib.Core.Path.{_≡_};
 ghost use Rattle.numolefays.specs.Returned.{told, success, refusal, toldOf, returned};
-ghost use Rattle.numolefays.specs.Answers.{shapeOf, stateOf, sideOf, ofLocated, ofAnswer};
+ghost use Rattle.numolefays.specs.Answers.{shapeOf, stateOf, sideOf, ofLocated, ofAnswer, ofFiled};
 
 // A shape, from the two numbers that stand for it.
 pub fn shape_of(axes: u32, level: u32) -> Shape
@@ -108,6 +109,19 @@ pub fn hand_state(answer: Answer, forward: &mut u8, place: &mut u64) -> u32
         Answer::Refused(r) => refuse(r, place),
         Answer::Done(state) => {
             *forward = state.forward;
+            succeed(place)
+        }
+    }
+}
+
+// The output of a written file is its length.
+pub fn hand_length(filed: Filed, length: &mut u64, place: &mut u64) -> u32
+    ensures { λ k. ⌜ returned k (now (place .exit)) (now (length .exit)) ≡ ofFiled (now (length .entry)) filed ⌝ }
+{
+    match filed {
+        Filed::Refused(r) => refuse(r, place),
+        Filed::Length(size) => {
+            *length = size as u64;
             succeed(place)
         }
     }

@@ -16,7 +16,7 @@ use Rattle.reports.proofs.Accepted.{held-report, refused-report}
 
 module _ (bytes : List ℕ) (table : List ℤ) (places : length table ≡ 8192) where
   same : readFile (take 40971 bytes) table ≡ readFile bytes table
-  same = deciding.first-bytes-decide bytes table (omega (arith, places))
+  same = deciding.first-bytes-decide bytes table 40971 (omega (arith, places))
 
   by-answer : (a : Opened) (xs : List ℤ) → afterReading a xs ≡ readFile bytes table → report (take 40971 bytes) ≡ report bytes
   by-answer (Holds s) xs e =

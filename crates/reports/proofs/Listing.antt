@@ -11,9 +11,9 @@ use lib.Seq.{take-suc, take-all, length-take-le}
 use Rattle.refusals.specs.declared.Refusal.{Refusal}
 use Rattle.refusals.specs.Refusals.{numberOf}
 use Rattle.reports.specs.Text.{headingOf, pointLine, pointLines, refusedLine}
-use Rattle.reports.specs.Steps.{Put}
+use Rattle.buffers.specs.Put.{Put}
 use Rattle.reports.proofs.Decimals.{decimal-length, signed-length}
-use Rattle.reports.proofs.Puts.{put-then, put-as, put-nothing, put-length}
+use Rattle.buffers.proofs.Puts.{put-then, put-as, put-nothing, put-length}
 
 -- One line more.
 lines-snoc : (vs : List ℤ) (v : ℤ) (p : ℕ) → pointLines p (vs ++ (v ∷ [])) ≡ pointLines p vs ++ pointLine (p + length vs) v

@@ -1,44 +1,15 @@
--- Text put piece by piece is the pieces put one after the other, so a line is proved by its parts.
+-- Text put into a buffer: a copy, character by character, and all that is promised of a text at the front.
 -- Assumes nothing.
 use mathlib.Core.Path.{_≡_, refl, sym, ap, _∙_}
 use mathlib.Core.List.{List, [], _∷_, _++_}
-use Prim.Native.Nat.{ℕ, suc, _+_, _≤_, _<_}
+use Prim.Native.Nat.{ℕ, _+_, _≤_, _<_}
 use native.Mathlib.Numerals.{add-one}
 use native.Mathlib.Omega.{arith}
-use lib.ListN.{length, take, drop, getD, set, length-append}
-use lib.Seq.{sets, length-sets, sets-eq, take-suc, take-append-seam, take-all}
+use lib.ListN.{length, take, getD, set}
+use lib.Seq.{take-suc, take-all}
 use Rattle.io.specs.Counts.{Counts}
-use Rattle.reports.specs.Steps.{Put}
-
-sets-append : (a b old : List ℕ) (i : ℕ) → sets old i (a ++ b) ≡ sets (sets old i a) (i + length a) b
-sets-append [] b old i = ap (λ (k : ℕ). sets old k b) (omega arith)
-sets-append (x ∷ a) b old i =
-    let e : suc i + length a ≡ i + suc (length a) = omega arith in
-    sets-append a b (set old i x) (suc i) ∙ ap (λ (k : ℕ). sets (sets (set old i x) (suc i) a) k b) e
-
--- One piece after another.
-pub put-then : {a b old mid new : List ℕ} {i m r : ℕ} → Put a old i mid m → Put b mid m new r → Put (a ++ b) old i new r
-put-then {a} {b} {old} {mid} {new} {i} {m} {r} p q =
-    record {
-      after = omega (arith, p .after, q .after, length-append a b);
-      holds = q .holds ∙ ap (λ (l : List ℕ). sets l m b) (p .holds) ∙ ap (λ (k : ℕ). sets (sets old i a) k b) (p .after) ∙ sym (sets-append a b old i);
-    }
-
--- Nothing put.
-pub put-nothing : (old : List ℕ) (i : ℕ) → Put [] old i old i
-put-nothing old i = record { after = omega arith; holds = refl }
-
--- One character stored.
-pub put-one : (old : List ℕ) (i x : ℕ) → Put (x ∷ []) old i (set old i x) (i + 1)
-put-one old i x = record { after = omega arith; holds = refl }
-
--- The buffer keeps its length.
-pub put-length : {a old new : List ℕ} {i r : ℕ} → Put a old i new r → length new ≡ length old
-put-length {a} {old} {new} {i} p = ap length (p .holds) ∙ length-sets old i a
-
--- The text by another name.
-pub put-as : {a b old new : List ℕ} {i r : ℕ} → a ≡ b → Put a old i new r → Put b old i new r
-put-as {a} {b} {old} {new} {i} {r} e p = rw (sym e) p
+use Rattle.buffers.specs.Put.{Put}
+use Rattle.buffers.proofs.Puts.{put-then, put-one, put-length, put-as, put-front}
 
 -- A copy of characters has come to place k.
 pub record Copied (text old : List ℕ) (place : ℕ) (new : List ℕ) (k : ℕ) : Type 0 where
@@ -57,14 +28,6 @@ copied-steps {text} {old} {new} {place} {k} h lt =
 
 pub copied-ends : {text old new : List ℕ} {place k : ℕ} → Copied text old place new k → length text ≤ k → Put text old place new (place + k)
 copied-ends {text} {k = k} h le = put-as (take-all k text le) (h .copied)
-
--- What stands at the front of a buffer that was filled from its first place on.
-pub put-front : {text old new : List ℕ} {r : ℕ} → Put text old 0 new r → length text ≤ length old → take r new ≡ text
-put-front {text} {old} {new} {r} p fits =
-    let z : 0 + length text ≡ length text = omega arith in
-    let e : new ≡ text ++ drop (length text) old = p .holds ∙ sets-eq text old 0 (omega arith) ∙ ap (λ (k : ℕ). text ++ drop k old) z in
-    let n : r ≡ length text = omega (arith, p .after) in
-    rw (e, n) (take-append-seam text (drop (length text) old))
 
 -- All that is promised of a text at the front of a buffer with room for it.
 pub put-whole : {text old new : List ℕ} {r : ℕ} → Put text old 0 new r → length text ≤ length old

@@ -18,7 +18,7 @@ use Rattle.shapes.specs.Shapes.{checkShape, pointsOf}
 use Rattle.grids.specs.Grids.{neighbour}
 use Rattle.whole.specs.Whole.{coefficientsOf}
 use Rattle.house_file.specs.Numbers.{below, groups, largest, limited, readNumber, rateOf}
-use Rattle.house_file.specs.Files.{prepended, readRates, ended, readTable, readContents}
+use Rattle.house_file.specs.Files.{readHead, prepended, readRates, ended, readTable, readContents}
 use Rattle.reports.specs.Text.{digitsOf, decimal, signed, headingOf, pointLine, pointLines, refusedLine}
 use Rattle.reports.specs.Report.{tableText, report}
 
@@ -35,5 +35,5 @@ abbrev pub Cut : Type 0
 Cut = report (9 ∷ []) ≡ 114 ∷ 101 ∷ 102 ∷ 117 ∷ 115 ∷ 101 ∷ 100 ∷ 32 ∷ 49 ∷ 49 ∷ 10 ∷ []
 
 pub worked-reports : Example × Negative × Cut
-unfolding digitsOf decimal signed headingOf pointLine pointLines refusedLine tableText report sumTo choose vectors shell start points pointsOf checkShape block lastLevel levelOf sumAt within levelAt indexOf indexAt ending rank digit position firstOf number isBorder twos parentLevel parentIndex update parent trailingZeros half valueAt valuesOf sumOn forward scaled swept tableOf codeOf zero-border.neighbour neighbour coefficientsOf below groups largest limited readNumber rateOf prepended readRates ended readTable readContents
+unfolding digitsOf decimal signed headingOf pointLine pointLines refusedLine tableText report sumTo choose vectors shell start points pointsOf checkShape block lastLevel levelOf sumAt within levelAt indexOf indexAt ending rank digit position firstOf number isBorder twos parentLevel parentIndex update parent trailingZeros half valueAt valuesOf sumOn forward scaled swept tableOf codeOf zero-border.neighbour neighbour coefficientsOf below groups largest limited readNumber rateOf prepended readRates ended readTable readContents readHead
 worked-reports = (refl, refl, refl)

@@ -1,11 +1,9 @@
--- Text put into a buffer, piece by piece.
+-- The text of a table on the way.
 -- Assumes nothing.
-use mathlib.Core.Path.{_≡_}
 use mathlib.Core.List.{List}
-use Prim.Native.Nat.{ℕ, _+_}
+use Prim.Native.Nat.{ℕ}
 use lib.IntN.{ℤ}
-use lib.ListN.{length, take}
-use lib.Seq.{sets}
+use lib.ListN.{take}
 use Rattle.refusals.specs.declared.Verdict.{Verdict}
 use Rattle.refusals.specs.declared.Verdict.the-variants.{Passed, Refused}
 use Rattle.shapes.specs.declared.Shape.{Shape}
@@ -14,11 +12,6 @@ use Rattle.states.specs.After.{Left}
 use Rattle.whole.specs.Whole.{ratesToCoefficients}
 use Rattle.reports.specs.Text.{refusedLine}
 use Rattle.reports.specs.Report.{tableText}
-
--- The text stands in the buffer from a place on, all else is as it was, and `next` is the place after the text.
-pub record Put (text old : List ℕ) (place : ℕ) (new : List ℕ) (next : ℕ) : Type 0 where
-  pub after : next ≡ place + length text
-  pub holds : new ≡ sets old place text
 
 -- The text of what rates to coefficients leaves.
 unfoldable pub turnedText : Shape → Verdict → List ℤ → List ℕ

@@ -12,7 +12,8 @@ ghost use lib.ListN.{length};
 ghost use Rattle.shapes.specs.declared.Counted.the-variants.{Points};
 ghost use Rattle.shapes.specs.Shapes.{counted};
 ghost use Rattle.whole.specs.Whole.{ratesToCoefficients};
-ghost use Rattle.reports.specs.Steps.{Put, leftText, ratesText};
+ghost use Rattle.buffers.specs.Put.{Put};
+ghost use Rattle.reports.specs.Steps.{leftText, ratesText};
 
 // The rates become coefficients, and these are listed.
 fn put_coefficients(shape: Shape, count: u64, table: &mut [i64], out: &mut [u8]) -> usize

@@ -6,11 +6,13 @@ mod pieces;
 use contents::put_table;
 use house_file::Opened;
 use lines::put_refused;
+use refusals::Refusal;
 ghost use mathlib.Core.Path.{_≡_};
 ghost use lib.ListN.{take};
 ghost use Rattle.io.specs.Counts.{Counts};
+ghost use Rattle.reports.specs.Text.{refusedLine};
 ghost use Rattle.reports.specs.Report.{report as Report·report};
-ghost use Rattle.reports.specs.Steps.{Put};
+ghost use Rattle.buffers.specs.Put.{Put};
 
 // The places of a table that a file is read into.
 const PLACES: usize = 8192;
@@ -20,6 +22,18 @@ pub const MOST: usize = 352337;
 
 // So many bytes of a file decide its report, one more than an accepted file can have: 10 and for each place 5.
 pub const BYTES: usize = 40971;
+
+// The most characters of a first line, and of the line of a refused file.
+pub const LINE: usize = 81;
+
+// Puts the line of a refused file at the start of `out`, and answers how many characters it has.
+pub fn refused(why: Refusal, out: &mut [u8; LINE]) -> usize
+    ensures { λ r. ⌜ Put (refusedLine why) (now (out .entry)) 0 (now (out .exit)) r ⌝ }
+    ensures { λ r. ⌜ take r (now (out .exit)) ≡ refusedLine why ⌝ }
+    ensures { λ r. ⌜ Counts r (now (out .exit)) ⌝ }
+{
+    put_refused(why, out)
+}
 
 // Puts the report of a file of these bytes at the start of `out`, and answers how many characters it has.
 pub fn text(bytes: &[u8], out: &mut [u8; MOST]) -> usize

@@ -8,7 +8,7 @@ use shapes::Shape;
 ghost use Prim.Native.Nat.{_+_, _*_, _≤_};
 ghost use lib.ListN.{length};
 ghost use Rattle.reports.specs.Text.{headingOf, pointLine, pointLines, refusedLine};
-ghost use Rattle.reports.specs.Steps.{Put};
+ghost use Rattle.buffers.specs.Put.{Put};
 
 // The first line: d, n and N.
 pub fn put_heading(shape: Shape, count: u64, out: &mut [u8]) -> usize

@@ -4,7 +4,7 @@ ghost use Prim.Native.Nat.{_+_, _≤_};
 ghost use lib.IntN.{natAbs};
 ghost use lib.ListN.{length};
 ghost use Rattle.reports.specs.Text.{decimal, signed, named};
-ghost use Rattle.reports.specs.Steps.{Put};
+ghost use Rattle.buffers.specs.Put.{Put};
 
 // Characters as they are given.
 pub fn put(text: &[u8], out: &mut [u8], place: usize) -> usize

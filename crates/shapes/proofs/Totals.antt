@@ -13,8 +13,12 @@ use Rattle.naturals.specs.Sum.{sumTo}
 use Rattle.naturals.specs.Test.{all}
 use Rattle.naturals.proofs.Sums.{sumTo-zero, sumTo-suc, sumTo-mono, term-le}
 use Rattle.naturals.proofs.Tests.{all-at}
+use Rattle.refusals.specs.declared.Verdict.the-variants.{Passed}
 use Rattle.numbering.specs.Binomial.{choose}
-use Rattle.numbering.specs.Count.{vectors, shell, start}
+use Rattle.numbering.specs.Count.{vectors, shell, start, points}
+use Rattle.shapes.specs.declared.Shape.{Shape}
+use Rattle.shapes.specs.Shapes.{checkShape, pointsOf}
+use Rattle.shapes.proofs.Checked.{passed-in-range}
 
 pub start-zero : (d : ℕ) → start d 0 ≡ 0
 unfolding start
@@ -59,3 +63,9 @@ module _ (d : ℕ) (low : 1 ≤ d) (high : d ≤ 8) where
   -- A turn of the loop.
   pub turn : (j total count : ℕ) → j ≤ 8 → total ≡ start d j → count ≡ vectors d j → total + count * 2 ^ j % 2 ^ 64 ≡ start d (suc j)
   turn j total count le sum new = rw new (omega (arith, shifted j le, start-suc d j))
+
+-- The points of a shape that the check passes.
+pub points-small : (s : Shape) → checkShape s ≡ Passed → pointsOf s < 4294967296
+unfolding pointsOf points
+points-small s passed =
+    let range = passed-in-range s passed in start-small (s .axes) (range .low) (range .high) (suc (s .level)) (omega (arith, range .top))

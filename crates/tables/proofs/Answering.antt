@@ -15,27 +15,22 @@ use Rattle.states.specs.declared.State.{State}
 use Rattle.states.specs.declared.Answer.the-variants.{Done, Refused}
 use Rattle.states.specs.After.{after, kept, left}
 use Rattle.states.specs.States.{checkState}
-use Rattle.tables.specs.Tables.{checkTable, checkRates, times, load, adopted, adopt, quotient, scaledAt, checkSampled, unload}
+use Rattle.tables.specs.Tables.{checkTable, checkRated, times, load, adopted, adopt, quotient, scaledAt, checkSampled, unload}
 
 module _ (s : Shape) (xs : List ℤ) where
-  pub load-unchecked : (r : Refusal) → checkTable s xs ≡ verdict.Refused r → load s xs ≡ kept xs r
+  pub load-refused : (r : Refusal) → checkRated s xs ≡ verdict.Refused r → load s xs ≡ kept xs r
   unfolding load
-  load-unchecked r e = rw e
+  load-refused r e = rw e
+
+  pub load-done : checkRated s xs ≡ verdict.Passed → load s xs ≡ after (Done (record { shape = s; forward = 0 })) (map (times (s .axes)) xs)
+  unfolding load
+  load-done e = rw e
 
   pub adopt-unchecked : (r : Refusal) → checkTable s xs ≡ verdict.Refused r → adopt s xs ≡ Refused r
   unfolding adopt
   adopt-unchecked r e = rw e
 
   module _ (e : checkTable s xs ≡ verdict.Passed) where
-    pub load-refused : (r : Refusal) → checkRates xs ≡ verdict.Refused r → load s xs ≡ kept xs r
-    unfolding load
-    load-refused r h = rw (e, h)
-
-    pub load-done : checkRates xs ≡ verdict.Passed →
-        load s xs ≡ after (Done (record { shape = s; forward = 0 })) (map (times (s .axes)) xs)
-    unfolding load
-    load-done h = rw (e, h)
-
     pub adopt-refused : all (contentAt xs) (length xs) ≡ false → adopt s xs ≡ Refused Contents
     unfolding adopt
     adopt-refused h = rw (e, h)

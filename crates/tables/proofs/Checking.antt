@@ -15,7 +15,7 @@ use Rattle.refusals.proofs.Passing.{first-passed, next-passed, test-passed}
 use Rattle.shapes.specs.declared.Shape.{Shape}
 use Rattle.shapes.specs.Shapes.{checkShape, pointsOf, checkLength}
 use Rattle.shapes.proofs.Checked.{InRange, passed-in-range, in-range-passed, length-passed, length-passes}
-use Rattle.tables.specs.Tables.{checkTable, rateAt, checkRates}
+use Rattle.tables.specs.Tables.{checkTable, rateAt, checkRates, checkRated}
 
 pub record Opens (s : Shape) (xs : List ℤ) : Type 0 where
   pub range : InRange s
@@ -45,3 +45,13 @@ module _ (xs : List ℤ) where
   pub rates-pass : Passes (rateAt xs) (length xs) → checkRates xs ≡ Passed
   unfolding checkRates
   rates-pass each = rw (first-none (rateAt xs) (length xs) each, le-leb (length xs) (length xs) (omega arith))
+
+pub rated-pass : (s : Shape) (xs : List ℤ) → Opens s xs → Passes (rateAt xs) (length xs) → checkRated s xs ≡ Passed
+rated-pass s xs o each = rw (table-passes s xs o) (rates-pass xs each)
+
+module _ (s : Shape) (xs : List ℤ) (e : checkRated s xs ≡ Passed) where
+  pub rated-opens : Opens s xs
+  rated-opens = table-passed s xs (first-passed (checkTable s xs) (checkRates xs) e)
+
+  pub rated-passes : Passes (rateAt xs) (length xs)
+  rated-passes = rates-passed xs (next-passed (checkTable s xs) (checkRates xs) e)

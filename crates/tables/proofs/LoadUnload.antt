@@ -29,9 +29,9 @@ use Rattle.states.specs.After.{After, after, kept, Left, left, leftBy}
 use Rattle.states.specs.States.{checkState}
 use Rattle.states.proofs.Bits.{no-bits, no-axis}
 use Rattle.states.proofs.Checked.{Stands, state-passed, state-passes, axes-passed, axes-pass}
-use Rattle.tables.specs.Tables.{checkTable, rateAt, checkRates, times, load, quotient, isScaled, scaledAt, checkSampled, unload}
+use Rattle.tables.specs.Tables.{rateAt, checkRated, times, load, quotient, isScaled, scaledAt, checkSampled, unload}
 use Rattle.tables.proofs.Answering.{load-done, unload-done}
-use Rattle.tables.proofs.Checking.{Opens, table-passed, table-passes, rates-passed, rates-pass}
+use Rattle.tables.proofs.Checking.{Opens, rated-pass, rated-opens, rated-passes}
 use Rattle.tables.proofs.Quotients.{quotient-times, times-quotient, times-zero, quotient-zero, scaled-parts, is-scaled-rate}
 
 -- ---- lists
@@ -91,14 +91,12 @@ done-passed xs (verdict.Refused r) res st ys e =
 pub load-unload : (s : Shape) (xs : List ℤ) (st : State) (ys : List ℤ) → load s xs ≡ after (Done st) ys → unload st ys ≡ left Passed xs
 unfolding load
 load-unload s xs st ys e =
-    let passed = done-passed xs (checkTable s xs andThen checkRates xs) _ st ys e in
-    let table = first-passed (checkTable s xs) (checkRates xs) passed in
-    let rates = next-passed (checkTable s xs) (checkRates xs) passed in
-    let same : after (Done (record { shape = s; forward = 0 })) (map (times (s .axes)) xs) ≡ after (Done st) ys = sym (load-done s xs table rates) ∙ e in
+    let passed = done-passed xs (checkRated s xs) _ st ys e in
+    let same : after (Done (record { shape = s; forward = 0 })) (map (times (s .axes)) xs) ≡ after (Done st) ys = sym (load-done s xs passed) ∙ e in
     let done : Done (record { shape = s; forward = 0 }) ≡ Done st = ap (λ (a : After). a .answer) same in
     let state : record { shape = s; forward = 0 } ≡ st = cc in
     let contents : map (times (s .axes)) xs ≡ ys = ap (λ (a : After). a .table) same in
-    rw (← state, ← contents) (unfold loaded scaled in (unload-loaded s xs (table-passed s xs table) (rates-passed xs rates)))
+    rw (← state, ← contents) (unfold loaded scaled in (unload-loaded s xs (rated-opens s xs passed) (rated-passes s xs passed)))
 
 -- ---- unload, then load
 
@@ -161,6 +159,5 @@ unload-load st xs ys e =
     let contents : map (quotient d) xs ≡ ys =
     ap (λ (l : Left). l .table) (sym (unload-done st xs (u .state) (u .sampled) (u .scaled)) ∙ e) in
     rw (← contents)
-    (load-done (st .shape) (map (quotient d) xs) (table-passes (st .shape) (map (quotient d) xs) (opens st xs u))
-    (rates-pass (map (quotient d) xs) (rates st xs u))
+    (load-done (st .shape) (map (quotient d) xs) (rated-pass (st .shape) (map (quotient d) xs) (opens st xs u) (rates st xs u))
     ∙ ap₂ (λ (n : ℕ) (zs : List ℤ). after (Done (record { shape = st .shape; forward = n })) zs) (sym (no-forward st xs u)) (back st xs u))

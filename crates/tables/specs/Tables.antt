@@ -34,6 +34,10 @@ rateAt xs p = isRate (valueAt xs (suc p))
 unfoldable pub checkRates : List ℤ → Verdict
 checkRates xs = unless (leb (length xs) (firstFailing (rateAt xs) (length xs))) (Rate (firstFailing (rateAt xs) (length xs)))
 
+-- A table of rates handed in with a shape: refused with 1, 2, 3 or 4.
+abbrev pub checkRated : Shape → List ℤ → Verdict
+checkRated s xs = checkTable s xs andThen checkRates xs
+
 -- A value times 2^d.
 unfoldable pub times : ℕ → ℤ → ℤ
 times d z = z *ℤ pos (2 ^ d)
@@ -41,7 +45,7 @@ times d z = z *ℤ pos (2 ^ d)
 -- Load: rates to a loaded table, each times 2^d, no axis forward.
 unfoldable pub load : Shape → List ℤ → After
 load s xs =
-    answer (kept xs) (checkTable s xs andThen checkRates xs)
+    answer (kept xs) (checkRated s xs)
     (after (Done (record { shape = s; forward = 0 })) (map (times (s .axes)) xs))
 
 -- The state of an adopted table: all axes forward.

@@ -7,13 +7,13 @@ use states::State;
 ghost use mathlib.Core.Bool.{true};
 ghost use mathlib.Core.List.{map};
 ghost use mathlib.Core.Path.{_≡_};
-ghost use Prim.Native.Nat.{_≤_, _-_, _^_};
+ghost use Prim.Native.Nat.{_≤_, _<_, _-_, _^_};
 ghost use lib.ListN.{length};
 ghost use Rattle.naturals.specs.Test.{all};
 ghost use Rattle.naturals.specs.FirstFailing.{Passes};
 ghost use Rattle.integers.specs.Half.{isRate};
 ghost use Rattle.states.specs.After.{after, left};
-ghost use Rattle.tables.specs.Tables.{checkTable, rateAt, checkRates, times, load, adopt, quotient, isScaled, scaledAt, checkSampled, unload};
+ghost use Rattle.tables.specs.Tables.{checkTable, rateAt, checkRates, checkRated, times, load, adopt, quotient, isScaled, scaledAt, checkSampled, unload};
 
 // Refused with 1, 2 or 3.
 fn check_table(shape: Shape, table: &[i64]) -> Verdict
@@ -25,8 +25,41 @@ fn check_table(shape: Shape, table: &[i64]) -> Verdict
     shapes::check_length(shape, table.len())
 }
 
+// A value plus 2^31, modulo 2^64: below 2^32 only for a rate.
+fn raised(v: i64) -> u64
+    ensures { λ r. ⌜ (r < 2 ^ 32 → isRate v ≡ true) ⌝ }
+{
+    if v < 0 {
+        return std::num::wrapping_sub_u64(2147483647, (-1 - v) as u64);
+    }
+    v as u64 + 2147483648
+}
+
+// All values are rates, seen without a branch for each.
+fn all_rates(table: &[i64]) -> bool
+    ensures { λ r. ⌜ (r ≡ true → Passes (rateAt (now (table .entry))) (length (now (table .entry)))) ⌝ }
+{
+    let mut bits: u64 = 0;
+    let mut p: usize = 0;
+    while p < table.len() {
+        bits = bits | raised(table[p]);
+        p += 1;
+    }
+    bits >> 32 == 0
+}
+
 // All values are rates, else refused with 4 and the first place that holds none.
 fn check_rates(table: &[i64]) -> Verdict
+    ensures { λ r. ⌜ r ≡ checkRates (now (table .entry)) ⌝ }
+{
+    if all_rates(table) {
+        return Verdict::Passed;
+    }
+    first_rate(table)
+}
+
+// The same, value by value.
+fn first_rate(table: &[i64]) -> Verdict
     ensures { λ r. ⌜ r ≡ checkRates (now (table .entry)) ⌝ }
 {
     let mut p: usize = 0;
@@ -37,6 +70,16 @@ fn check_rates(table: &[i64]) -> Verdict
         p += 1;
     }
     Verdict::Passed
+}
+
+// A table of rates: refused with 1, 2, 3 or 4.
+pub fn check_rated(shape: Shape, table: &[i64]) -> Verdict
+    ensures { λ r. ⌜ r ≡ checkRated shape (now (table .entry)) ⌝ }
+{
+    if let Verdict::Refused(r) = check_table(shape, table) {
+        return Verdict::Refused(r);
+    }
+    check_rates(table)
 }
 
 // A rate times 2^d.
@@ -63,10 +106,7 @@ fn scale(axes: u32, table: &mut [i64])
 pub fn load(shape: Shape, table: &mut [i64]) -> Answer
     ensures { λ r. ⌜ after r (now (table .exit)) ≡ load shape (now (table .entry)) ⌝ }
 {
-    if let Verdict::Refused(r) = check_table(shape, table) {
-        return Answer::Refused(r);
-    }
-    if let Verdict::Refused(r) = check_rates(table) {
+    if let Verdict::Refused(r) = check_rated(shape, table) {
         return Answer::Refused(r);
     }
     scale(shape.axes, table);

@@ -11,15 +11,14 @@ use Rattle.refusals.specs.declared.Refusal.{Refusal}
 use Rattle.refusals.specs.declared.Verdict.{Verdict}
 use Rattle.refusals.specs.declared.Verdict.the-variants.{Passed}
 use Rattle.refusals.specs.declared.Verdict.the-variants as verdict
-use Rattle.refusals.specs.Checks.{_andThen_, answer}
-use Rattle.refusals.proofs.Passing.{first-passed, next-passed}
+use Rattle.refusals.specs.Checks.{answer}
 use Rattle.shapes.specs.declared.Shape.{Shape}
 use Rattle.shapes.specs.Shapes.{pointsOf}
 use Rattle.states.specs.declared.State.{State}
 use Rattle.states.specs.declared.Answer.the-variants.{Done, Refused}
 use Rattle.states.specs.After.{After, after, kept, left, leftBy}
-use Rattle.tables.specs.Tables.{checkTable, rateAt, checkRates, times, load}
-use Rattle.tables.proofs.Checking.{Opens, table-passed, rates-passed}
+use Rattle.tables.specs.Tables.{rateAt, checkRated, times, load}
+use Rattle.tables.proofs.Checking.{Opens, rated-opens, rated-passes}
 use Rattle.runs.proofs.Calls.{stateOf}
 use Rattle.whole.specs.Whole.{coefficientsOf, ratesToCoefficients}
 use Rattle.whole.specs.Steps.{ascent}
@@ -39,7 +38,7 @@ module _ (s : Shape) (xs ys : List ℤ) where
   pub load-refuses : (r : Refusal) → after (Refused r) ys ≡ load s xs → left (verdict.Refused r) ys ≡ ratesToCoefficients s xs
   unfolding load ratesToCoefficients
   load-refuses r e =
-      refused-so (checkTable s xs andThen checkRates xs) r (stateOf s 0) (map (times (s .axes)) xs) (coefficientsOf s xs) e
+      refused-so (checkRated s xs) r (stateOf s 0) (map (times (s .axes)) xs) (coefficientsOf s xs) e
 
   done-so : (v : Verdict) (st given : State) (zs : List ℤ) → after (Done st) ys ≡ answer (kept xs) v (after (Done given) zs) →
       (v ≡ Passed) × (st ≡ given) × (ys ≡ zs)
@@ -47,14 +46,14 @@ module _ (s : Shape) (xs ys : List ℤ) where
       (refl, same-state st given (ap (λ (a : After). a .answer) e), ap (λ (a : After). a .table) e)
   done-so (verdict.Refused w) st given zs e = never w st (ap (λ (a : After). a .answer) (sym e))
 
-  pub passes-so : checkTable s xs andThen checkRates xs ≡ Passed → ratesToCoefficients s xs ≡ left Passed (coefficientsOf s xs)
+  pub passes-so : checkRated s xs ≡ Passed → ratesToCoefficients s xs ≡ left Passed (coefficientsOf s xs)
   unfolding ratesToCoefficients
   passes-so e = rw e
 
-  rates-so : checkTable s xs andThen checkRates xs ≡ Passed → Opens s xs × AreRates s xs
+  rates-so : checkRated s xs ≡ Passed → Opens s xs × AreRates s xs
   rates-so e =
-      let opens = table-passed s xs (first-passed (checkTable s xs) (checkRates xs) e) in
-      let rates = rates-passed xs (next-passed (checkTable s xs) (checkRates xs) e) in (
+      let opens = rated-opens s xs e in
+      let rates = rated-passes s xs e in (
         opens,
         record {
           long = opens .long;
@@ -65,6 +64,6 @@ module _ (s : Shape) (xs ys : List ℤ) where
   pub load-leads : (st : State) (zs : List ℤ) → after (Done st) ys ≡ load s xs → zs ≡ ascent (st .shape .axes - 0) 0 st ys → left Passed zs ≡ ratesToCoefficients s xs
   unfolding load
   load-leads st zs e up =
-      let d = done-so (checkTable s xs andThen checkRates xs) st (stateOf s 0) (map (times (s .axes)) xs) e in
+      let d = done-so (checkRated s xs) st (stateOf s 0) (map (times (s .axes)) xs) e in
       let rates = rates-so (d .0) in
       ap (left Passed) (up ∙ rw (d .1, d .2) (climbed s (rates .0 .range) xs (rates .1))) ∙ sym (passes-so (d .0))

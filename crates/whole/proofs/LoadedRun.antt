@@ -13,8 +13,7 @@ use borrow.Author.Tests.{lt-ltb, eq-eqb}
 use Rattle.naturals.proofs.Tests.{all-from}
 use Rattle.refusals.specs.declared.Verdict.{Verdict}
 use Rattle.refusals.specs.declared.Verdict.the-variants as verdict
-use Rattle.refusals.specs.Checks.{_andThen_, answer}
-use Rattle.refusals.proofs.Passing.{first-passed, next-passed}
+use Rattle.refusals.specs.Checks.{answer}
 use Rattle.hierarchy.specs.declared.Turn.{Turn}
 use Rattle.hierarchy.specs.Turns.{valueAt}
 use Rattle.hierarchy.specs.Sets.{noAxis}
@@ -26,8 +25,8 @@ use Rattle.states.specs.declared.State.{State}
 use Rattle.states.specs.declared.Answer.the-variants.{Done, Refused}
 use Rattle.states.specs.After.{After, after, kept}
 use Rattle.states.specs.States.{has, checkBits, checkState}
-use Rattle.tables.specs.Tables.{checkTable, rateAt, checkRates, times, load}
-use Rattle.tables.proofs.Checking.{table-passed, rates-passed}
+use Rattle.tables.specs.Tables.{rateAt, checkRated, times, load}
+use Rattle.tables.proofs.Checking.{rated-opens, rated-passes}
 use Rattle.runs.specs.Model.{modelAnswers}
 use Rattle.runs.specs.Runs.{Ran, run}
 use Rattle.runs.specs.Calls.{callsOf, numberIn, placeIn, Report, runCalls}
@@ -60,14 +59,14 @@ pub record AfterLoad (s : Shape) (xs : List ℤ) (calls : List Turn) (ran : Ran)
 pub demand-3-of-load : (s : Shape) (xs ys : List ℤ) (st : State) → load s xs ≡ after (Done st) ys → (calls : List Turn) → AfterLoad s xs calls (run calls st ys)
 unfolding load
 demand-3-of-load s xs ys st e calls =
-    let d = loaded (checkTable s xs andThen checkRates xs) xs ys (stateOf s 0) st (map (times (s .axes)) xs) e in
-    let opens = table-passed s xs (first-passed (checkTable s xs) (checkRates xs) (d .0)) in
+    let d = loaded (checkRated s xs) xs ys (stateOf s 0) st (map (times (s .axes)) xs) e in
+    let opens = rated-opens s xs (d .0) in
     let rates : AreRates s xs =
     record {
       long = opens .long;
       each =
           all-from (rateAt xs) (pointsOf s)
-          (λ p h. rates-passed xs (next-passed (checkTable s xs) (checkRates xs) (d .0)) p (omega (arith, opens .long)));
+          (λ p h. rated-passes s xs (d .0) p (omega (arith, opens .long)));
     } in
     rw (← d .1, ← d .2)
     (record {

@@ -14,7 +14,7 @@ use Rattle.shapes.specs.declared.Shape.{Shape}
 use Rattle.shapes.specs.Shapes.{pointsOf}
 use Rattle.grids.specs.Grids.{neighbour, height}
 use Rattle.states.specs.After.{Left, leftBy}
-use Rattle.tables.specs.Tables.{checkTable, checkRates, rateAt, quotient}
+use Rattle.tables.specs.Tables.{checkTable, rateAt, checkRated, quotient}
 
 -- The coefficients of rates: the table of the set of all axes.
 unfoldable pub coefficientsOf : Shape → List ℤ → List ℤ
@@ -22,7 +22,7 @@ coefficientsOf s xs = valuesOf (pointsOf s) (tableOf (neighbour s) (s .axes) eve
 
 -- Rates to coefficients: refused with 1, 2, 3 or 4.
 unfoldable pub ratesToCoefficients : Shape → List ℤ → Left
-ratesToCoefficients s xs = leftBy xs (checkTable s xs andThen checkRates xs) (coefficientsOf s xs)
+ratesToCoefficients s xs = leftBy xs (checkRated s xs) (coefficientsOf s xs)
 
 -- A table turned back on each of the first k axes, the last of them first.
 unfoldable pub backAll : Shape → ℕ → (ℕ → ℤ) → ℕ → ℤ

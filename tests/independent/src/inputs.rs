@@ -88,9 +88,44 @@ pub fn rates(draw: &mut Draw, places: usize) -> Vec<i64> {
     }
 }
 
+/// The rate that is filed as this number: the rates in the order 0, −1, 1, −2, 2.
+pub fn rate_filed_as(value: u64) -> i64 {
+    let half = (value / 2) as i64;
+    if value % 2 == 1 {
+        -half - 1
+    } else {
+        half
+    }
+}
+
+/// Accepted rates of every size of a filed number: beside the borders of its groups, or of any number of bits.
+pub fn filed_rates(draw: &mut Draw, places: usize) -> Vec<i64> {
+    let border = |draw: &mut Draw| {
+        let at = draw.of(&[0, 1 << 7, 1 << 14, 1 << 21, 1 << 28, 1 << 32]);
+        (at + draw.between(-3, 2)).clamp(0, (1 << 32) - 1) as u64
+    };
+    match draw.below(4) {
+        0 => rates(draw, places),
+        1 => (0..places).map(|_| rate_filed_as(border(draw))).collect(),
+        2 => vec![rate_filed_as(border(draw)); places],
+        _ => (0..places)
+            .map(|_| {
+                let bits = draw.below(33);
+                rate_filed_as(draw.below(1 << bits))
+            })
+            .collect(),
+    }
+}
+
 /// Rates, mostly accepted.
 pub fn any_rates(draw: &mut Draw, places: usize) -> Vec<i64> {
-    let mut table = rates(draw, places);
+    let table = rates(draw, places);
+    some_out_of_range(draw, table)
+}
+
+/// The same, now and then with a place or a few that hold no rate.
+pub fn some_out_of_range(draw: &mut Draw, mut table: Vec<i64>) -> Vec<i64> {
+    let places = table.len();
     if places > 0 && draw.one_in(4) {
         let (low, high) = (i64::from(i32::MIN), i64::from(i32::MAX));
         for _ in 0..1 + draw.below(3) {

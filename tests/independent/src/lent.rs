@@ -36,3 +36,7 @@ impl<T: Copy + PartialEq> Lent<T> {
 pub fn table(contents: &[i64], draw: &mut Draw) -> Lent<i64> {
     Lent::new(contents, draw, |bits| bits as i64)
 }
+
+pub fn bytes(contents: &[u8], draw: &mut Draw) -> Lent<u8> {
+    Lent::new(contents, draw, |bits| bits as u8)
+}

@@ -11,7 +11,7 @@ mod lent;
 mod model;
 mod report;
 
-use checks::{edges, estimates, exhaustive, files, points, rates, runs, threads, turns, walks, worked};
+use checks::{edges, estimates, exhaustive, files, points, rates, runs, threads, turns, walks, worked, writes};
 use draw::Draw;
 use report::Report;
 use std::time::Instant;
@@ -27,7 +27,7 @@ fn setting(name: &str, usual: u64) -> u64 {
 }
 
 /// What each call can answer, as refusal numbers, 0 for success: all of it has to have been met.
-const ANSWERS: [(&str, &[u32]); 15] = [
+const ANSWERS: [(&str, &[u32]); 18] = [
     ("count", &[0, 1, 2]),
     ("number", &[0, 1, 2, 7, 9]),
     ("successor", &[0, 1, 2, 7, 9]),
@@ -43,6 +43,9 @@ const ANSWERS: [(&str, &[u32]); 15] = [
     ("run", &[0, 1, 2, 14, 3, 7]),
     ("estimate", &[0, 1, 2, 14, 3, 17, 7, 8, 10]),
     ("read", &[0, 11, 12, 1, 2, 3, 13]),
+    ("write", &[0, 1, 2, 3, 4]),
+    ("rewrite", &[0, 11, 12, 1, 2, 3, 13]),
+    ("file shape", &[0, 11, 12, 1, 2]),
 ];
 
 fn main() {
@@ -59,6 +62,7 @@ fn main() {
         }
     }
     files::short_files(&mut draw, &mut report);
+    writes::short_files(&mut draw, &mut report);
     step(&clock, "worked tables, shapes, short files");
 
     edges::of_points(&mut draw, &mut report);
@@ -66,6 +70,9 @@ fn main() {
     edges::of_tables(&mut draw, &mut report);
     edges::of_runs(&mut draw, &mut report);
     edges::of_estimates(&mut draw, &mut report);
+    edges::of_writes(&mut draw, &mut report);
+    edges::of_rewrites(&mut draw, &mut report);
+    edges::of_file_shapes(&mut draw, &mut report);
     step(&clock, "each call at its edges");
 
     exhaustive::states(&mut draw, &mut report);
@@ -90,6 +97,9 @@ fn main() {
     }
     step(&clock, "every point of every shape with up to 7,000 points");
 
+    writes::all_shapes(&mut draw, &mut report, 7_000);
+    step(&clock, "files of every shape, written and rewritten with up to 7,000 points");
+
     shapes(&mut draw, &mut report);
     step(&clock, "lists of turns, damaged coefficients and extreme tables of chosen shapes");
 
@@ -106,6 +116,7 @@ fn main() {
 
     report.merge(threads::own_tables(seed, count / 40));
     threads::neighbouring_tables(seed, count / 40, &mut report);
+    threads::neighbouring_files(seed, count / 40, &mut report);
     step(&clock, "threads");
 
     report.print();
@@ -182,9 +193,12 @@ fn one_round(draw: &mut Draw, report: &mut Report, round: u64) {
     estimates::random(draw, report, most);
     files::random(draw, report, most);
     files::random(draw, report, 60);
+    writes::random(draw, report, most);
+    writes::random(draw, report, 60);
+    writes::random_laws(draw, report, 60);
 }
 
-/// The two ways of the separate code to the coefficients, and the axes in the other order.
+/// The two ways of the separate code to the coefficients, and the axes in the other order; its files, written and read.
 fn model_against_itself(draw: &mut Draw, report: &mut Report) {
     const CALL: &str = "separate code with itself";
     for _ in 0..60 {
@@ -201,6 +215,17 @@ fn model_against_itself(draw: &mut Draw, report: &mut Report) {
         );
         if 3usize.pow(axes) * rates.len() <= 300_000 {
             report.same(CALL, "stencil", &turned, &model::rates::coefficients_by_stencil(axes, level, &rates), &say);
+        }
+        let rates = inputs::filed_rates(draw, rates.len());
+        let say = || format!("axes {axes} level {level} rates {}", checks::short(&rates));
+        let file = model::files::file_of(axes, level, &rates);
+        let read = model::files::read(&file, rates.len()).map(|f| (f.axes, f.level, f.rates));
+        report.same(CALL, "written and read", &Ok((axes, level, rates.clone())), &read, &say);
+        for &r in &rates {
+            let number = model::files::filed_rate(r);
+            let length = model::files::filed(number, 0).len();
+            let fewest = (1..=5).find(|&groups| number < 128u64.pow(groups)).expect("a filed number");
+            report.same(CALL, "fewest groups", &(fewest as usize), &length, &|| format!("rate {r}"));
         }
     }
 }
@@ -227,6 +252,7 @@ fn large(draw: &mut Draw, report: &mut Report) {
             points::random(draw, report, 40_000);
         }
     }
+    writes::large_shapes(draw, report, 7_000);
     largest(draw, report);
 }
 

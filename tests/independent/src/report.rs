@@ -4,7 +4,7 @@ use std::collections::BTreeMap;
 use std::fmt::Debug;
 
 /// The calls of the boundary.
-pub const KINDS: [&str; 15] = [
+pub const KINDS: [&str; 18] = [
     "count",
     "number",
     "point",
@@ -20,6 +20,9 @@ pub const KINDS: [&str; 15] = [
     "whole back",
     "estimate",
     "read",
+    "write",
+    "rewrite",
+    "file shape",
 ];
 
 #[derive(Default)]

@@ -1,71 +1,21 @@
--- `house_file::check_rates` meets its contract. The loop's invariant is `Checked`, and the measure is the rates that are left.
+-- `house_file::check_rates` meets its contract: rates that are sound pass, and the others are checked one by one.
 -- Assumes nothing.
-use mathlib.Core.Path.{sym, ap, _∙_}
-use native.Mathlib.Omega.{arith}
+use mathlib.Core.Path.{sym}
 use borrow.Author.Needs.{needs}
-use Rattle.house_file.specs.Steps.{numberIn}
-use Rattle.house_file.proofs.Checking.{Checked, checked-starts, checked-steps, checked-refused, bytes-left, none-left}
 use Rattle.house_file.proofs.check_rates.Statement.{statement}
 use Rattle.house_file.proofs.check_rates.Tie as tie
 
-abbrev Inv-loop : tie.InvT-loop
-Inv-loop bytes from count left₀ at₀ left at = Checked bytes from count left at
+sound-requires : tie.Need-sound-requires
+sound-requires c κs = search needs
 
-abbrev μ-loop : tie.MeasureT-loop
-μ-loop bytes from count left₀ at₀ left at = left
+returns : tie.Need-returns
+returns c = sym (c .before .sound .ensures (c .if1 .taken))
 
-loop-holds : tie.Need-loop-holds Inv-loop μ-loop
-loop-holds c = checked-starts _ _ _
+check-each-requires : tie.Need-check-each-requires
+check-each-requires c κs = search needs
 
-number-at-requires : tie.Need-number-at-requires Inv-loop μ-loop
-number-at-requires c κs = search needs
-
-enum-known-r : tie.Need-enum-known-r Inv-loop μ-loop
-enum-known-r c = search needs
-
-returns : tie.Need-returns Inv-loop μ-loop
-returns c =
-    let called = c .before .before .before in
-    let bytes = called .before .before .before .before .args .bytes .now in
-    sym
-    (checked-refused (called .before .before .loop .inv) (omega arith)
-    (sym (called .number-at .ensures) ∙ ap (numberIn bytes) (c .before .r .given .1)))
-
-enum-known-next : tie.Need-enum-known-next Inv-loop μ-loop
-enum-known-next c = search needs
-
-sub-left : tie.Need-sub-left Inv-loop μ-loop
-sub-left c = search needs
-
-loop-less : tie.Need-loop-less Inv-loop μ-loop
-loop-less c = search needs
-
-loop-again : tie.Need-loop-again Inv-loop μ-loop
-loop-again c =
-    let called = c .before .before .before in
-    let bytes = called .before .before .before .before .args .bytes .now in
-    checked-steps (called .before .before .loop .inv) (omega arith) (c .before .next .given .0 .0) (c .before .next .given .0 .1 .0)
-    (sym (called .number-at .ensures) ∙ ap (numberIn bytes) (c .before .next .given .1))
-
-returns-2 : tie.Need-returns-2 Inv-loop μ-loop
-returns-2 c = sym (bytes-left (c .before .before .loop .inv) (omega arith) (omega arith))
-
-returns-3 : tie.Need-returns-3 Inv-loop μ-loop
-returns-3 c = sym (none-left (c .before .before .loop .inv) (omega arith) (omega arith))
+returns-2 : tie.Need-returns-2
+returns-2 c = search needs
 
 pub check-rates-spec : {M : Type 1} → statement M
-check-rates-spec =
-    tie.close
-    (tie.spec
-    Inv-loop
-    μ-loop
-    loop-holds
-    number-at-requires
-    enum-known-r
-    returns
-    enum-known-next
-    sub-left
-    loop-less
-    loop-again
-    returns-2
-    returns-3)
+check-rates-spec = tie.close (tie.spec sound-requires returns check-each-requires returns-2)

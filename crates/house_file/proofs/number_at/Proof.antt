@@ -1,100 +1,41 @@
--- `house_file::number_at` meets its contract. The loop's invariant is `Gathered`, and the measure is what is left of the 35 bits.
+-- `house_file::number_at` meets its contract: a number of one byte is that byte, and all others are read byte by byte.
 -- Assumes nothing.
-use mathlib.Core.Path.{sym, ap, _∙_}
-use Prim.Native.Nat.{ℕ, _+_, _-_}
 use native.Mathlib.Omega.{arith}
 use borrow.Author.Needs.{needs}
-use lib.ListN.{getD}
-use Rattle.house_file.specs.Steps.{numberIn, limitedNumber}
-use Rattle.house_file.proofs.Gathering.{Gathered, gathered-starts, gathered-steps, gathered-ends, too-long, too-short, shift-small, sum-fits}
+use Rattle.house_file.proofs.CheckedNumbers.{no-byte, one-byte-read}
 use Rattle.house_file.proofs.number_at.Statement.{statement}
 use Rattle.house_file.proofs.number_at.Tie as tie
 
-abbrev Inv-loop : tie.InvT-loop
-Inv-loop bytes from value₀ shift₀ at₀ value shift at = Gathered bytes from value shift at
+returns : tie.Need-returns
+returns c = no-byte (c .before .before .args .bytes .now) (c .before .before .args .from) (omega arith)
 
-abbrev μ-loop : tie.MeasureT-loop
-μ-loop bytes from value₀ shift₀ at₀ value shift at = 35 - shift
+shared-slice-read-first : tie.Need-shared-slice-read-first
+shared-slice-read-first c = search needs
 
-loop-holds : tie.Need-loop-holds Inv-loop μ-loop
-loop-holds c = gathered-starts _ _
+cast-t9 : tie.Need-cast-t9
+cast-t9 c = search needs
 
-returns : tie.Need-returns Inv-loop μ-loop
-returns c = sym (too-short (c .before .before .loop .inv) (omega arith) (omega arith))
+add-t10 : tie.Need-add-t10
+add-t10 c = search needs
 
-shared-slice-read-byte : tie.Need-shared-slice-read-byte Inv-loop μ-loop
-shared-slice-read-byte c = search needs
-
-cast-byte : tie.Need-cast-byte Inv-loop μ-loop
-cast-byte c = omega (arith, c .shared-slice-known2 .given (c .before .before .before .loop .at))
-
-add-at : tie.Need-add-at Inv-loop μ-loop
-add-at c = search needs
-
-placed-requires : tie.Need-placed-requires Inv-loop μ-loop
-placed-requires c κs = (omega arith, shift-small (c .before .before .before .before .loop .inv) (omega arith))
-
-add-limited : tie.Need-add-limited Inv-loop μ-loop
-add-limited c =
-    let loop = c .before .before .before .before .before .loop in
-    let byte = getD (c .before .before .before .before .before .before .before .args .bytes .now) (loop .at) 0 in
-    omega (arith, c .placed .ensures, sum-fits (loop .inv) (omega arith) byte (omega arith))
-
-limited-requires : tie.Need-limited-requires Inv-loop μ-loop
-limited-requires c κs = search needs
-
-returns-2 : tie.Need-returns-2 Inv-loop μ-loop
+returns-2 : tie.Need-returns-2
 returns-2 c =
-    let loop = c .before .before .before .before .before .before .loop in
-    let bytes = c .before .before .before .before .before .before .before .before .args .bytes .now in
-    ap (numberIn bytes) (c .limited .ensures ∙ ap (λ (v : ℕ). limitedNumber (loop .value + v) (loop .at + 1)) (c .before .placed .ensures))
-    ∙ sym (gathered-ends (loop .inv) (omega arith) (omega arith) (omega arith))
+    let a = c .before .before .before .before .args in one-byte-read (a .bytes .now) (a .from) (omega arith) (omega arith)
 
-placed-requires-2 : tie.Need-placed-requires-2 Inv-loop μ-loop
-placed-requires-2 c κs =
-    let loop = c .before .before .before .before .loop in
-    (omega (arith, c .before .shared-slice-known2 .given (loop .at)), shift-small (loop .inv) (omega arith))
+long-number-requires : tie.Need-long-number-requires
+long-number-requires c κs = search needs
 
-add-value : tie.Need-add-value Inv-loop μ-loop
-add-value c =
-    let loop = c .before .before .before .before .before .loop in
-    let byte = getD (c .before .before .before .before .before .before .before .args .bytes .now) (loop .at) 0 in
-    omega
-    (arith, c .placed2 .ensures, sum-fits (loop .inv) (omega arith) (byte - 128) (omega (arith, c .before .before .shared-slice-known2 .given (loop .at))))
-
-add-shift : tie.Need-add-shift Inv-loop μ-loop
-add-shift c = search needs
-
-loop-less : tie.Need-loop-less Inv-loop μ-loop
-loop-less c = search needs
-
-loop-again : tie.Need-loop-again Inv-loop μ-loop
-loop-again c =
-    let loop = c .before .before .before .before .before .loop in
-    rw (c .placed2 .ensures)
-    (gathered-steps (loop .inv) (omega arith) (omega arith) (omega (arith, c .before .before .shared-slice-known2 .given (loop .at))) (omega arith))
-
-returns-3 : tie.Need-returns-3 Inv-loop μ-loop
-returns-3 c = sym (too-long (c .before .loop .inv) (omega arith))
+returns-3 : tie.Need-returns-3
+returns-3 c = c .long-number .ensures
 
 pub number-at-spec : {M : Type 1} → statement M
 number-at-spec =
     tie.close
     (tie.spec
-    Inv-loop
-    μ-loop
-    loop-holds
     returns
-    shared-slice-read-byte
-    cast-byte
-    add-at
-    placed-requires
-    add-limited
-    limited-requires
+    shared-slice-read-first
+    cast-t9
+    add-t10
     returns-2
-    placed-requires-2
-    add-value
-    add-shift
-    loop-less
-    loop-again
+    long-number-requires
     returns-3)

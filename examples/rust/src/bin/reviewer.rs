@@ -1,6 +1,21 @@
 //! The reviewer: gets coefficients, and gets back the very rates that were sampled, or a refusal.
 
-use numolefays::{Refusal, Shape, Side};
+use numolefays::{house_file, house_file_shape, read_house_file, rewritten_house_file, Refusal, Shape, Side};
+
+/// The rates as a house file, the same for every such table, and read back; a longer file of the same table has this one as
+/// its form.
+fn file_again(shape: Shape, rates: &[i64]) -> Result<(), Refusal> {
+    let file = house_file(shape, rates)?;
+    println!("house file: {}", file.iter().map(|b| format!("{b:02x}")).collect::<Vec<_>>().join(" "));
+    let points = house_file_shape(&file)?.points()?;
+    let mut table = vec![0; points as usize];
+    let same = read_house_file(&file, &mut table)? == shape && table == rates;
+    println!("read back, {points} points: {}", if same { "the same shape and rates" } else { "another table" });
+    let longer = [0x82, 0x00, 0x01, 0x88, 0x80, 0x00, 0x06, 0x0a, 0x04, 0x0c];
+    let same = rewritten_house_file(&longer, rates.len())? == file;
+    println!("rewritten from {} bytes: {}", longer.len(), if same { "the same file" } else { "another file" });
+    Ok(())
+}
 
 fn main() -> Result<(), Refusal> {
     let shape = Shape::new(2, 1);
@@ -21,6 +36,7 @@ fn main() -> Result<(), Refusal> {
         state.unload(&mut table)?;
         println!("rates, back on axes {order:?}: {table:?}");
     }
+    file_again(shape, &rates)?;
 
     // coefficients that no rates have
     let mut damaged = [16, 4, 12, 0, 17];

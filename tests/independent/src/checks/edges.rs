@@ -1,9 +1,9 @@
 //! Each call at the edges of its types, with later refusals matching too, one case after the other.
 
-use super::{estimates, points, rates, runs, turns};
+use super::{estimates, files, points, rates, runs, turns, writes};
 use crate::draw::Draw;
-use crate::inputs::LIMIT;
-use crate::model::grid::count;
+use crate::inputs::{self, LIMIT};
+use crate::model::{self, grid::count};
 use crate::report::Report;
 
 const TOP: u32 = u32::MAX;
@@ -515,4 +515,176 @@ pub fn of_estimates(draw: &mut Draw, report: &mut Report) {
     for (axes, level, bits, table, coordinates) in others {
         estimates::estimate(draw, report, axes, level, bits, table, coordinates);
     }
+}
+
+// ---- files written
+
+/// Numbers that are no rate: beside the ends, at the ends of the type, and those that come out as a rate where 32 bits of
+/// them are taken or where twice the number wraps around.
+const NO_RATES: [i64; 16] = [
+    MOST + 1,
+    MOST + 2,
+    LEAST - 1,
+    LEAST - 2,
+    1 << 32,
+    (1 << 32) + 5,
+    -(1 << 32),
+    -(1 << 32) - 5,
+    1 << 62,
+    (1 << 62) + 5,
+    (-1 << 63) + 5,
+    -(1 << 62),
+    i64::MAX,
+    i64::MAX - 1,
+    i64::MIN,
+    i64::MIN + 1,
+];
+
+pub fn of_writes(draw: &mut Draw, report: &mut Report) {
+    // 1, 2 and 3, where 4 and a short output buffer match too
+    let refused = [
+        (0, 9, 0),
+        (9, 9, 0),
+        (TOP, TOP, 512),
+        (9, 0, 1),
+        (0, 0, 1),
+        (1, 9, 0),
+        (8, 9, 512),
+        (8, TOP, 17),
+        (256 + 1, 1, 3),
+        (1, 256 + 1, 3),
+        (2, 1, 0),
+        (2, 1, 4),
+        (2, 1, 6),
+        (2, 3, 17),
+        (2, 2, 49),
+        (1, 8, 0),
+        (1, 8, 510),
+        (1, 8, 512),
+        (8, 8, 512),
+        (1, 0, 0),
+        (1, 0, 2),
+    ];
+    for (axes, level, places) in refused {
+        for first in [PAST, 1] {
+            let rates = &padded(&[first, 1], 512)[..places];
+            for room in [0, 1, places + 1, places + 2, 4_000] {
+                writes::write(draw, report, axes, level, rates, room);
+            }
+        }
+    }
+    // 4 at every place, or at both ends and between; alone and with others after it; also where the buffer is short
+    for (axes, level) in [(1, 0), (8, 0), (1, 1), (2, 1), (3, 2), (2, 3), (1, 8), (8, 3)] {
+        let n = places(axes, level);
+        let some: Vec<usize> = if n <= 49 { (0..n).collect() } else { vec![0, 1, n / 2, n - 2, n - 1] };
+        for p in some {
+            for value in NO_RATES {
+                let mut rates = vec![draw.of(&[0, -1, 64, LEAST, MOST]); n];
+                let length = 2 + n * 5;
+                rates[p] = value;
+                writes::write(draw, report, axes, level, &rates, length);
+                writes::write(draw, report, axes, level, &rates, 0);
+                let q = p + draw.index(n - p);
+                rates[q] = draw.of(&NO_RATES);
+                rates[n - 1] = draw.of(&NO_RATES);
+                let room = draw.of(&[0, 1, n + 1, length]);
+                writes::write(draw, report, axes, level, &rates, room);
+            }
+        }
+    }
+    // each size of a filed number, alone and at either end of a table, with every room around the file's length
+    for border in [0, 1 << 7, 1 << 14, 1 << 21, 1 << 28, 1 << 31, 1 << 32] {
+        for filed in (border - 4i64..border + 4).filter(|v| (0..1 << 32).contains(v)) {
+            let rate = inputs::rate_filed_as(filed as u64);
+            let tables: [(u32, u32, &[i64]); 4] =
+                [(1, 0, &[rate]), (8, 0, &[rate]), (1, 1, &[rate, 0, rate]), (2, 1, &[0, -1, rate, LEAST, rate])];
+            for (axes, level, rates) in tables {
+                let length = model::files::file_of(axes, level, rates).len();
+                for room in (0..=length + 2).chain(writes::rooms(length)) {
+                    writes::write(draw, report, axes, level, rates, room);
+                }
+                writes::laws(draw, report, axes, level, rates);
+            }
+        }
+    }
+}
+
+pub fn of_rewrites(draw: &mut Draw, report: &mut Report) {
+    // good files whole, cut off after every byte and with bytes left, with places and room around what they need
+    let tables: [(u32, u32, &[i64]); 7] = [
+        (1, 0, &[0]),
+        (8, 0, &[LEAST]),
+        (1, 1, &[3, 5, 7]),
+        (1, 1, &[LEAST, MOST, -65]),
+        (2, 1, &[4, 3, 5, 2, 6]),
+        (2, 1, &[64, -64, 8_192, -8_193, 1 << 20]),
+        (3, 1, &[63, -64, -65, 64, 0, MOST, LEAST]),
+    ];
+    for (axes, level, rates) in tables {
+        for needless in [1000, 3, 1] {
+            let bytes = files::file(draw, axes, level, rates, needless);
+            let length = model::files::file_of(axes, level, rates).len();
+            for most_points in writes::most_points(rates.len()) {
+                for room in (0..=length + 2).chain(writes::rooms(length)) {
+                    writes::rewrite(draw, report, &bytes, most_points, room);
+                }
+                for end in 0..bytes.len() {
+                    let room = draw.of(&[0, length - 1, length, 60]);
+                    writes::rewrite(draw, report, &bytes[..end], most_points, room);
+                }
+                for left in [0, 1, 128, 255] {
+                    let room = draw.of(&[0, length - 1, length, 60]);
+                    let mut longer = bytes.clone();
+                    longer.extend(vec![left; 1 + draw.index(7)]);
+                    writes::rewrite(draw, report, &longer, most_points, room);
+                }
+            }
+            // a number of six bytes, or too large, put before each byte
+            for at in 0..=bytes.len() {
+                for bad in [[0x80, 0x80, 0x80, 0x80, 0x80, 0x00], [0xff, 0xff, 0xff, 0xff, 0x10, 0x00]] {
+                    let mut damaged = bytes.clone();
+                    damaged.splice(at..at, bad);
+                    for (most_points, room) in [(0, 0), (rates.len(), 0), (rates.len(), length), (90, 90)] {
+                        writes::rewrite(draw, report, &damaged, most_points, room);
+                    }
+                }
+            }
+        }
+    }
+    // the first two numbers, and refusals that come later matching too
+    for bytes in heads(draw) {
+        for most_points in [0, 3, usize::MAX] {
+            for room in [0, 4] {
+                writes::rewrite(draw, report, &bytes, most_points, room);
+            }
+        }
+    }
+}
+
+pub fn of_file_shapes(draw: &mut Draw, report: &mut Report) {
+    for bytes in heads(draw) {
+        for end in 0..=bytes.len() {
+            writes::file_shape(draw, report, &bytes[..end]);
+        }
+    }
+}
+
+/// Beginnings of files: d and n of every size, in their fewest groups and not, with nothing or something after them.
+fn heads(draw: &mut Draw) -> Vec<Vec<u8>> {
+    let around = |v: u64| [v - 1, v, v + 1];
+    let mut numbers: Vec<u64> = (0..=10).collect();
+    for bits in [7, 8, 14, 16, 21, 28, 31, 32, 33, 35, 36, 42] {
+        numbers.extend(around(1 << bits));
+    }
+    let mut found = Vec::new();
+    for &d in &numbers {
+        for &n in &numbers {
+            let mut bytes = model::files::filed(d, draw.of(&[0, 0, 1, 2, 4]));
+            bytes.extend(model::files::filed(n, draw.of(&[0, 0, 1, 2, 4])));
+            let rest: &[u8] = draw.of(&[&[], &[], &[0], &[0x80], &[0xff; 7], &[6, 10, 14]]);
+            bytes.extend(rest);
+            found.push(bytes);
+        }
+    }
+    found
 }

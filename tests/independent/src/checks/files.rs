@@ -49,10 +49,23 @@ pub fn file(draw: &mut Draw, axes: u32, level: u32, rates: &[i64], needless: u64
 
 /// One random file.
 pub fn random(draw: &mut Draw, report: &mut Report, most: u64) {
+    let (bytes, points) = any_file(draw, most);
+    let places = match draw.below(8) {
+        0 => points.saturating_sub(1),
+        1 => draw.index(points + 1),
+        2 => points + 1,
+        3 => points + draw.index(50),
+        _ => points,
+    };
+    read(draw, report, &bytes, places);
+}
+
+/// A file, damaged in every second case or so, and how many rates it had before.
+pub fn any_file(draw: &mut Draw, most: u64) -> (Vec<u8>, usize) {
     let (axes, level) = inputs::shape(draw, most);
     let good = inputs::is_shape(axes, level);
     let points = if good { count(axes, level) as usize } else { draw.index(30) };
-    let rates = inputs::rates(draw, points);
+    let rates = inputs::filed_rates(draw, points);
     let needless = draw.of(&[2, 5, 1000]);
     let mut bytes = file(draw, axes, level, &rates, needless);
     for _ in 0..draw.of(&[0, 0, 1, 1, 2]) {
@@ -63,14 +76,7 @@ pub fn random(draw: &mut Draw, report: &mut Report, most: u64) {
             .map(|_| if draw.one_in(2) { draw.bits() as u8 } else { draw.of(&[0, 1, 2, 8, 9, 127, 128, 255]) })
             .collect();
     }
-    let places = match draw.below(8) {
-        0 => points.saturating_sub(1),
-        1 => draw.index(points + 1),
-        2 => points + 1,
-        3 => points + draw.index(50),
-        _ => points,
-    };
-    read(draw, report, &bytes, places);
+    (bytes, points)
 }
 
 fn damage(draw: &mut Draw, bytes: &mut Vec<u8>) {

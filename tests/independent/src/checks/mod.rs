@@ -1,4 +1,5 @@
-//! Each call, once through the boundary with every output and buffer compared, and once through the safe wrapper.
+//! Each call, once through the boundary with every output and buffer compared, and once through the safe wrapper; what is
+//! in `writes` through the boundary alone.
 
 pub mod edges;
 pub mod estimates;
@@ -11,6 +12,7 @@ pub mod threads;
 pub mod turns;
 pub mod walks;
 pub mod worked;
+pub mod writes;
 
 use crate::model::Refused;
 use numolefays::Refusal;

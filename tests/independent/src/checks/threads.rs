@@ -1,11 +1,11 @@
 //! Several tables at once, by several threads: each call on its own table is as if it were alone.
 
-use super::{estimates, rates, runs, turns};
+use super::{estimates, files, rates, runs, turns, writes};
 use crate::draw::Draw;
 use crate::inputs;
-use crate::model::{estimates as model_estimates, rates as model_rates, turns as model_turns};
+use crate::model::{estimates as model_estimates, files as model_files, rates as model_rates, turns as model_turns};
 use crate::report::Report;
-use numolefays::{Shape, State};
+use numolefays::{boundary, Shape, State};
 use std::thread;
 
 const THREADS: u64 = 4;
@@ -23,6 +23,7 @@ pub fn own_tables(seed: u64, cases: u64) -> Report {
                     rates::random(&mut draw, &mut report, 1_200);
                     estimates::random(&mut draw, &mut report, 1_200);
                     runs::random(&mut draw, &mut report, 300);
+                    writes::random(&mut draw, &mut report, 1_200);
                 }
                 report
             }
@@ -87,4 +88,49 @@ fn turn_and_read(shape: Shape, table: &mut [i64], shared: &[i64], coordinates: &
     }
     state.forward(table, shape.axes).ok()?;
     Some((state.bits, estimate))
+}
+
+/// Output buffers side by side in one allocation, each written by its own thread; and one file rewritten by all.
+pub fn neighbouring_files(seed: u64, rounds: u64, report: &mut Report) {
+    let mut draw = Draw::new(seed ^ 0x66_696c_6573);
+    for round in 0..rounds {
+        let (axes, level) = [(3, 3), (8, 2), (5, 4), (1, 8), (2, 6)][(round % 5) as usize];
+        let n = crate::model::grid::count(axes, level) as usize;
+        let tables: Vec<Vec<i64>> = (0..THREADS).map(|_| inputs::filed_rates(&mut draw, n)).collect();
+        let shared = files::file(&mut draw, axes, level, &tables[0], 3);
+        let room = 5 * (n + 2);
+        let mut outs = draw.bytes(2 * THREADS as usize * room);
+        let mut want = outs.clone();
+        let answers: Vec<_> = thread::scope(|scope| {
+            let work = |out, rates| {
+                let shared = &shared;
+                move || write_and_rewrite(axes, level, rates, shared, out)
+            };
+            let handles: Vec<_> =
+                outs.chunks_mut(2 * room).zip(&tables).map(|(o, t)| scope.spawn(work(o, t))).collect();
+            handles.into_iter().map(|h| h.join().expect("a thread that ended")).collect()
+        });
+        let form = model_files::file_of(axes, level, &tables[0]);
+        for (k, answer) in answers.into_iter().enumerate() {
+            let written = model_files::file_of(axes, level, &tables[k]);
+            want[2 * k * room..][..written.len()].copy_from_slice(&written);
+            want[(2 * k + 1) * room..][..form.len()].copy_from_slice(&form);
+            let say =
+                || format!("round {round} thread {k} axes {axes} level {level} rates {}", super::short(&tables[k]));
+            report.made("write", 1);
+            report.made("rewrite", 1);
+            report.same("write", "in threads", &[(0, written.len() as u64), (0, form.len() as u64)], &answer, &say);
+        }
+        let say = || format!("round {round} axes {axes} level {level}");
+        report.same("write", "output buffers, in threads", &want, &outs, &say);
+    }
+}
+
+/// The table written into the first half of the buffer, the shared file rewritten into the second.
+fn write_and_rewrite(axes: u32, level: u32, rates: &[i64], shared: &[u8], out: &mut [u8]) -> [(u32, u64); 2] {
+    let (first, second) = out.split_at_mut(out.len() / 2);
+    let ([mut a, mut b], mut place) = ([0, 0], 0);
+    let wrote = boundary::write_house_file(axes, level, rates, first, &mut a, &mut place);
+    let rewrote = boundary::rewrite_house_file(shared, rates.len(), second, &mut b, &mut place);
+    [(wrote, a), (rewrote, b)]
 }

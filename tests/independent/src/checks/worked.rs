@@ -1,14 +1,15 @@
-//! The worked tables of document 01, through the wrapper and in the separate code.
+//! The worked tables of document 01, through the wrapper and in the separate code; and files written by hand.
 
+use super::writes::{library_rewrites, library_writes};
 use crate::model;
 use crate::report::Report;
-use numolefays::{read_house_file, Refusal, Shape, State};
+use numolefays::{boundary, read_house_file, Refusal, Shape, State};
 
 pub fn worked(report: &mut Report) {
     let mut paper = |kind: &'static str, want: Vec<i64>, separate: Vec<i64>, library: Vec<i64>| {
         report.made(kind, 1);
-        report.same(kind, "separate code", &want, &separate, &|| format!("document 01: {want:?}"));
-        report.same(kind, "library", &want, &library, &|| format!("document 01: {want:?}"));
+        report.same(kind, "separate code", &want, &separate, &|| format!("worked: {want:?}"));
+        report.same(kind, "library", &want, &library, &|| format!("worked: {want:?}"));
     };
     let sizes =
         [(1, 0, 1), (2, 2, 17), (3, 2, 31), (1, 8, 511), (2, 3, 49), (8, 4, 6_401), (8, 5, 31_745), (8, 8, 2_228_225)];
@@ -77,4 +78,31 @@ pub fn worked(report: &mut Report) {
     let shape = read_house_file(&[0x01, 0x01, 0x06, 0x0a, 0x0e], &mut table);
     let read = model::files::read(&[0x01, 0x01, 0x06, 0x0a, 0x0e], 4).map_or(vec![], |f| f.rates);
     paper("read", vec![3, 5, 7], read, if shape == Ok(Shape::new(1, 1)) { table[..3].to_vec() } else { vec![] });
+
+    // files written: the same one, and numbers of up to 5 bytes; rewritten: needless zero groups
+    let numbers = |bytes: Vec<u8>| -> Vec<i64> { bytes.into_iter().map(i64::from).collect() };
+    let written: [(&[i64], &[u8]); 2] = [
+        (&[3, 5, 7], &[0x01, 0x01, 0x06, 0x0a, 0x0e]),
+        (&[300, -2_147_483_648, 0], &[0x01, 0x01, 0xd8, 0x04, 0xff, 0xff, 0xff, 0xff, 0x0f, 0x00]),
+    ];
+    for (rates, file) in written {
+        let separate = model::files::write(1, 1, rates, file.len()).unwrap_or_default();
+        let library = library_writes(1, 1, rates, file.len()).unwrap_or_default();
+        paper("write", numbers(file.to_vec()), numbers(separate), numbers(library));
+    }
+    let rewritten: [(&[u8], &[u8]); 2] = [
+        (&[0x81, 0x80, 0x80, 0x80, 0x00, 0x00, 0x00], &[0x01, 0x00, 0x00]),
+        (&[0x01, 0x81, 0x00, 0x86, 0x80, 0x00, 0x0a, 0x0e], &[0x01, 0x01, 0x06, 0x0a, 0x0e]),
+    ];
+    for (bytes, form) in rewritten {
+        let separate = model::files::rewrite(bytes, 3, form.len()).unwrap_or_default();
+        let library = library_rewrites(bytes, 3, form.len()).unwrap_or_default();
+        paper("rewrite", numbers(form.to_vec()), numbers(separate), numbers(library));
+    }
+    let separate = model::files::shape_of(&[0x82, 0x00, 0x03])
+        .map_or(vec![], |(d, n, points)| vec![i64::from(d), i64::from(n), points as i64]);
+    let (mut d, mut n, mut points, mut place) = (0, 0, 0, 0);
+    let got = boundary::house_file_shape(&[0x82, 0x00, 0x03], &mut d, &mut n, &mut points, &mut place);
+    let library = if got == 0 { vec![i64::from(d), i64::from(n), points as i64] } else { vec![] };
+    paper("file shape", vec![2, 3, 49], separate, library);
 }

@@ -1,11 +1,12 @@
-//! House files, read as the paper says it.
+//! House files, read and written as the papers say it.
 
 use super::grid::count;
-use super::{shape, Refused};
+use super::rates::all_rates;
+use super::{places, shape, Refused};
 
 /// Takes one number off the front: groups of seven bits, lowest first, at most 5 bytes, at most 4,294,967,295.
 fn number(bytes: &mut &[u8]) -> Result<u128, Refused> {
-    let mut groups: Vec<u128> = Vec::new();
+    let mut groups: Vec<u128> = Vec::with_capacity(5);
     loop {
         let Some((&byte, rest)) = bytes.split_first() else {
             return Err((11, 0));
@@ -55,9 +56,47 @@ pub fn read(bytes: &[u8], buffer: usize) -> Result<File, Refused> {
     Ok(File { axes, level, rates })
 }
 
+/// d, n and N of a file, from its first two numbers.
+pub fn shape_of(bytes: &[u8]) -> Result<(u32, u32, u64), Refused> {
+    let mut left = bytes;
+    let axes = number(&mut left)? as u32;
+    let level = number(&mut left)? as u32;
+    shape(axes, level)?;
+    Ok((axes, level, count(axes, level) as u64))
+}
+
+/// The file of a shape and its rates, for an output buffer of so many bytes.
+pub fn write(axes: u32, level: u32, rates: &[i64], room: usize) -> Result<Vec<u8>, Refused> {
+    shape(axes, level)?;
+    places(axes, level, rates.len())?;
+    all_rates(rates)?;
+    let file = file_of(axes, level, rates);
+    if file.len() > room {
+        return Err((3, 0));
+    }
+    Ok(file)
+}
+
+/// A file read and written again, for a table of so many places and an output buffer of so many bytes.
+pub fn rewrite(bytes: &[u8], most_points: usize, room: usize) -> Result<Vec<u8>, Refused> {
+    let file = read(bytes, most_points)?;
+    write(file.axes, file.level, &file.rates, room)
+}
+
+/// d, n and the rates in point order, each number in its fewest groups.
+pub fn file_of(axes: u32, level: u32, rates: &[i64]) -> Vec<u8> {
+    let mut bytes = filed(u64::from(axes), 0);
+    bytes.extend(filed(u64::from(level), 0));
+    for &r in rates {
+        bytes.extend(filed(filed_rate(r), 0));
+    }
+    bytes
+}
+
 /// One number as a file has it, with so many needless zero groups if they fit 5 bytes.
 pub fn filed(mut value: u64, needless: usize) -> Vec<u8> {
-    let mut groups = vec![(value % 128) as u8];
+    let mut groups = Vec::with_capacity(5);
+    groups.push((value % 128) as u8);
     value /= 128;
     while value > 0 {
         groups.push((value % 128) as u8);

@@ -4,7 +4,8 @@ use super::grid::{grid, level_and_index, At, Values};
 use super::turns::{back_of, forward_of};
 use super::{bits as check_bits, is_forward, is_rate, places, shape, within, Refused};
 
-fn all_rates(table: &[i64]) -> Result<(), Refused> {
+/// Refusal 4.
+pub fn all_rates(table: &[i64]) -> Result<(), Refused> {
     for (p, &v) in table.iter().enumerate() {
         if !is_rate(i128::from(v)) {
             return Err((4, p as u64));

@@ -3,7 +3,7 @@
 use native.Mathlib.Omega.{arith}
 use borrow.Author.Needs.{needs}
 use lib.ListN.{length-take}
-use Rattle.reports.proofs.Puts.{put-as}
+use Rattle.buffers.proofs.Puts.{put-as}
 use Rattle.reports.proofs.Texts.{counted-passed, counted-points, short-refused, prefix-text}
 use Rattle.reports.proofs.contents.put_counted.Statement.{statement}
 use Rattle.reports.proofs.contents.put_counted.Tie as tie

@@ -3,7 +3,7 @@
 use mathlib.Core.Path.{sym, _∙_}
 use native.Mathlib.Omega.{arith}
 use borrow.Author.Needs.{needs}
-use Rattle.reports.proofs.Puts.{put-as}
+use Rattle.buffers.proofs.Puts.{put-as}
 use Rattle.reports.proofs.Texts.{shape-refused}
 use Rattle.reports.proofs.contents.put_table.Statement.{statement}
 use Rattle.reports.proofs.contents.put_table.Tie as tie

@@ -4,7 +4,7 @@ use native.Mathlib.Omega.{arith}
 use borrow.Author.Needs.{needs}
 use Rattle.reports.specs.Text.{headingOf}
 use Rattle.reports.proofs.Decimals.{decimal-length}
-use Rattle.reports.proofs.Puts.{put-then, put-length}
+use Rattle.buffers.proofs.Puts.{put-then, put-length}
 use Rattle.reports.proofs.lines.put_heading.Statement.{statement}
 use Rattle.reports.proofs.lines.put_heading.Tie as tie
 

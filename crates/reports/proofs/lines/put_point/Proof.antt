@@ -10,7 +10,7 @@ use mir.ValLaws.{toZ-ofZ}
 use borrow.Author.Needs.{needs}
 use Rattle.reports.specs.Text.{decimal, space, signed, lineFeed, pointLine}
 use Rattle.reports.proofs.Decimals.{decimal-length, signed-length}
-use Rattle.reports.proofs.Puts.{put-then, put-as, put-length}
+use Rattle.buffers.proofs.Puts.{put-then, put-as, put-length}
 use Rattle.reports.proofs.lines.put_point.Statement.{statement}
 use Rattle.reports.proofs.lines.put_point.Tie as tie
 

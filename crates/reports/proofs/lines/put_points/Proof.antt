@@ -8,7 +8,7 @@ use lib.ListN.{length, getD}
 use mir.Syntax.{w64}
 use mir.ValLaws.{toZ-ofZ}
 use Rattle.reports.specs.Text.{pointLine}
-use Rattle.reports.proofs.Puts.{put-length, put-as}
+use Rattle.buffers.proofs.Puts.{put-length, put-as}
 use Rattle.reports.proofs.Listing.{Listed, listed-starts, listed-room, listed-steps, listed-ends}
 use borrow.Author.Needs.{needs}
 use Rattle.reports.proofs.lines.put_points.Statement.{statement}

@@ -7,7 +7,7 @@ use native.Mathlib.Omega.{arith}
 use borrow.Author.Needs.{needs}
 use Rattle.reports.specs.Text.{named, refusedWord, lineFeed, refusedLine}
 use Rattle.reports.proofs.Decimals.{decimal-length}
-use Rattle.reports.proofs.Puts.{put-then, put-as, put-length}
+use Rattle.buffers.proofs.Puts.{put-then, put-as, put-length}
 use Rattle.reports.proofs.lines.put_refused.Statement.{statement}
 use Rattle.reports.proofs.lines.put_refused.Tie as tie
 

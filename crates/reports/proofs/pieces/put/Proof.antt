@@ -3,7 +3,8 @@
 use Prim.Native.Nat.{_-_}
 use native.Mathlib.Omega.{arith}
 use lib.ListN.{length}
-use Rattle.reports.proofs.Puts.{Copied, copied-starts, copied-steps, copied-ends, put-length}
+use Rattle.buffers.proofs.Puts.{put-length}
+use Rattle.reports.proofs.Puts.{Copied, copied-starts, copied-steps, copied-ends}
 use borrow.Author.Needs.{needs}
 use Rattle.reports.proofs.pieces.put.Statement.{statement}
 use Rattle.reports.proofs.pieces.put.Tie as tie

@@ -3,7 +3,7 @@
 use mathlib.Core.Path.{_∙_}
 use native.Mathlib.Omega.{arith}
 use Rattle.reports.proofs.Decimals.{few-digits, decimal-digits}
-use Rattle.reports.proofs.Puts.{put-as}
+use Rattle.buffers.proofs.Puts.{put-as}
 use borrow.Author.Needs.{needs}
 use Rattle.reports.proofs.pieces.put_decimal.Statement.{statement}
 use Rattle.reports.proofs.pieces.put_decimal.Tie as tie

@@ -1,6 +1,6 @@
 -- `reports::pieces::put_named` meets its contract: a word is put, and then a number.
 -- Assumes nothing.
-use Rattle.reports.proofs.Puts.{put-then}
+use Rattle.buffers.proofs.Puts.{put-then}
 use borrow.Author.Needs.{needs}
 use Rattle.reports.proofs.pieces.put_named.Statement.{statement}
 use Rattle.reports.proofs.pieces.put_named.Tie as tie

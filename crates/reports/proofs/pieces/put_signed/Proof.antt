@@ -12,7 +12,7 @@ use mir.ValLaws.{toZ-ofZ}
 use borrow.Author.Needs.{needs}
 use Rattle.reports.specs.Text.{decimal, signed}
 use Rattle.reports.proofs.Decimals.{signed-below, signed-not-below}
-use Rattle.reports.proofs.Puts.{put-then, put-as}
+use Rattle.buffers.proofs.Puts.{put-then, put-as}
 use Rattle.reports.proofs.pieces.put_signed.Statement.{statement}
 use Rattle.reports.proofs.pieces.put_signed.Tie as tie
 

@@ -1,4 +1,4 @@
--- `coefficients::read_input` meets its contract. The loop's invariant: the buffer is as long as it was, and no more bytes came than it has. The measure is the
+-- `streams::read_input` meets its contract. The loop's invariant: the buffer is as long as it was, and no more bytes came than it has. The measure is the
 -- room that is left.
 -- Assumes nothing.
 use mathlib.Core.Path.{_≡_, sym}
@@ -6,8 +6,8 @@ use Prim.Native.Nat.{_-_, _≤_}
 use lib.ListN.{length}
 use lib.Seq.{length-take-le}
 use borrow.Author.Needs.{needs}
-use Rattle.coefficients.proofs.read_input.Statement.{statement}
-use Rattle.coefficients.proofs.read_input.Tie as tie
+use Rattle.streams.proofs.read_input.Statement.{statement}
+use Rattle.streams.proofs.read_input.Tie as tie
 
 abbrev Inv-loop : tie.InvT-loop
 Inv-loop bytes₀ count₀ bytes count = (length bytes ≡ length bytes₀) × (count ≤ length bytes)

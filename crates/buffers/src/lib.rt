@@ -1,0 +1,1 @@
+// Bytes put into a buffer, piece by piece: the definition and its laws, no code.
