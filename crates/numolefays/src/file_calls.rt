@@ -4,8 +4,8 @@ ghost use mathlib.Core.Path.{_≡_};
 ghost use Rattle.house_file.specs.Files.{shapeOfFile, readFile};
 ghost use Rattle.house_writer.specs.Writing.{writeFile};
 ghost use Rattle.house_writer.specs.Rewriting.{rewriteFile};
-ghost use Rattle.numolefays.specs.Returned.{returned};
-ghost use Rattle.numolefays.specs.Answers.{shapeOf, ofReading, ofNamed, ofWriting};
+ghost use Rattle.answers.specs.Returned.{returned};
+ghost use Rattle.answers.specs.Answers.{shapeOf, ofReading, ofNamed, ofWriting};
 
 // A file's rates into the first places of the table, and its shape.
 #[no_mangle]
@@ -19,11 +19,11 @@ pub extern "C" fn numolefays_read_house_file(
     ensures { λ r. ⌜ returned r (now (place .exit)) (now (axes .exit), now (level .exit), now (table .exit)) ≡ ofReading (now (axes .entry), now (level .entry)) (readFile (now (bytes .entry)) (now (table .entry))) ⌝ }
 {
     match house_file::read(bytes, table) {
-        Opened::Refused(r) => crate::answers::refuse(r, place),
+        Opened::Refused(r) => answers::refuse(r, place),
         Opened::Holds(shape) => {
             *axes = shape.axes;
             *level = shape.level;
-            crate::answers::succeed(place)
+            answers::succeed(place)
         }
     }
 }
@@ -40,12 +40,12 @@ pub extern "C" fn numolefays_house_file_shape(
     ensures { λ r. ⌜ returned r (now (place .exit)) (now (axes .exit), now (level .exit), now (points .exit)) ≡ ofNamed (now (axes .entry), now (level .entry), now (points .entry)) (shapeOfFile (now (bytes .entry))) ⌝ }
 {
     match house_file::shape_of(bytes) {
-        Opened::Refused(r) => crate::answers::refuse(r, place),
+        Opened::Refused(r) => answers::refuse(r, place),
         Opened::Holds(named) => {
             *axes = named.axes;
             *level = named.level;
             *points = shapes::points_of(named);
-            crate::answers::succeed(place)
+            answers::succeed(place)
         }
     }
 }
@@ -62,8 +62,8 @@ pub extern "C" fn numolefays_write_house_file(
 ) -> u32
     ensures { λ r. ⌜ returned r (now (place .exit)) (now (length .exit), now (out .exit)) ≡ ofWriting (now (length .entry)) (writeFile (shapeOf axes level) (now (rates .entry)) (now (out .entry))) ⌝ }
 {
-    let answer = house_writer::write(crate::answers::shape_of(axes, level), rates, out);
-    crate::answers::hand_length(answer, length, place)
+    let answer = house_writer::write(answers::shape_of(axes, level), rates, out);
+    answers::hand_length(answer, length, place)
 }
 
 // The one form of a file of at most so many points into the first bytes of `out`, and its length.
@@ -78,5 +78,5 @@ pub extern "C" fn numolefays_rewrite_house_file(
     ensures { λ r. ⌜ returned r (now (place .exit)) (now (length .exit), now (out .exit)) ≡ ofWriting (now (length .entry)) (rewriteFile most (now (bytes .entry)) (now (out .entry))) ⌝ }
 {
     let answer = house_writer::rewrite(bytes, most, out);
-    crate::answers::hand_length(answer, length, place)
+    answers::hand_length(answer, length, place)
 }

@@ -6,19 +6,19 @@ ghost use Rattle.shapes.specs.Shapes.{counted};
 ghost use Rattle.numbers.specs.Numbers.{numberOfPoint, pointOfNumber};
 ghost use Rattle.successor.specs.Successor.{successorOf};
 ghost use Rattle.parents.specs.Parents.{parentOf};
-ghost use Rattle.numolefays.specs.Returned.{returned};
-ghost use Rattle.numolefays.specs.Answers.{shapeOf, sideOf, ofCounted, ofNumbered, ofPoint, ofLocated};
+ghost use Rattle.answers.specs.Returned.{returned};
+ghost use Rattle.answers.specs.Answers.{shapeOf, sideOf, ofCounted, ofNumbered, ofPoint, ofLocated};
 
 // How many points the shape has.
 #[no_mangle]
 pub extern "C" fn numolefays_count(axes: u32, level: u32, points: &mut u64, place: &mut u64) -> u32
     ensures { λ r. ⌜ returned r (now (place .exit)) (now (points .exit)) ≡ ofCounted (now (points .entry)) (counted (shapeOf axes level)) ⌝ }
 {
-    match shapes::count(crate::answers::shape_of(axes, level)) {
-        Counted::Refused(r) => crate::answers::refuse(r, place),
+    match shapes::count(answers::shape_of(axes, level)) {
+        Counted::Refused(r) => answers::refuse(r, place),
         Counted::Points(count) => {
             *points = count;
-            crate::answers::succeed(place)
+            answers::succeed(place)
         }
     }
 }
@@ -35,11 +35,11 @@ pub extern "C" fn numolefays_number_of_point(
 ) -> u32
     ensures { λ r. ⌜ returned r (now (place .exit)) (now (number .exit)) ≡ ofNumbered (now (number .entry)) (numberOfPoint (shapeOf axes level) (now (levels .entry)) (now (indices .entry))) ⌝ }
 {
-    match numbers::number_of_point(crate::answers::shape_of(axes, level), levels, indices) {
-        Numbered::Refused(r) => crate::answers::refuse(r, place),
+    match numbers::number_of_point(answers::shape_of(axes, level), levels, indices) {
+        Numbered::Refused(r) => answers::refuse(r, place),
         Numbered::At(p) => {
             *number = p;
-            crate::answers::succeed(place)
+            answers::succeed(place)
         }
     }
 }
@@ -56,9 +56,9 @@ pub extern "C" fn numolefays_point_of_number(
 ) -> u32
     ensures { λ r. ⌜ returned r (now (place .exit)) (now (levels .exit), now (indices .exit)) ≡ ofPoint (now (levels .entry), now (indices .entry)) (pointOfNumber (shapeOf axes level) number) ⌝ }
 {
-    let located = numbers::point_of_number(crate::answers::shape_of(axes, level), number);
+    let located = numbers::point_of_number(answers::shape_of(axes, level), number);
     let mut none: u32 = 0;
-    crate::answers::hand_point(located, levels, indices, &mut none, place)
+    answers::hand_point(located, levels, indices, &mut none, place)
 }
 
 // The successor of a point: `end` is 1 after the last point, else 0.
@@ -75,8 +75,8 @@ pub extern "C" fn numolefays_successor(
 ) -> u32
     ensures { λ r. ⌜ returned r (now (place .exit)) (now («next_levels» .exit), now («next_indices» .exit), now (end .exit)) ≡ ofLocated (now («next_levels» .entry), now («next_indices» .entry), now (end .entry)) (successorOf (shapeOf axes level) (now (levels .entry)) (now (indices .entry))) ⌝ }
 {
-    let located = successor::successor(crate::answers::shape_of(axes, level), levels, indices);
-    crate::answers::hand_point(located, next_levels, next_indices, end, place)
+    let located = successor::successor(answers::shape_of(axes, level), levels, indices);
+    answers::hand_point(located, next_levels, next_indices, end, place)
 }
 
 // The parent of a point on an axis, on side 0 the left one and else the right one: `border` is 1 where it is the border, else 0.
@@ -95,7 +95,7 @@ pub extern "C" fn numolefays_parent(
 ) -> u32
     ensures { λ r. ⌜ returned r (now (place .exit)) (now («parent_levels» .exit), now («parent_indices» .exit), now (border .exit)) ≡ ofLocated (now («parent_levels» .entry), now («parent_indices» .entry), now (border .entry)) (parentOf (shapeOf axes level) (now (levels .entry)) (now (indices .entry)) axis (sideOf side)) ⌝ }
 {
-    let shape = crate::answers::shape_of(axes, level);
-    let located = parents::parent(shape, levels, indices, axis, crate::answers::side_of(side));
-    crate::answers::hand_point(located, parent_levels, parent_indices, border, place)
+    let shape = answers::shape_of(axes, level);
+    let located = parents::parent(shape, levels, indices, axis, answers::side_of(side));
+    answers::hand_point(located, parent_levels, parent_indices, border, place)
 }

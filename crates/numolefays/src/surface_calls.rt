@@ -2,8 +2,8 @@
 use estimates::Estimated;
 ghost use mathlib.Core.Path.{_≡_};
 ghost use Rattle.estimates.specs.Estimates as surface;
-ghost use Rattle.numolefays.specs.Returned.{returned};
-ghost use Rattle.numolefays.specs.Answers.{stateOf, ofEstimated};
+ghost use Rattle.answers.specs.Returned.{returned};
+ghost use Rattle.answers.specs.Answers.{stateOf, ofEstimated};
 
 // The estimate at a list of coordinates.
 #[no_mangle]
@@ -18,15 +18,11 @@ pub extern "C" fn numolefays_estimate(
 ) -> u32
     ensures { λ r. ⌜ returned r (now (place .exit)) (now (estimate .exit)) ≡ ofEstimated (now (estimate .entry)) (surface.estimate (stateOf axes level forward) (now (table .entry)) (now (coordinates .entry))) ⌝ }
 {
-    match estimates::estimate(
-        crate::answers::state_of(axes, level, forward),
-        table,
-        coordinates,
-    ) {
-        Estimated::Refused(r) => crate::answers::refuse(r, place),
+    match estimates::estimate(answers::state_of(axes, level, forward), table, coordinates) {
+        Estimated::Refused(r) => answers::refuse(r, place),
         Estimated::Value(value) => {
             *estimate = value;
-            crate::answers::succeed(place)
+            answers::succeed(place)
         }
     }
 }

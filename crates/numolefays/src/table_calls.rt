@@ -2,8 +2,8 @@
 ghost use mathlib.Core.Path.{_≡_};
 ghost use Rattle.tables.specs.Tables.{load, adopt, unload};
 ghost use Rattle.whole.specs.Whole.{ratesToCoefficients, coefficientsToRates};
-ghost use Rattle.numolefays.specs.Returned.{returned};
-ghost use Rattle.numolefays.specs.Answers.{shapeOf, stateOf, ofAnswer, ofAfter, ofLeft};
+ghost use Rattle.answers.specs.Returned.{returned};
+ghost use Rattle.answers.specs.Answers.{shapeOf, stateOf, ofAnswer, ofAfter, ofLeft};
 
 // Rates to a loaded table, no axis forward.
 #[no_mangle]
@@ -16,8 +16,8 @@ pub extern "C" fn numolefays_load(
 ) -> u32
     ensures { λ r. ⌜ returned r (now (place .exit)) (now (forward .exit), now (table .exit)) ≡ ofAfter (now (forward .entry)) (load (shapeOf axes level) (now (table .entry))) ⌝ }
 {
-    let answer = tables::load(crate::answers::shape_of(axes, level), table);
-    crate::answers::hand_state(answer, forward, place)
+    let answer = tables::load(answers::shape_of(axes, level), table);
+    answers::hand_state(answer, forward, place)
 }
 
 // Coefficients, all axes forward.
@@ -31,8 +31,8 @@ pub extern "C" fn numolefays_adopt(
 ) -> u32
     ensures { λ r. ⌜ returned r (now (place .exit)) (now (forward .exit)) ≡ ofAnswer (now (forward .entry)) (adopt (shapeOf axes level) (now (table .entry))) ⌝ }
 {
-    let answer = tables::adopt(crate::answers::shape_of(axes, level), table);
-    crate::answers::hand_state(answer, forward, place)
+    let answer = tables::adopt(answers::shape_of(axes, level), table);
+    answers::hand_state(answer, forward, place)
 }
 
 // A table with no axis forward to rates.
@@ -46,8 +46,8 @@ pub extern "C" fn numolefays_unload(
 ) -> u32
     ensures { λ r. ⌜ returned r (now (place .exit)) (now (table .exit)) ≡ ofLeft (unload (stateOf axes level forward) (now (table .entry))) ⌝ }
 {
-    let verdict = tables::unload(crate::answers::state_of(axes, level, forward), table);
-    crate::answers::tell(verdict, place)
+    let verdict = tables::unload(answers::state_of(axes, level, forward), table);
+    answers::tell(verdict, place)
 }
 
 // Rates to coefficients.
@@ -60,8 +60,8 @@ pub extern "C" fn numolefays_rates_to_coefficients(
 ) -> u32
     ensures { λ r. ⌜ returned r (now (place .exit)) (now (table .exit)) ≡ ofLeft (ratesToCoefficients (shapeOf axes level) (now (table .entry))) ⌝ }
 {
-    let verdict = whole::rates_to_coefficients(crate::answers::shape_of(axes, level), table);
-    crate::answers::tell(verdict, place)
+    let verdict = whole::rates_to_coefficients(answers::shape_of(axes, level), table);
+    answers::tell(verdict, place)
 }
 
 // Coefficients to rates.
@@ -74,6 +74,6 @@ pub extern "C" fn numolefays_coefficients_to_rates(
 ) -> u32
     ensures { λ r. ⌜ returned r (now (place .exit)) (now (table .exit)) ≡ ofLeft (coefficientsToRates (shapeOf axes level) (now (table .entry))) ⌝ }
 {
-    let verdict = whole::coefficients_to_rates(crate::answers::shape_of(axes, level), table);
-    crate::answers::tell(verdict, place)
+    let verdict = whole::coefficients_to_rates(answers::shape_of(axes, level), table);
+    answers::tell(verdict, place)
 }

@@ -2,8 +2,8 @@
 ghost use mathlib.Core.Path.{_≡_};
 ghost use Rattle.turns.specs.Turns.{forwardTurn, backTurn};
 ghost use Rattle.runs.specs.Calls.{runCalls};
-ghost use Rattle.numolefays.specs.Returned.{returned};
-ghost use Rattle.numolefays.specs.Answers.{stateOf, ofAfter, ofReport};
+ghost use Rattle.answers.specs.Returned.{returned};
+ghost use Rattle.answers.specs.Answers.{stateOf, ofAfter, ofReport};
 
 // Forward on an axis.
 #[no_mangle]
@@ -17,8 +17,8 @@ pub extern "C" fn numolefays_forward(
 ) -> u32
     ensures { λ r. ⌜ returned r (now (place .exit)) (now (forward .exit), now (table .exit)) ≡ ofAfter (now (forward .entry)) (forwardTurn (stateOf axes level (now (forward .entry))) (now (table .entry)) axis) ⌝ }
 {
-    let answer = turns::hierarchize(crate::answers::state_of(axes, level, *forward), table, axis);
-    crate::answers::hand_state(answer, forward, place)
+    let answer = turns::hierarchize(answers::state_of(axes, level, *forward), table, axis);
+    answers::hand_state(answer, forward, place)
 }
 
 // Back on an axis.
@@ -33,8 +33,8 @@ pub extern "C" fn numolefays_back(
 ) -> u32
     ensures { λ r. ⌜ returned r (now (place .exit)) (now (forward .exit), now (table .exit)) ≡ ofAfter (now (forward .entry)) (backTurn (stateOf axes level (now (forward .entry))) (now (table .entry)) axis) ⌝ }
 {
-    let answer = turns::dehierarchize(crate::answers::state_of(axes, level, *forward), table, axis);
-    crate::answers::hand_state(answer, forward, place)
+    let answer = turns::dehierarchize(answers::state_of(axes, level, *forward), table, axis);
+    answers::hand_state(answer, forward, place)
 }
 
 // A list of turns: a direction (0 forward, else back) and an axis for each; the number and the place of each answer go to the last two lists.
@@ -52,7 +52,7 @@ pub extern "C" fn numolefays_run(
 ) -> u32
     ensures { λ r. ⌜ returned r (now (place .exit)) (now (forward .exit), now (table .exit), now (numbers .exit), now (places .exit)) ≡ ofReport (now (forward .entry)) (runCalls (stateOf axes level (now (forward .entry))) (now (table .entry)) (now (directions .entry)) (now (turned .entry)) (now (numbers .entry)) (now (places .entry))) ⌝ }
 {
-    let state = crate::answers::state_of(axes, level, *forward);
+    let state = answers::state_of(axes, level, *forward);
     let answer = runs::run(state, table, directions, turned, numbers, places);
-    crate::answers::hand_state(answer, forward, place)
+    answers::hand_state(answer, forward, place)
 }

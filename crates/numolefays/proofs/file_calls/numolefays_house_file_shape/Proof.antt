@@ -3,7 +3,7 @@
 use mathlib.Core.Path.{sym, _∙_}
 use borrow.Author.Needs.{needs}
 use Rattle.house_file.proofs.Heads.{shape-passes}
-use Rattle.numolefays.proofs.Handing.{beside}
+use Rattle.answers.proofs.Handing.{beside}
 use Rattle.numolefays.proofs.file_calls.numolefays_house_file_shape.Statement.{statement}
 use Rattle.numolefays.proofs.file_calls.numolefays_house_file_shape.Tie as tie
 

@@ -1,7 +1,7 @@
 -- `numolefays_read_house_file` meets its contract: the reader decides, a shape goes out, a refusal leaves the outputs, and the table is as the reader left it.
 -- Assumes nothing.
 use borrow.Author.Needs.{needs}
-use Rattle.numolefays.proofs.Handing.{beside}
+use Rattle.answers.proofs.Handing.{beside}
 use Rattle.numolefays.proofs.file_calls.numolefays_read_house_file.Statement.{statement}
 use Rattle.numolefays.proofs.file_calls.numolefays_read_house_file.Tie as tie
 

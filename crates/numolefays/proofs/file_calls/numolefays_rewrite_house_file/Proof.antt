@@ -1,7 +1,7 @@
 -- `numolefays_rewrite_house_file` meets its contract: the call decides, its length is handed out, and the output buffer is as it left it.
 -- Assumes nothing.
 use borrow.Author.Needs.{needs}
-use Rattle.numolefays.proofs.Handing.{filing}
+use Rattle.answers.proofs.Handing.{filing}
 use Rattle.numolefays.proofs.file_calls.numolefays_rewrite_house_file.Statement.{statement}
 use Rattle.numolefays.proofs.file_calls.numolefays_rewrite_house_file.Tie as tie
 

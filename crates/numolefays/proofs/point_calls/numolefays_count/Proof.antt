@@ -1,7 +1,7 @@
 -- `numolefays_count` meets its contract: the call decides, a count goes out and a refusal leaves the output.
 -- Assumes nothing.
 use borrow.Author.Needs.{needs}
-use Rattle.numolefays.proofs.Handing.{beside}
+use Rattle.answers.proofs.Handing.{beside}
 use Rattle.numolefays.proofs.point_calls.numolefays_count.Statement.{statement}
 use Rattle.numolefays.proofs.point_calls.numolefays_count.Tie as tie
 

@@ -1,7 +1,7 @@
 -- `numolefays_number_of_point` meets its contract: the call decides, a number goes out and a refusal leaves the output.
 -- Assumes nothing.
 use borrow.Author.Needs.{needs}
-use Rattle.numolefays.proofs.Handing.{beside}
+use Rattle.answers.proofs.Handing.{beside}
 use Rattle.numolefays.proofs.point_calls.numolefays_number_of_point.Statement.{statement}
 use Rattle.numolefays.proofs.point_calls.numolefays_number_of_point.Tie as tie
 

@@ -2,7 +2,7 @@
 -- Assumes nothing.
 use mathlib.Core.Path.{ap}
 use borrow.Author.Needs.{needs}
-use Rattle.numolefays.specs.Answers.{unmarked}
+use Rattle.answers.specs.Answers.{unmarked}
 use Rattle.numolefays.proofs.point_calls.numolefays_point_of_number.Statement.{statement}
 use Rattle.numolefays.proofs.point_calls.numolefays_point_of_number.Tie as tie
 

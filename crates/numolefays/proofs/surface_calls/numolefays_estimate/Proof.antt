@@ -3,7 +3,7 @@
 use borrow.Author.Needs.{needs}
 use mir.Syntax.{w64}
 use mir.ValLaws.{toZ-ofZ}
-use Rattle.numolefays.proofs.Handing.{beside}
+use Rattle.answers.proofs.Handing.{beside}
 use Rattle.numolefays.proofs.surface_calls.numolefays_estimate.Statement.{statement}
 use Rattle.numolefays.proofs.surface_calls.numolefays_estimate.Tie as tie
 

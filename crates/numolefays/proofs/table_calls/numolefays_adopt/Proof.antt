@@ -2,7 +2,7 @@
 -- Assumes nothing.
 use mathlib.Core.Path.{ap, _∙_}
 use borrow.Author.Needs.{needs}
-use Rattle.numolefays.specs.Answers.{ofAnswer}
+use Rattle.answers.specs.Answers.{ofAnswer}
 use Rattle.numolefays.proofs.table_calls.numolefays_adopt.Statement.{statement}
 use Rattle.numolefays.proofs.table_calls.numolefays_adopt.Tie as tie
 

@@ -1,7 +1,7 @@
 -- `numolefays_load` meets its contract: the call decides, its answer is handed out, and the table is as it left it.
 -- Assumes nothing.
 use borrow.Author.Needs.{needs}
-use Rattle.numolefays.proofs.Handing.{handing}
+use Rattle.answers.proofs.Handing.{handing}
 use Rattle.numolefays.proofs.table_calls.numolefays_load.Statement.{statement}
 use Rattle.numolefays.proofs.table_calls.numolefays_load.Tie as tie
 

@@ -1,7 +1,7 @@
 -- `numolefays_rates_to_coefficients` meets its contract: the call decides, its verdict is told, and the table is as it left it.
 -- Assumes nothing.
 use borrow.Author.Needs.{needs}
-use Rattle.numolefays.proofs.Handing.{telling}
+use Rattle.answers.proofs.Handing.{telling}
 use Rattle.numolefays.proofs.table_calls.numolefays_rates_to_coefficients.Statement.{
   statement,
 }

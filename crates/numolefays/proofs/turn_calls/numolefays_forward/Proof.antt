@@ -1,7 +1,7 @@
 -- `numolefays_forward` meets its contract: the turn decides, its answer is handed out, and the table is as it left it.
 -- Assumes nothing.
 use borrow.Author.Needs.{needs}
-use Rattle.numolefays.proofs.Handing.{handing}
+use Rattle.answers.proofs.Handing.{handing}
 use Rattle.numolefays.proofs.turn_calls.numolefays_forward.Statement.{statement}
 use Rattle.numolefays.proofs.turn_calls.numolefays_forward.Tie as tie
 

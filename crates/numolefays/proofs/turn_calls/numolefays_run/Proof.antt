@@ -1,7 +1,7 @@
 -- `numolefays_run` meets its contract: the run decides, its answer is handed out, and table and lists are as it left them.
 -- Assumes nothing.
 use borrow.Author.Needs.{needs}
-use Rattle.numolefays.proofs.Handing.{reporting}
+use Rattle.answers.proofs.Handing.{reporting}
 use Rattle.numolefays.proofs.turn_calls.numolefays_run.Statement.{statement}
 use Rattle.numolefays.proofs.turn_calls.numolefays_run.Tie as tie
 

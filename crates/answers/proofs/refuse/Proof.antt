@@ -1,8 +1,8 @@
--- `numolefays::answers::refuse` meets its contract: number and place are those of the refusal.
+-- `answers::refuse` meets its contract: number and place are those of the refusal.
 -- Assumes nothing.
 use borrow.Author.Needs.{needs}
-use Rattle.numolefays.proofs.answers.refuse.Statement.{statement}
-use Rattle.numolefays.proofs.answers.refuse.Tie as tie
+use Rattle.answers.proofs.refuse.Statement.{statement}
+use Rattle.answers.proofs.refuse.Tie as tie
 
 refusal-place-requires : tie.Need-refusal-place-requires
 refusal-place-requires c κs = search needs

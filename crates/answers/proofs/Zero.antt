@@ -23,8 +23,8 @@ use Rattle.points.specs.declared.Point.{Point}
 use Rattle.points.specs.Points.{checkPoint, pointAt, found, nowhere, refused}
 use Rattle.numbers.specs.Numbers.{pointOfNumber}
 use Rattle.successor.specs.Successor.{after, successorOf}
-use Rattle.numolefays.specs.Returned.{Returned}
-use Rattle.numolefays.specs.Answers.{ofLocated, ofPoint}
+use Rattle.answers.specs.Returned.{Returned}
+use Rattle.answers.specs.Answers.{ofLocated, ofPoint}
 
 pub never-zero : (r : Refusal) → 0 < numberOf r
 never-zero Axes = omega arith

@@ -39,8 +39,8 @@ use Rattle.house_file.specs.Files.{Contents, filledWith, readContents, readFile
 use Rattle.house_file.specs.Written.{writtenFile}
 use Rattle.house_writer.specs.Writing.{keptOut, checkRoom, filledOut, putFile, writeFile}
 use Rattle.house_writer.specs.Rewriting.{formOf, writtenAgain, rewriteFile}
-use Rattle.numolefays.specs.Returned.{Returned}
-use Rattle.numolefays.specs.Answers.{ofCounted, ofNumbered, ofLocatedIn, ofLocated, ofPoint, ofAnswer, ofAfter, ofLeft, ofReport, ofEstimated, ofReading, ofNamed, ofWriting}
+use Rattle.answers.specs.Returned.{Returned}
+use Rattle.answers.specs.Answers.{ofCounted, ofNumbered, ofLocatedIn, ofLocated, ofPoint, ofAnswer, ofAfter, ofLeft, ofReport, ofEstimated, ofReading, ofNamed, ofWriting}
 
 -- The function answered a number other than 0, and the outputs are these.
 abbrev pub Keeps : {A : Type 0} → A → Returned A → Type 0

@@ -1,9 +1,9 @@
--- `numolefays::answers::hand_point` meets its contract: a point goes out, and without one the arrays stay.
+-- `answers::hand_point` meets its contract: a point goes out, and without one the arrays stay.
 -- Assumes nothing.
 use borrow.Author.Needs.{needs}
-use Rattle.numolefays.proofs.Handing.{beside}
-use Rattle.numolefays.proofs.answers.hand_point.Statement.{statement}
-use Rattle.numolefays.proofs.answers.hand_point.Tie as tie
+use Rattle.answers.proofs.Handing.{beside}
+use Rattle.answers.proofs.hand_point.Statement.{statement}
+use Rattle.answers.proofs.hand_point.Tie as tie
 
 enum-known-outcome : tie.Need-enum-known-outcome
 enum-known-outcome c = search needs

@@ -11,8 +11,8 @@ use Rattle.states.specs.After.{After, after, Left, left}
 use Rattle.runs.specs.Calls.{Report, report}
 use Rattle.house_writer.specs.declared.Filed.{Filed}
 use Rattle.house_writer.specs.Writing.{AfterWriting, afterWriting}
-use Rattle.numolefays.specs.Returned.{Told, told, toldOf, Returned, leaving, returned}
-use Rattle.numolefays.specs.Answers.{sideOf, ofAnswer, ofAfter, ofLeft, ofReport, ofFiled, ofWriting}
+use Rattle.answers.specs.Returned.{Told, told, toldOf, Returned, leaving, returned}
+use Rattle.answers.specs.Answers.{sideOf, ofAnswer, ofAfter, ofLeft, ofReport, ofFiled, ofWriting}
 
 -- A number other than 0 names the right side.
 pub right : (s : ℕ) → (s ≡ 0 → ⊥) → Right ≡ sideOf s

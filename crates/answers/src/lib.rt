@@ -9,8 +9,8 @@ use shapes::Shape;
 use states::Answer;
 use states::State;
 ghost use mathlib.Core.Path.{_≡_};
-ghost use Rattle.numolefays.specs.Returned.{told, success, refusal, toldOf, returned};
-ghost use Rattle.numolefays.specs.Answers.{shapeOf, stateOf, sideOf, ofLocated, ofAnswer, ofFiled};
+ghost use Rattle.answers.specs.Returned.{told, success, refusal, toldOf, returned};
+ghost use Rattle.answers.specs.Answers.{shapeOf, stateOf, sideOf, ofLocated, ofAnswer, ofFiled};
 
 // A shape, from the two numbers that stand for it.
 pub fn shape_of(axes: u32, level: u32) -> Shape

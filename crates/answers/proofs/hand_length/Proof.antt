@@ -1,9 +1,9 @@
--- `numolefays::answers::hand_length` meets its contract: a refusal leaves the length, a file gives its own.
+-- `answers::hand_length` meets its contract: a refusal leaves the length, a file gives its own.
 -- Assumes nothing.
 use borrow.Author.Needs.{needs}
-use Rattle.numolefays.proofs.Handing.{beside}
-use Rattle.numolefays.proofs.answers.hand_length.Statement.{statement}
-use Rattle.numolefays.proofs.answers.hand_length.Tie as tie
+use Rattle.answers.proofs.Handing.{beside}
+use Rattle.answers.proofs.hand_length.Statement.{statement}
+use Rattle.answers.proofs.hand_length.Tie as tie
 
 enum-known-filed : tie.Need-enum-known-filed
 enum-known-filed c = search needs

@@ -1,8 +1,8 @@
--- `numolefays::answers::tell` meets its contract: a refusal tells its number and place, a check that passed 0 and 0.
+-- `answers::tell` meets its contract: a refusal tells its number and place, a check that passed 0 and 0.
 -- Assumes nothing.
 use borrow.Author.Needs.{needs}
-use Rattle.numolefays.proofs.answers.tell.Statement.{statement}
-use Rattle.numolefays.proofs.answers.tell.Tie as tie
+use Rattle.answers.proofs.tell.Statement.{statement}
+use Rattle.answers.proofs.tell.Tie as tie
 
 enum-known-verdict : tie.Need-enum-known-verdict
 enum-known-verdict c = search needs

@@ -28,7 +28,7 @@ use Rattle.house_file.specs.Files.{AfterReading}
 use Rattle.house_writer.specs.declared.Filed.{Filed}
 use Rattle.house_writer.specs.declared.Filed.the-variants as filed
 use Rattle.house_writer.specs.Writing.{AfterWriting}
-use Rattle.numolefays.specs.Returned.{Returned, toldOf, leaving, done, refused}
+use Rattle.answers.specs.Returned.{Returned, toldOf, leaving, done, refused}
 
 -- A shape and a state, from the numbers that stand for them.
 abbrev pub shapeOf : ℕ → ℕ → Shape

@@ -1,9 +1,9 @@
--- `numolefays::answers::hand_state` meets its contract: a refusal leaves the set of forward axes, a state gives its own.
+-- `answers::hand_state` meets its contract: a refusal leaves the set of forward axes, a state gives its own.
 -- Assumes nothing.
 use borrow.Author.Needs.{needs}
-use Rattle.numolefays.proofs.Handing.{beside}
-use Rattle.numolefays.proofs.answers.hand_state.Statement.{statement}
-use Rattle.numolefays.proofs.answers.hand_state.Tie as tie
+use Rattle.answers.proofs.Handing.{beside}
+use Rattle.answers.proofs.hand_state.Statement.{statement}
+use Rattle.answers.proofs.hand_state.Tie as tie
 
 enum-known-answer : tie.Need-enum-known-answer
 enum-known-answer c = search needs
