@@ -34,7 +34,7 @@ use Rattle.estimates.specs.declared.Estimated.{Estimated}
 use Rattle.estimates.specs.declared.Estimated.the-variants as estimated
 use Rattle.house_file.specs.declared.Opened.{Opened}
 use Rattle.house_file.specs.declared.Opened.the-variants as opened
-use Rattle.house_file.specs.Reading.{Read, got, refused}
+use Rattle.house_numbers.specs.Reading.{Read, got, refused}
 use Rattle.house_file.specs.Files.{Contents, filledWith, readContents, readFile}
 use Rattle.house_file.specs.Written.{writtenFile}
 use Rattle.house_writer.specs.Writing.{keptOut, checkRoom, filledOut, putFile, writeFile}

@@ -18,10 +18,11 @@ use Rattle.refusals.proofs.Passing.{test-passed}
 use Rattle.integers.specs.Half.{isRate}
 use Rattle.shapes.specs.declared.Shape.{Shape}
 use Rattle.shapes.specs.Shapes.{checkShape, pointsOf}
-use Rattle.house_file.specs.Reading.{Read, got, refused, _next_, _thenRead_}
-use Rattle.house_file.specs.Numbers.{groups, largest, limited, readNumber, rateOf}
-use Rattle.house_file.specs.Files.{readHead, prepended, readRates, Contents, ended, readTable, readContents}
-use Rattle.house_file.proofs.Filing.{rate-filed}
+use Rattle.house_numbers.specs.Reading.{Read, got, refused, _next_, _thenRead_}
+use Rattle.house_numbers.specs.Numbers.{groups, largest, limited, readNumber, rateOf}
+use Rattle.house_rates.specs.Rates.{prepended, readRates}
+use Rattle.house_file.specs.Files.{readHead, Contents, ended, readTable, readContents}
+use Rattle.house_numbers.proofs.Filing.{rate-filed}
 
 -- Every place of a list holds a rate.
 abbrev pub AllRates : List ℤ → Type 0

@@ -15,10 +15,12 @@ use Rattle.refusals.specs.Checks.{unless, _andThen_}
 use Rattle.refusals.proofs.Passing.{first-passed, next-passed, test-passed}
 use Rattle.shapes.specs.declared.Shape.{Shape}
 use Rattle.shapes.specs.Shapes.{checkShape, pointsOf}
-use Rattle.house_file.specs.Reading.{Read, got, refused, _next_, _thenRead_}
-use Rattle.house_file.specs.Numbers.{readNumber}
-use Rattle.house_file.specs.Files.{named, readHead, Contents, readRates, ended, readTable, readContents}
-use Rattle.house_file.specs.Steps.{checkPlaces, checkedRates, checkedRest, ratesRead}
+use Rattle.house_numbers.specs.Reading.{Read, got, refused, _next_, _thenRead_}
+use Rattle.house_numbers.specs.Numbers.{readNumber}
+use Rattle.house_rates.specs.Rates.{readRates}
+use Rattle.house_file.specs.Files.{named, readHead, Contents, ended, readTable, readContents}
+use Rattle.house_rates.specs.Steps.{checkedRates, ratesRead}
+use Rattle.house_file.specs.Steps.{checkPlaces, checkedRest}
 
 module _ (bytes : List ℕ) where
   pub first-refused : {r : Refusal} → readNumber bytes ≡ refused r → readHead bytes ≡ refused r

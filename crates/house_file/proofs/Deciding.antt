@@ -18,9 +18,10 @@ use Rattle.refusals.specs.declared.Verdict.the-variants as verdict
 use Rattle.refusals.specs.Checks.{unless}
 use Rattle.shapes.specs.declared.Shape.{Shape}
 use Rattle.shapes.specs.Shapes.{sparse, checkShape, pointsOf}
-use Rattle.house_file.specs.Reading.{Read, got, refused, _next_, _thenRead_}
-use Rattle.house_file.specs.Numbers.{below, groups, largest, limited, readNumber, rateOf}
-use Rattle.house_file.specs.Files.{named, readHead, Contents, prepended, readRates, ended, readTable, readContents, filledWith, readFile}
+use Rattle.house_numbers.specs.Reading.{Read, got, refused, _next_, _thenRead_}
+use Rattle.house_numbers.specs.Numbers.{below, groups, largest, limited, readNumber, rateOf}
+use Rattle.house_rates.specs.Rates.{prepended, readRates}
+use Rattle.house_file.specs.Files.{named, readHead, Contents, ended, readTable, readContents, filledWith, readFile}
 
 -- From the first bytes the same is read as from all of them, with at least m of the bytes after it; or both are refused alike.
 pub data Agree {A : Type 0} (m : ℕ) (cut whole : Read A) : Type 0 where

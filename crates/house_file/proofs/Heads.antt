@@ -17,7 +17,7 @@ use Rattle.refusals.specs.Checks.{unless}
 use Rattle.shapes.specs.declared.Shape.{Shape}
 use Rattle.shapes.specs.Shapes.{checkShape, pointsOf}
 use Rattle.house_file.specs.declared.Opened.the-variants.{Holds, Refused}
-use Rattle.house_file.specs.Reading.{Read, got, refused, _next_, _thenRead_}
+use Rattle.house_numbers.specs.Reading.{Read, got, refused, _next_, _thenRead_}
 use Rattle.house_file.specs.Files.{readHead, headChecked, shapeRead, shapeOfFile, Contents, readTable, readContents, afterReading, readFile}
 use Rattle.house_file.proofs.Answering.{head-first}
 use Rattle.house_file.proofs.Parts.{accepted-parts}

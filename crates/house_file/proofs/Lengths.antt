@@ -12,12 +12,13 @@ use Rattle.refusals.specs.declared.Verdict.the-variants.{Passed}
 use Rattle.shapes.specs.declared.Shape.{Shape}
 use Rattle.shapes.specs.Shapes.{sparse, checkShape, pointsOf}
 use Rattle.shapes.proofs.Checked.{passed-in-range}
-use Rattle.house_file.specs.Reading.{got}
-use Rattle.house_file.specs.Numbers.{below, groups, readNumber, filed, rateOf}
-use Rattle.house_file.specs.Files.{named, readHead, prepended, readRates, Contents, readContents}
+use Rattle.house_numbers.specs.Reading.{got}
+use Rattle.house_numbers.specs.Numbers.{below, groups, readNumber, filed, rateOf}
+use Rattle.house_rates.specs.Rates.{prepended, readRates}
+use Rattle.house_file.specs.Files.{named, readHead, Contents, readContents}
 use Rattle.house_file.specs.Written.{fewest, written, writtenRates, writtenFile}
-use Rattle.house_file.proofs.Gathering.{continued, finished}
-use Rattle.house_file.proofs.Filing.{filed-of-rate}
+use Rattle.house_numbers.proofs.Gathering.{continued, finished}
+use Rattle.house_numbers.proofs.Filing.{filed-of-rate}
 use Rattle.house_file.proofs.Accepting.{through, number-groups}
 use Rattle.house_file.proofs.Undone.{last-group, more-groups, fewest-bytes}
 use Rattle.house_file.proofs.Parts.{accepted-parts}

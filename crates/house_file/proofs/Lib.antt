@@ -1,13 +1,3 @@
-pub mod Gathering
-pub mod CheckedNumbers
-pub mod Filing
-pub mod Rates
-pub mod Checking
-pub mod Counting
-pub mod FiveBytes
-pub mod Together
-pub mod Walking
-pub mod Filling
 pub mod Answering
 pub mod Undone
 pub mod Deciding

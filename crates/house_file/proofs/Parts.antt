@@ -11,8 +11,9 @@ use Rattle.refusals.specs.declared.Refusal.the-variants.{TableLength}
 use Rattle.refusals.specs.declared.Verdict.the-variants.{Passed}
 use Rattle.refusals.specs.Checks.{unless}
 use Rattle.shapes.specs.Shapes.{checkShape, pointsOf}
-use Rattle.house_file.specs.Reading.{got, _thenRead_}
-use Rattle.house_file.specs.Files.{readHead, readRates, Contents, ended, readTable, readContents}
+use Rattle.house_numbers.specs.Reading.{got, _thenRead_}
+use Rattle.house_rates.specs.Rates.{readRates}
+use Rattle.house_file.specs.Files.{readHead, Contents, ended, readTable, readContents}
 use Rattle.house_file.proofs.Accepting.{contents-whole}
 use Rattle.house_file.proofs.Answering.{head-first}
 

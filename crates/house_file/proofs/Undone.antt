@@ -16,13 +16,14 @@ use Rattle.integers.specs.Half.{isRate}
 use Rattle.shapes.specs.declared.Shape.{Shape}
 use Rattle.shapes.specs.Shapes.{checkShape, pointsOf}
 use Rattle.shapes.proofs.Checked.{passed-in-range}
-use Rattle.house_file.specs.Reading.{Read, got, _next_}
-use Rattle.house_file.specs.Numbers.{below, groups, largest, limited, readNumber, filed}
-use Rattle.house_file.specs.Files.{prepended, readRates, ended, readTable, readContents}
+use Rattle.house_numbers.specs.Reading.{Read, got, _next_}
+use Rattle.house_numbers.specs.Numbers.{below, groups, largest, limited, readNumber, filed}
+use Rattle.house_rates.specs.Rates.{prepended, readRates}
+use Rattle.house_file.specs.Files.{ended, readTable, readContents}
 use Rattle.house_file.specs.Steps.{checkPlaces}
 use Rattle.house_file.specs.Written.{fewest, written, writtenRates, writtenFile}
-use Rattle.house_file.proofs.Gathering.{continued, finished}
-use Rattle.house_file.proofs.Filing.{rate-of-filed}
+use Rattle.house_numbers.proofs.Gathering.{continued, finished}
+use Rattle.house_numbers.proofs.Filing.{rate-of-filed}
 use Rattle.house_file.proofs.Accepting.{AllRates, through, number-groups}
 use Rattle.house_file.proofs.Answering.{head-first, head-named, placed}
 

@@ -9,9 +9,10 @@ use Rattle.numbering.specs.Binomial.{choose}
 use Rattle.numbering.specs.Count.{vectors, shell, start, points}
 use Rattle.shapes.specs.Shapes.{checkShape, pointsOf}
 use Rattle.house_file.specs.declared.Opened.the-variants.{Holds, Refused}
-use Rattle.house_file.specs.Reading.{got}
-use Rattle.house_file.specs.Numbers.{below, groups, largest, limited, readNumber, rateOf}
-use Rattle.house_file.specs.Files.{readHead, prepended, readRates, ended, readTable, readContents, afterReading, readFile}
+use Rattle.house_numbers.specs.Reading.{got}
+use Rattle.house_numbers.specs.Numbers.{below, groups, largest, limited, readNumber, rateOf}
+use Rattle.house_rates.specs.Rates.{prepended, readRates}
+use Rattle.house_file.specs.Files.{readHead, ended, readTable, readContents, afterReading, readFile}
 
 -- 01 01 06 0A 0E, in a buffer of one place more.
 pub example-read :

@@ -1,7 +1,7 @@
 -- A house file (document 01, "House file" and refusals 11 to 13): d, n and then N rates in point order.
 -- Assumes nothing.
-use mathlib.Core.List.{List, [], _∷_, _++_}
-use Prim.Native.Nat.{ℕ, zero, suc}
+use mathlib.Core.List.{List, _++_}
+use Prim.Native.Nat.{ℕ}
 use lib.Dec.{leb, eqb}
 use lib.IntN.{ℤ}
 use lib.ListN.{length, drop}
@@ -11,8 +11,9 @@ use Rattle.shapes.specs.declared.Shape.{Shape}
 use Rattle.shapes.specs.Shapes.{sparse, checkShape, pointsOf}
 use Rattle.house_file.specs.declared.Opened.{Opened}
 use Rattle.house_file.specs.declared.Opened.the-variants.{Holds, Refused}
-use Rattle.house_file.specs.Reading.{Read, got, refused, _next_, _thenRead_}
-use Rattle.house_file.specs.Numbers.{readNumber, rateOf}
+use Rattle.house_numbers.specs.Reading.{Read, got, refused, _next_, _thenRead_}
+use Rattle.house_numbers.specs.Numbers.{readNumber}
+use Rattle.house_rates.specs.Rates.{readRates}
 
 -- d and n, before they are checked.
 abbrev pub named : ℕ → ℕ → List ℕ → Read Shape
@@ -32,15 +33,6 @@ shapeRead (refused r) = Refused r
 -- The shape that a file names, from d and n alone: 11 or 12 for d, 11 or 12 for n, then 1 or 2.
 unfoldable pub shapeOfFile : List ℕ → Opened
 shapeOfFile bytes = shapeRead (readHead bytes next headChecked)
-
--- A rate before others.
-unfoldable pub prepended : ℤ → List ℤ → List ℕ → Read (List ℤ)
-prepended rate rates rest = got (rate ∷ rates) rest
-
--- m rates in a row.
-unfoldable pub readRates : ℕ → List ℕ → Read (List ℤ)
-readRates zero bytes = got [] bytes
-readRates (suc m) bytes = readNumber bytes next (λ u rest. readRates m rest next prepended (rateOf u))
 
 -- What a file holds.
 pub record Contents : Type 0 where

@@ -6,7 +6,7 @@ use lib.Dec.{ltb}
 use lib.IntN.{ℤ}
 use Rattle.naturals.specs.Test.{if_then_else_}
 use Rattle.shapes.specs.declared.Shape.{Shape}
-use Rattle.house_file.specs.Numbers.{filed}
+use Rattle.house_numbers.specs.Numbers.{filed}
 
 -- A number below 128^k in the fewest groups, lowest first: a group that others follow has its top bit set.
 unfoldable pub fewest : ℕ → ℕ → List ℕ

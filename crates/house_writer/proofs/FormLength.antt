@@ -12,7 +12,7 @@ use Rattle.shapes.specs.declared.Shape.{Shape}
 use Rattle.shapes.proofs.Checked.{in-range-passed}
 use Rattle.tables.specs.Tables.{checkRated}
 use Rattle.tables.proofs.Checking.{rated-opens}
-use Rattle.house_file.specs.Reading.{got}
+use Rattle.house_numbers.specs.Reading.{got}
 use Rattle.house_file.specs.Files.{Contents, readContents}
 use Rattle.house_file.specs.Written.{writtenFile}
 use Rattle.house_file.proofs.Accepting.{contents-accepted}

@@ -10,15 +10,15 @@ use lib.ListN.{length, drop}
 use Rattle.refusals.specs.declared.Verdict.the-variants as verdict
 use Rattle.buffers.specs.Put.{Put}
 use Rattle.buffers.proofs.Puts.{put-nothing, put-as}
-use Rattle.house_file.specs.Reading.{Read, got, refused}
-use Rattle.house_file.specs.Numbers.{readNumber, filed, rateOf}
-use Rattle.house_file.specs.Files.{readRates}
-use Rattle.house_file.specs.Steps.{checkedRates, ratesRead}
+use Rattle.house_numbers.specs.Reading.{Read, got, refused}
+use Rattle.house_numbers.specs.Numbers.{readNumber, filed, rateOf}
+use Rattle.house_rates.specs.Rates.{readRates}
+use Rattle.house_rates.specs.Steps.{checkedRates, ratesRead}
 use Rattle.house_file.specs.Written.{written, writtenRates}
-use Rattle.house_file.proofs.Filing.{filed-of-rate}
+use Rattle.house_numbers.proofs.Filing.{filed-of-rate}
 use Rattle.house_file.proofs.Accepting.{rates-rated}
 use Rattle.house_file.proofs.Lengths.{Bytes, rates-take}
-use Rattle.house_file.proofs.Walking.{Walked, walked-starts, walked-ahead, walked-steps, walked-ends}
+use Rattle.house_rates.proofs.Walking.{Walked, walked-starts, walked-ahead, walked-steps, walked-ends}
 use Rattle.house_writer.proofs.Rates.{size-next, size-fits, next-room, put-next}
 
 -- A number of the file, as the filed form of its rate.

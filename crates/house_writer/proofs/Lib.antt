@@ -1,6 +1,3 @@
-pub mod FiledForm
-pub mod Sizes
-pub mod Groups
 pub mod Rates
 pub mod Forms
 pub mod Putting

@@ -9,7 +9,7 @@ use lib.IntN.{ℤ}
 use lib.ListN.{length, take, drop}
 use lib.Seq.{take-at}
 use Rattle.refusals.specs.declared.Refusal.{Refusal}
-use Rattle.house_file.specs.Reading.{Read, got, refused}
+use Rattle.house_numbers.specs.Reading.{Read, got, refused}
 use Rattle.house_file.specs.Files.{Contents, readContents, filledWith, readFile}
 use Rattle.house_file.proofs.Accepting.{contents-accepted}
 use Rattle.house_file.proofs.Undone.{file-back}

@@ -14,11 +14,11 @@ use Rattle.hierarchy.proofs.Values.{value-suc}
 use Rattle.tables.specs.Tables.{rateAt}
 use Rattle.buffers.specs.Put.{Put}
 use Rattle.buffers.proofs.Puts.{put-then, put-length, put-as}
-use Rattle.house_file.specs.Numbers.{filed}
+use Rattle.house_numbers.specs.Numbers.{filed}
 use Rattle.house_file.specs.Written.{written, writtenRates}
 use Rattle.house_file.proofs.Lengths.{number-most, rates-most}
 use Rattle.house_file.proofs.Accepting.{AllRates}
-use Rattle.house_file.proofs.Walking.{Ahead}
+use Rattle.house_rates.proofs.Walking.{Ahead}
 
 -- Every place that passes holds a rate.
 pub all-rates : (rates : List ℤ) → Passes (rateAt rates) (length rates) → AllRates rates

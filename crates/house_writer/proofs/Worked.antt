@@ -13,8 +13,9 @@ use Rattle.numbering.specs.Count.{vectors, shell, start, points}
 use Rattle.hierarchy.specs.Turns.{valueAt}
 use Rattle.shapes.specs.Shapes.{sparse, checkShape, pointsOf, checkLength}
 use Rattle.tables.specs.Tables.{checkTable, rateAt, checkRates}
-use Rattle.house_file.specs.Numbers.{below, groups, largest, limited, readNumber, filed, rateOf}
-use Rattle.house_file.specs.Files.{readHead, prepended, readRates, ended, readTable, readContents}
+use Rattle.house_numbers.specs.Numbers.{below, groups, largest, limited, readNumber, filed, rateOf}
+use Rattle.house_rates.specs.Rates.{prepended, readRates}
+use Rattle.house_file.specs.Files.{readHead, ended, readTable, readContents}
 use Rattle.house_file.specs.Written.{fewest, written, writtenRates, writtenFile}
 use Rattle.house_writer.specs.declared.Filed.the-variants.{Length, Refused}
 use Rattle.house_writer.specs.Writing.{afterWriting, checkRoom, putFile, writeFile}

@@ -17,7 +17,7 @@ use Rattle.shapes.proofs.Checked.{in-range-passed}
 use Rattle.tables.specs.Tables.{checkRated}
 use Rattle.tables.proofs.Checking.{rated-opens, rated-passes}
 use Rattle.house_file.specs.declared.Opened.the-variants.{Holds}
-use Rattle.house_file.specs.Reading.{got}
+use Rattle.house_numbers.specs.Reading.{got}
 use Rattle.house_file.specs.Files.{readContents, afterReading, readFile}
 use Rattle.house_file.specs.Written.{writtenFile}
 use Rattle.house_file.proofs.Undone.{file-back}

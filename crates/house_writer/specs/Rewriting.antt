@@ -2,7 +2,7 @@
 -- Assumes nothing.
 use mathlib.Core.List.{List}
 use Prim.Native.Nat.{ℕ}
-use Rattle.house_file.specs.Reading.{Read, got, refused}
+use Rattle.house_numbers.specs.Reading.{Read, got, refused}
 use Rattle.house_file.specs.Files.{Contents, readContents}
 use Rattle.house_file.specs.Written.{writtenFile}
 use Rattle.house_writer.specs.Writing.{AfterWriting, keptOut, putFile}

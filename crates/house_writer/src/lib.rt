@@ -3,7 +3,9 @@ use house_file::Head;
 use refusals::Refusal;
 use refusals::Verdict;
 use shapes::Shape;
-ghost use mathlib.Core.Bool.{true};
+use written_numbers::filed_of;
+use written_numbers::put_number;
+use written_numbers::size_of;
 ghost use mathlib.Core.List.{_++_};
 ghost use mathlib.Core.Path.{_≡_};
 ghost use Prim.Native.Nat.{_+_, _≤_, _<_};
@@ -11,67 +13,20 @@ ghost use lib.Dec.{leb};
 ghost use lib.ListN.{length, drop};
 ghost use Rattle.naturals.specs.FirstFailing.{Passes};
 ghost use Rattle.refusals.specs.declared.Verdict.the-variants.{Passed};
-ghost use Rattle.integers.specs.Half.{isRate};
 ghost use Rattle.shapes.specs.Shapes.{checkShape};
 ghost use Rattle.tables.specs.Tables.{rateAt};
 ghost use Rattle.buffers.specs.Put.{Put};
-ghost use Rattle.house_file.specs.Numbers.{filed};
-ghost use Rattle.house_file.specs.Files.{readRates, readTable};
-ghost use Rattle.house_file.specs.Steps.{checkedRates, ratesRead};
+ghost use Rattle.house_rates.specs.Rates.{readRates};
+ghost use Rattle.house_file.specs.Files.{readTable};
+ghost use Rattle.house_rates.specs.Steps.{checkedRates, ratesRead};
 ghost use Rattle.house_file.specs.Written.{written, writtenRates};
 ghost use Rattle.house_writer.specs.Writing.{afterWriting, writeFile};
 ghost use Rattle.house_writer.specs.Rewriting.{writtenAgain, rewriteFile};
-ghost use Rattle.house_writer.specs.Steps.{reached};
 
 // What the writer answers: the length of the file, or why it is refused.
 pub enum Filed {
     Length(usize),
     Refused(Refusal),
-}
-
-// The filed form of a rate, formed in 64 bits.
-fn filed_of(rate: i64) -> u32
-    requires { ⌜ isRate rate ≡ true ⌝ }
-    ensures { λ r. ⌜ r ≡ filed rate ⌝ }
-{
-    if rate < 0 {
-        return (-2 * rate - 1) as u32;
-    }
-    (2 * rate) as u32
-}
-
-// 1 where a number reaches a bound, else 0.
-fn reaches(number: u32, bound: u32) -> usize
-    ensures { λ r. ⌜ r ≡ reached number bound ⌝ }
-{
-    (bound <= number) as usize
-}
-
-// How many bytes a number takes: one, and one more for each seven bits that it does not fit in.
-fn size_of(number: u32) -> usize
-    ensures { λ r. ⌜ r ≡ length (written number) ⌝ }
-{
-    1
-        + reaches(number, 128)
-        + reaches(number, 16384)
-        + reaches(number, 2097152)
-        + reaches(number, 268435456)
-}
-
-// A number in its fewest groups, from a place on; the place after it is answered.
-fn put_number(number: u32, out: &mut [u8], place: usize) -> usize
-    requires { ⌜ place + length (written number) ≤ length (now out) ⌝ }
-    ensures { λ r. ⌜ Put (written number) (now (out .entry)) place (now (out .exit)) r ⌝ }
-{
-    let mut left = number;
-    let mut at = place;
-    while 128 <= left {
-        out[at] = (128 + (left & 127)) as u8;
-        left = left >> 7;
-        at += 1;
-    }
-    out[at] = left as u8;
-    at + 1
 }
 
 // How many bytes rates take.
@@ -145,7 +100,7 @@ fn form_size(bytes: &[u8], from: usize, count: usize) -> usize
     let mut p: usize = 0;
     let mut at = from;
     while p < count {
-        let number = house_file::checked_number(bytes, at);
+        let number = house_numbers::checked_number(bytes, at);
         total += size_of(number.value);
         at = number.next;
         p += 1;
@@ -173,7 +128,7 @@ fn put_form(bytes: &[u8], from: usize, count: usize, out: &mut [u8], place: usiz
     let mut p: usize = 0;
     let mut at = from;
     while p < count {
-        let number = house_file::checked_number(bytes, at);
+        let number = house_numbers::checked_number(bytes, at);
         next = put_number(number.value, out, next);
         at = number.next;
         p += 1;

@@ -20,13 +20,13 @@ use Rattle.whole.specs.Whole.{coefficientsOf, ratesToCoefficients}
 use Rattle.whole.proofs.Inverse.{coefficients-length}
 use Rattle.house_file.specs.declared.Opened.{Opened}
 use Rattle.house_file.specs.declared.Opened.the-variants.{Holds, Refused}
-use Rattle.house_file.specs.Reading.{Read, got, refused}
+use Rattle.house_numbers.specs.Reading.{Read, got, refused}
 use Rattle.house_file.specs.Files.{Contents, readContents, AfterReading, afterReading, filledWith, readFile}
 use Rattle.house_file.proofs.Accepting.{AllRates, Accepted, contents-accepted}
-use Rattle.reports.specs.Text.{heading, pointLines, refusedLine}
+use Rattle.texts.specs.Text.{heading, pointLines, refusedLine}
 use Rattle.reports.specs.Report.{tableText, reported, report}
 use Rattle.reports.specs.Steps.{turnedText, ratesText}
-use Rattle.reports.proofs.Listing.{lines-length, heading-length, refused-length}
+use Rattle.texts.proofs.Listing.{lines-length, heading-length, refused-length}
 
 -- What was read, if anything was, is accepted.
 abbrev Got : ℕ → Read Contents → Type 0

@@ -1,7 +1,3 @@
-pub mod Puts
-pub mod Decimals
-pub mod Distances
-pub mod Listing
 pub mod Texts
 pub mod Accepted
 pub mod FirstBytes

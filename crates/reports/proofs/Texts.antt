@@ -21,7 +21,7 @@ use Rattle.shapes.specs.Shapes.{checkShape, pointsOf, checkLength, counted}
 use Rattle.states.specs.After.{Left, left}
 use Rattle.tables.specs.Tables.{checkTable}
 use Rattle.whole.specs.Whole.{ratesToCoefficients}
-use Rattle.reports.specs.Text.{refusedLine}
+use Rattle.texts.specs.Text.{refusedLine}
 use Rattle.reports.specs.Report.{tableText}
 use Rattle.reports.specs.Steps.{turnedText, leftText, ratesText}
 

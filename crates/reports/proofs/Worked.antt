@@ -17,9 +17,10 @@ use Rattle.zero_border.specs.ZeroBorder as zero-border
 use Rattle.shapes.specs.Shapes.{checkShape, pointsOf}
 use Rattle.grids.specs.Grids.{neighbour}
 use Rattle.whole.specs.Whole.{coefficientsOf}
-use Rattle.house_file.specs.Numbers.{below, groups, largest, limited, readNumber, rateOf}
-use Rattle.house_file.specs.Files.{readHead, prepended, readRates, ended, readTable, readContents}
-use Rattle.reports.specs.Text.{digitsOf, decimal, signed, headingOf, pointLine, pointLines, refusedLine}
+use Rattle.house_numbers.specs.Numbers.{below, groups, largest, limited, readNumber, rateOf}
+use Rattle.house_rates.specs.Rates.{prepended, readRates}
+use Rattle.house_file.specs.Files.{readHead, ended, readTable, readContents}
+use Rattle.texts.specs.Text.{digitsOf, decimal, signed, headingOf, pointLine, pointLines, refusedLine}
 use Rattle.reports.specs.Report.{tableText, report}
 
 -- 01 01 06 0A 0E: "axes 1 level 1 points 3", "0 6", "1 7", "2 11".

@@ -5,9 +5,9 @@ use Prim.Native.Nat.{ℕ}
 use lib.IntN.{ℤ}
 use Rattle.shapes.specs.declared.Shape.{Shape}
 use Rattle.whole.specs.Whole.{coefficientsOf}
-use Rattle.house_file.specs.Reading.{Read, got, refused}
+use Rattle.house_numbers.specs.Reading.{Read, got, refused}
 use Rattle.house_file.specs.Files.{Contents, readContents}
-use Rattle.reports.specs.Text.{heading, pointLines, refusedLine}
+use Rattle.texts.specs.Text.{heading, pointLines, refusedLine}
 
 -- The first line, and a line for each point with its coefficient.
 unfoldable pub tableText : Shape → List ℤ → List ℕ

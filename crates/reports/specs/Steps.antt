@@ -10,7 +10,7 @@ use Rattle.shapes.specs.declared.Shape.{Shape}
 use Rattle.shapes.specs.Shapes.{pointsOf}
 use Rattle.states.specs.After.{Left}
 use Rattle.whole.specs.Whole.{ratesToCoefficients}
-use Rattle.reports.specs.Text.{refusedLine}
+use Rattle.texts.specs.Text.{refusedLine}
 use Rattle.reports.specs.Report.{tableText}
 
 -- The text of what rates to coefficients leaves.

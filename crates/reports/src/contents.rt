@@ -1,11 +1,11 @@
 // The text of a table of rates: its coefficients, or why it is refused.
-use crate::lines::put_heading;
-use crate::lines::put_points;
-use crate::lines::put_refused;
 use refusals::Refusal;
 use refusals::Verdict;
 use shapes::Counted;
 use shapes::Shape;
+use texts::lines::put_heading;
+use texts::lines::put_points;
+use texts::lines::put_refused;
 ghost use mathlib.Core.Path.{_≡_};
 ghost use Prim.Native.Nat.{_+_, _*_, _≤_};
 ghost use lib.ListN.{length};

@@ -1,16 +1,14 @@
 // The report of a house file: the text of its coefficients, or of why it is refused.
 mod contents;
-mod lines;
-mod pieces;
 
 use contents::put_table;
 use house_file::Opened;
-use lines::put_refused;
 use refusals::Refusal;
+use texts::lines::put_refused;
 ghost use mathlib.Core.Path.{_≡_};
 ghost use lib.ListN.{take};
 ghost use Rattle.io.specs.Counts.{Counts};
-ghost use Rattle.reports.specs.Text.{refusedLine};
+ghost use Rattle.texts.specs.Text.{refusedLine};
 ghost use Rattle.reports.specs.Report.{report as Report·report};
 ghost use Rattle.buffers.specs.Put.{Put};
 

@@ -14,7 +14,7 @@ use Rattle.states.specs.declared.State.{State}
 use Rattle.states.specs.States.{has, marked, cleared}
 use Rattle.states.specs.declared.Answer.the-variants.{Done}
 use Rattle.states.specs.After.{after, kept}
-use Rattle.turns.specs.Steps.{OnAxis}
+use Rattle.sweeps.specs.Steps.{OnAxis}
 use Rattle.turns.specs.Turns.{turnedTable, formerTable, isAccepted, checkTurn, forwardTurn, backTurn}
 use Rattle.turns.proofs.Checking.{MayTurn, place-of}
 

@@ -25,10 +25,10 @@ use Rattle.shapes.specs.declared.Shape.{Shape}
 use Rattle.grids.specs.Grids.{neighbour, depth, height}
 use Rattle.grids.proofs.Instance.{grid, shallow}
 use Rattle.turns.specs.Turns.{formerTable}
-use Rattle.turns.specs.Steps.{Limited, movesOn, between, LoweredBetween, raised, raisesOn, RaisedFrom}
-use Rattle.turns.proofs.Accepting.{limited-passes}
-use Rattle.turns.proofs.Between.{between-inside, between-high}
-use Rattle.turns.proofs.Rising.{risen-still}
+use Rattle.sweeps.specs.Steps.{Limited, movesOn, between, LoweredBetween, raised, raisesOn, RaisedFrom}
+use Rattle.sweeps.proofs.Accepting.{limited-passes}
+use Rattle.sweeps.proofs.Between.{between-inside, between-high}
+use Rattle.sweeps.proofs.Rising.{risen-still}
 use Rattle.turns.proofs.Undoing as undoing
 use Rattle.turns.proofs.Turned.{values-same, sum-before}
 

@@ -1,12 +1,4 @@
 pub mod Checking
-pub mod Accepting
-pub mod AtPoint
-pub mod Between
-pub mod Lowering
-pub mod Raising
-pub mod Rising
-pub mod Flat
-pub mod Standing
 pub mod Turned
 pub mod Former
 pub mod Answering

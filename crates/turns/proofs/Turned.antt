@@ -23,11 +23,11 @@ use Rattle.shapes.specs.Shapes.{pointsOf}
 use Rattle.shapes.specs.declared.Shape.{Shape}
 use Rattle.grids.specs.Grids.{neighbour}
 use Rattle.grids.proofs.Instance.{late}
-use Rattle.turns.specs.Steps.{Limited, movesOn, between, LoweredBetween, raised, raisesOn, RaisedFrom}
-use Rattle.turns.proofs.Accepting.{all-accepted, point-refuses}
-use Rattle.turns.proofs.Between.{between-low, between-inside, between-held, between-same}
-use Rattle.turns.proofs.Lowering.{moved-limited}
-use Rattle.turns.proofs.Rising.{risen-still}
+use Rattle.sweeps.specs.Steps.{Limited, movesOn, between, LoweredBetween, raised, raisesOn, RaisedFrom}
+use Rattle.sweeps.proofs.Accepting.{all-accepted, point-refuses}
+use Rattle.sweeps.proofs.Between.{between-low, between-inside, between-held, between-same}
+use Rattle.sweeps.proofs.Lowering.{moved-limited}
+use Rattle.sweeps.proofs.Rising.{risen-still}
 
 -- Lists of tables that agree at the first m points are equal.
 pub values-same : (m : ℕ) (f g : ℕ → ℤ) → ((p : ℕ) → p < m → f (suc p) ≡ g (suc p)) → valuesOf m f ≡ valuesOf m g

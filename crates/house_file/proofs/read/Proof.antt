@@ -4,7 +4,7 @@ use mathlib.Core.Path.{sym, ap, _∙_}
 use borrow.Author.Needs.{needs}
 use lib.ListN.{length}
 use Rattle.shapes.specs.declared.Shape.{Shape}
-use Rattle.house_file.specs.Reading.{Read, _next_}
+use Rattle.house_numbers.specs.Reading.{Read, _next_}
 use Rattle.house_file.specs.Files.{readTable, filledWith, readFile}
 use Rattle.house_file.specs.Steps.{headIn}
 use Rattle.house_file.proofs.Answering.{head-first}

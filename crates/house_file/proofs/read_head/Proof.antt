@@ -3,9 +3,9 @@
 use mathlib.Core.Path.{_≡_, sym, ap, _∙_}
 use borrow.Author.Needs.{needs}
 use lib.ListN.{drop}
-use Rattle.house_file.specs.Reading.{got}
-use Rattle.house_file.specs.Numbers.{readNumber}
-use Rattle.house_file.specs.Steps.{numberIn}
+use Rattle.house_numbers.specs.Reading.{got}
+use Rattle.house_numbers.specs.Numbers.{readNumber}
+use Rattle.house_numbers.specs.Steps.{numberIn}
 use Rattle.house_file.proofs.Answering.{first-refused, second-refused, head-named}
 use Rattle.house_file.proofs.read_head.Statement.{statement}
 use Rattle.house_file.proofs.read_head.Tie as tie

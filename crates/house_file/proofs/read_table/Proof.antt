@@ -7,7 +7,8 @@ use borrow.Author.Needs.{needs}
 use Rattle.refusals.specs.declared.Verdict.the-variants.{Passed}
 use Rattle.house_file.specs.declared.Opened.the-variants.{Holds}
 use Rattle.house_file.specs.Files.{afterReading, filledWith}
-use Rattle.house_file.specs.Steps.{checkedRest, ratesOver}
+use Rattle.house_rates.specs.Steps.{ratesOver}
+use Rattle.house_file.specs.Steps.{checkedRest}
 use Rattle.house_file.proofs.Answering.{table-refused, table-fits, rates-checked, table-opens}
 use Rattle.house_file.proofs.read_table.Statement.{statement}
 use Rattle.house_file.proofs.read_table.Tie as tie

@@ -7,8 +7,8 @@ use lib.Dec.{leb}
 use lib.ListN.{drop}
 use lib.Seq.{getD-drop}
 use borrow.Author.Tests.{le-leb}
-use Rattle.house_file.specs.Files.{readRates}
-use Rattle.house_file.specs.Steps.{ratesRead}
+use Rattle.house_rates.specs.Rates.{readRates}
+use Rattle.house_rates.specs.Steps.{ratesRead}
 use Rattle.house_file.proofs.Lengths.{Bytes, rates-most}
 use Rattle.house_writer.proofs.Forms.{read-many, read-few}
 use Rattle.house_writer.proofs.form_has_room.Statement.{statement}

@@ -4,7 +4,7 @@ use mathlib.Core.Path.{sym}
 use Prim.Native.Nat.{_-_}
 use native.Mathlib.Omega.{arith}
 use borrow.Author.Needs.{needs}
-use Rattle.house_file.proofs.Walking.{read-here}
+use Rattle.house_rates.proofs.Walking.{read-here}
 use Rattle.house_writer.proofs.Forms.{Sized, sized-starts, sized-fits, sized-steps, sized-ends}
 use Rattle.house_writer.proofs.form_size.Statement.{statement}
 use Rattle.house_writer.proofs.form_size.Tie as tie

@@ -5,7 +5,7 @@ use Prim.Native.Nat.{_-_}
 use native.Mathlib.Omega.{arith}
 use borrow.Author.Needs.{needs}
 use Rattle.buffers.proofs.Puts.{put-length}
-use Rattle.house_file.proofs.Walking.{read-here}
+use Rattle.house_rates.proofs.Walking.{read-here}
 use Rattle.house_writer.proofs.Forms.{Formed, formed-starts, formed-room, formed-steps, formed-ends}
 use Rattle.house_writer.proofs.put_form.Statement.{statement}
 use Rattle.house_writer.proofs.put_form.Tie as tie

@@ -13,7 +13,7 @@ use mir.ValLaws.{toZ-ofZ}
 use Rattle.integers.specs.Half.{isRate}
 use Rattle.buffers.specs.Put.{Put}
 use Rattle.buffers.proofs.Puts.{put-nothing, put-length, put-as}
-use Rattle.house_file.specs.Numbers.{filed}
+use Rattle.house_numbers.specs.Numbers.{filed}
 use Rattle.house_file.specs.Written.{written, writtenRates}
 use Rattle.house_writer.proofs.Rates.{all-rates, ahead-at, taken-next, next-room, put-next}
 use Rattle.house_writer.proofs.put_rates.Statement.{statement}

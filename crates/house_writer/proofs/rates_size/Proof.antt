@@ -12,7 +12,7 @@ use mir.Syntax.{w64}
 use mir.Val.{toZ, ofZ}
 use mir.ValLaws.{toZ-ofZ}
 use Rattle.integers.specs.Half.{isRate}
-use Rattle.house_file.specs.Numbers.{filed}
+use Rattle.house_numbers.specs.Numbers.{filed}
 use Rattle.house_file.specs.Written.{written, writtenRates}
 use Rattle.house_writer.proofs.Rates.{all-rates, taken-next, size-next, size-fits}
 use Rattle.house_writer.proofs.rates_size.Statement.{statement}

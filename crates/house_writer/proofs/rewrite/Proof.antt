@@ -5,7 +5,7 @@ use native.Mathlib.Omega.{arith}
 use lib.ListN.{drop}
 use borrow.Author.Needs.{needs}
 use Rattle.shapes.specs.declared.Shape.{Shape}
-use Rattle.house_file.specs.Reading.{Read, _next_}
+use Rattle.house_numbers.specs.Reading.{Read, _next_}
 use Rattle.house_file.specs.Files.{readTable, readContents}
 use Rattle.house_file.specs.Steps.{headIn}
 use Rattle.house_file.proofs.Lengths.{head-two}

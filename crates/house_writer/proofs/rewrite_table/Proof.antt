@@ -13,8 +13,10 @@ use Rattle.refusals.specs.declared.Verdict.the-variants.{Passed}
 use Rattle.shapes.specs.Shapes.{checkShape, pointsOf}
 use Rattle.shapes.proofs.Totals.{points-small}
 use Rattle.buffers.proofs.Puts.{put-length}
-use Rattle.house_file.specs.Files.{readRates, readTable}
-use Rattle.house_file.specs.Steps.{checkedRest, ratesRead}
+use Rattle.house_rates.specs.Rates.{readRates}
+use Rattle.house_file.specs.Files.{readTable}
+use Rattle.house_rates.specs.Steps.{ratesRead}
+use Rattle.house_file.specs.Steps.{checkedRest}
 use Rattle.house_file.specs.Written.{writtenFile}
 use Rattle.house_file.proofs.Answering.{table-refused, table-fits, rates-checked, table-opens}
 use Rattle.house_writer.specs.Writing.{putFile}

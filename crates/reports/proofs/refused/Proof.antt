@@ -2,8 +2,8 @@
 -- Assumes nothing.
 use native.Mathlib.Omega.{arith}
 use borrow.Author.Needs.{needs}
-use Rattle.reports.proofs.Puts.{put-whole}
-use Rattle.reports.proofs.Listing.{refused-length}
+use Rattle.texts.proofs.Puts.{put-whole}
+use Rattle.texts.proofs.Listing.{refused-length}
 use Rattle.reports.proofs.refused.Statement.{statement}
 use Rattle.reports.proofs.refused.Tie as tie
 

@@ -5,7 +5,7 @@ use native.Mathlib.Omega.{arith}
 use Rattle.house_file.specs.declared.Opened.{Opened}
 use Rattle.house_file.specs.Files.{afterReading}
 use Rattle.buffers.proofs.Puts.{put-as}
-use Rattle.reports.proofs.Puts.{put-whole}
+use Rattle.texts.proofs.Puts.{put-whole}
 use Rattle.reports.proofs.Accepted.{held-report, refused-report, report-length}
 use borrow.Author.Needs.{needs}
 use Rattle.reports.proofs.text.Statement.{statement}

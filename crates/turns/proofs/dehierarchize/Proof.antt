@@ -14,9 +14,9 @@ use Rattle.shapes.specs.Shapes.{pointsOf}
 use Rattle.states.specs.States.{has}
 use Rattle.states.specs.declared.Answer.the-variants.{Done, Refused}
 use Rattle.states.specs.After.{after}
-use Rattle.turns.specs.Steps.{OnAxis, Limited, RaisedFrom}
+use Rattle.sweeps.specs.Steps.{OnAxis, Limited, RaisedFrom}
 use Rattle.turns.specs.Turns.{formerTable, isAccepted, checkTurn}
-use Rattle.turns.proofs.Accepting.{passed-limited}
+use Rattle.sweeps.proofs.Accepting.{passed-limited}
 use Rattle.turns.proofs.Answering.{on-axis, back-unchecked, back-not-forward, back-refused, back-done}
 use Rattle.turns.proofs.Checking.{MayTurn, place-of, turn-passed}
 use Rattle.turns.proofs.Former.{past-limit-refuses, raised-limited, given-back, stopped-refuses, end-holds, end-accepted}

@@ -14,9 +14,9 @@ use Rattle.shapes.specs.Shapes.{pointsOf}
 use Rattle.states.specs.States.{has}
 use Rattle.states.specs.declared.Answer.the-variants.{Done, Refused}
 use Rattle.states.specs.After.{after}
-use Rattle.turns.specs.Steps.{OnAxis, Limited, LoweredBetween}
+use Rattle.sweeps.specs.Steps.{OnAxis, Limited, LoweredBetween}
 use Rattle.turns.specs.Turns.{turnedTable, isAccepted, checkTurn}
-use Rattle.turns.proofs.Accepting.{passed-limited, limit-refuses}
+use Rattle.sweeps.proofs.Accepting.{passed-limited, limit-refuses}
 use Rattle.turns.proofs.Answering.{on-axis, forward-unchecked, forward-already, forward-refused, forward-done}
 use Rattle.turns.proofs.Checking.{MayTurn, place-of, turn-passed}
 use Rattle.turns.proofs.Turned.{lowered-length, turned-whole, turned-accepted, stopped-refuses, lowered-limited, given-back}

@@ -7,10 +7,10 @@ use native.Mathlib.Omega.{arith}
 use borrow.Author.Needs.{needs}
 use Rattle.refusals.specs.declared.Verdict.{Verdict}
 use Rattle.states.specs.After.{left}
-use Rattle.reports.specs.Text.{headingOf, pointLines}
+use Rattle.texts.specs.Text.{headingOf, pointLines}
 use Rattle.reports.specs.Report.{tableText}
 use Rattle.buffers.proofs.Puts.{put-then, put-as, put-length}
-use Rattle.reports.proofs.Listing.{heading-length}
+use Rattle.texts.proofs.Listing.{heading-length}
 use Rattle.reports.proofs.Texts.{counted-points, refused-text, passed-text}
 use Rattle.reports.proofs.contents.put_coefficients.Statement.{statement}
 use Rattle.reports.proofs.contents.put_coefficients.Tie as tie

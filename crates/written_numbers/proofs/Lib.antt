@@ -1,0 +1,3 @@
+pub mod FiledForm
+pub mod Sizes
+pub mod Groups
