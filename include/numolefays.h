@@ -180,8 +180,8 @@ uint32_t numolefays_run(uint32_t axes, uint32_t level, uint8_t *forward, int64_t
 
 /*
  * The estimate at a list of coordinates, one for each axis, each from 0 to 65,536 and meaning that many
- * 65,536ths: in the table's unit, 2^d times a rate, rounded down. The table is only read, and every axis must be
- * forward.
+ * 65,536ths: in the table's unit, 2^d times a rate, rounded to the nearest whole number, halves away from zero.
+ * The table is only read, and every axis must be forward.
  * Refused: 1, 2, 14, 3, 17 (the first axis that is not forward), 7, 8 (the first axis with such a coordinate),
  * 10 (a value past 2^47).
  */

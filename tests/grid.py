@@ -1,5 +1,6 @@
-"""Document 01's points, turns and estimates on fractions and unbounded whole numbers, for the scripts beside it. Nothing here is the library's: points
-are tuples of fractions in a sorted list, parents are found by adding a step to a coordinate, tables are dictionaries."""
+"""Document 01's points, turns and estimates, these rounded as in document 02, on fractions and unbounded whole numbers, for the scripts beside it. Nothing
+here is the library's: points are tuples of fractions in a sorted list, parents are found by adding a step to a coordinate, tables are dictionaries."""
+from decimal import ROUND_HALF_UP, Context, Inexact
 from fractions import Fraction
 from functools import lru_cache
 from itertools import product
@@ -133,6 +134,14 @@ def joint(point, at):
     return weight
 
 
+EXACT = Context(prec=99, traps=[Inexact])
+
+
+def nearest(total):
+    """The total in units, as a decimal number with all its places: to the nearest whole number, halves away from zero, is what they call half up."""
+    return int(EXACT.divide(total, UNIT).to_integral_value(ROUND_HALF_UP))
+
+
 def estimate(d, n, table, at):
-    """The sum over all points."""
-    return sum(c * joint(p, at) for p, c in zip(points(d, n), table)) // UNIT
+    """The sum over all points, to the nearest unit."""
+    return nearest(sum(c * joint(p, at) for p, c in zip(points(d, n), table)))

@@ -1,15 +1,17 @@
 #!/usr/bin/env python3
-"""The calls that crates/sample_calls is handed (its stdin) and what it has to print (its stdout), made without its code by document 01's rules (grid.py):
-the worked values, the edges of the types, then pseudo-random calls. `sample_calls.py FOLDER` writes both files."""
+"""The calls that crates/sample_calls is handed (its stdin) and what it has to print (its stdout), made without its code by the rules of documents 01 and 02
+(grid.py): the worked values, the edges of the types, then pseudo-random calls. `sample_calls.py FOLDER` writes both files."""
 import os
 import sys
 from bisect import bisect_right
 from fractions import Fraction
 from functools import lru_cache
 
-from grid import LEAST, LIMIT, MOST, UNIT, back, estimate, forward, key, points, position, rates_of, size, table_of_set, vectors
+from grid import LEAST, LIMIT, MOST, UNIT, back, estimate, forward, joint, key, points, position, rates_of, size, table_of_set, vectors
 
 PAST = LIMIT + 1
+# what a division leaves: nothing, a half, and one to either side of both
+LEFT = [0, 1, UNIT // 2 - 1, UNIT // 2, UNIT // 2 + 1, UNIT - 1]
 TOP = 2 ** 32 - 1
 MIN, MAX = -2 ** 63, 2 ** 63 - 1
 WIDE = 2 ** 64 - 1
@@ -267,8 +269,12 @@ def worked(sheet):
         sheet.to_rates()
         sheet.show()
         assert sheet.table == rates
-    for sign, x, value in [(1, 16384, 10), (1, 8192, 5), (1, 0, 0), (1, 1, 0), (-1, 1, -1), (1, 65536, 0), (1, 65537, "refused 8 1")]:
+    for sign, x, value in [(1, 16384, 10), (1, 8192, 5), (1, 0, 0), (1, 1, 0), (-1, 1, 0), (1, 65536, 0), (1, 65537, "refused 8 1")]:
         sheet.state(1, 1, 1, [x], (), [6 * sign, 7 * sign, 11 * sign])
+        sheet.estimate()
+        printed(str(value))
+    for coefficient, value in [(1, 1), (-1, -1), (3, 2), (-3, -2), (5, 3), (-5, -3)]:
+        sheet.state(1, 0, 1, [16384], (), [coefficient])
         sheet.estimate()
         printed(str(value))
     for coefficient, answer in [(3, "refused 10 0"), (4, "d")]:
@@ -363,6 +369,13 @@ def edges_of_estimates(sheet):
             (8, 0, 255, [256], [65535] * 8), (8, 0, 255, [-LIMIT], [32768] * 3 + [65535] + [32768] * 3 + [1])]:
         sheet.state(d, n, bits, at, (), table)
         sheet.estimate()
+    # one point of joint weight 1, so that its coefficient is the sum
+    for d, at in (2, [1, 16384]), (3, [49152, 32768, 65535]), (8, [65535] + [32768] * 6 + [16384]):
+        for whole in 0, 1, 2, LIMIT // UNIT - 1:
+            for left in LEFT:
+                for sign in 1, -1:
+                    sheet.state(d, 0, 2 ** d - 1, at, (), [sign * (whole * UNIT + left)])
+                    sheet.estimate()
 
 
 # ---- pseudo-random calls
@@ -375,7 +388,7 @@ class Drawn:
         self.x ^= self.x << 13 & WIDE
         self.x ^= self.x >> 7
         self.x ^= self.x << 17 & WIDE
-        return (self.x >> 20) % count
+        return self.x * count >> 64
 
     def of(self, *these):
         return these[self.below(len(these))]
@@ -455,6 +468,23 @@ def from_contents(draw, sheet, d, n, kind):
     sheet.show()
 
 
+def about_halves(draw, sheet, d, n):
+    """Tables of which one coefficient is set so that the sum leaves what is wanted, with an even and an odd number of whole units; each also negated."""
+    weights = []
+    while not any(w % 2 for w in weights):
+        at = [coordinate(draw) for _ in range(d)]
+        weights = [joint(p, at) for p in points(d, n)]
+    k = draw.of(*[p for p, w in enumerate(weights) if w % 2])
+    for wanted in LEFT + [UNIT + left for left in LEFT]:
+        reach = draw.of(9, LIMIT)
+        table = [draw.between(-reach, reach) for _ in weights]
+        missing = wanted - sum(c * w for p, (c, w) in enumerate(zip(table, weights)) if p != k)
+        table[k] = missing * pow(weights[k], -1, 2 * UNIT) % (2 * UNIT)
+        for sign in 1, -1:
+            sheet.state(d, n, 2 ** d - 1, at, (), [sign * c for c in table])
+            sheet.estimate()
+
+
 if __name__ == "__main__":
     sheet, draw = Sheet(), Drawn(88172645463325252)
     worked(sheet)
@@ -468,6 +498,8 @@ if __name__ == "__main__":
         for kind in "wide", "fours", "ends":
             from_contents(draw, sheet, d, n, kind)
     random_points(draw, sheet, 8, 8)
+    for d, n in [(2, 0), (2, 1), (2, 2), (3, 1), (5, 1), (8, 1)]:
+        about_halves(draw, sheet, d, n)
     for name, text in ("stdin", sheet.asked), ("stdout", sheet.printed):
         with open(os.path.join(sys.argv[1], name), "w") as out:
             out.write("".join(text))

@@ -33,7 +33,17 @@ fn summed(axes: usize, level: u32, table: &[i64], hats: impl Fn(usize, u32) -> (
             }
         }
     }
-    (total >> BITS) as i64
+    nearest(total)
+}
+
+/// The last division, by the unit, to the nearest: halves away from zero.
+pub fn nearest(total: i128) -> i64 {
+    let size = ((total.unsigned_abs() + u128::from(UNIT / 2)) >> BITS) as i64;
+    if total < 0 {
+        -size
+    } else {
+        size
+    }
 }
 
 /// Literally: each weight where it is needed.

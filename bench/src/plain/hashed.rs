@@ -1,7 +1,7 @@
 //! A grid as SG++ holds one: a hash map from the level and index on each axis to the value; turns go down the tree of each
 //! line of points, with one search for each point.
 
-use super::algorithm7::hat_of;
+use super::algorithm7::{hat_of, nearest};
 use super::grid::{vectors, Levels};
 use super::points::point;
 use std::collections::HashMap;
@@ -106,7 +106,7 @@ impl Hashed {
             }
             total += i128::from(self.map[&key]) * i128::from(joint);
         }
-        (total >> 16) as i64
+        nearest(total)
     }
 }
 

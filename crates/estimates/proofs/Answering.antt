@@ -29,7 +29,7 @@ use Rattle.states.specs.States.{checkState}
 use Rattle.states.proofs.Checked.{Stands, state-passed}
 use Rattle.evaluation.specs.Steps.{Listed, Evaluable}
 use Rattle.estimates.specs.declared.Estimated.the-variants.{Value, Refused}
-use Rattle.estimates.specs.Estimates.{checkForward, insideAt, firstOutside, checkCoordinates, estimate}
+use Rattle.estimates.specs.Estimates.{checkForward, insideAt, firstOutside, checkCoordinates, checkEstimate, estimate}
 
 -- Where no coordinate is outside, each is at most the unit.
 each-inside : (d : ℕ) (cs : List ℕ) → d ≤ firstOutside d cs → (t : ℕ) → t < d → at cs t ≤ unit
@@ -38,7 +38,7 @@ each-inside d cs le t h = leb-true (at cs t) unit (none-first (insideAt cs) d le
 
 module _ (s : State) (xs : List ℤ) (cs : List ℕ) where
   pub unchecked : (r : Refusal) → checkState s (length xs) ≡ verdict.Refused r → estimate s xs cs ≡ Refused r
-  unfolding estimate
+  unfolding estimate checkEstimate
   unchecked r e = rw e
 
   module _ (e : checkState s (length xs) ≡ verdict.Passed) where
@@ -49,17 +49,17 @@ module _ (s : State) (xs : List ℤ) (cs : List ℕ) where
     in-range = stands .range
 
     pub half-turned : (r : Refusal) → checkForward s ≡ verdict.Refused r → estimate s xs cs ≡ Refused r
-    unfolding estimate
+    unfolding estimate checkEstimate
     half-turned r f = rw (e, f)
 
     module _ (f : checkForward s ≡ verdict.Passed) where
       pub outside : (r : Refusal) → checkCoordinates (s .shape .axes) cs ≡ verdict.Refused r → estimate s xs cs ≡ Refused r
-      unfolding estimate
+      unfolding estimate checkEstimate
       outside r g = rw (e, f, g)
 
       module _ (g : checkCoordinates (s .shape .axes) cs ≡ verdict.Passed) where
         pub past-limit : all (contentAt xs) (length xs) ≡ false → estimate s xs cs ≡ Refused Contents
-        unfolding estimate
+        unfolding estimate checkEstimate
         past-limit h = rw (e, f, g, h)
 
         listed : Listed (s .shape .axes) cs
@@ -90,5 +90,5 @@ module _ (s : State) (xs : List ℤ) (cs : List ℕ) where
               }
 
           pub estimated : estimate s xs cs ≡ Value (estimateAt (s .shape) (valueAt xs) (at cs))
-          unfolding estimate
+          unfolding estimate checkEstimate
           estimated = rw (e, f, g, h)

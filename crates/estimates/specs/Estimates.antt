@@ -39,12 +39,14 @@ checkCoordinates d xs =
     unless (eqb (length xs) d) ListLength
     andThen unless (leb d (firstOutside d xs)) (Coordinate (suc (firstOutside d xs)))
 
--- The estimate: refused with 1, 2, 14, 3, 17, 7, 8, or with 10 where any value is past the content limit.
-unfoldable pub estimate : State → List ℤ → List ℕ → Estimated
-estimate s table xs =
-    answer Refused
-    (checkState s (length table)
+-- The checks of an estimate: 1, 2, 14, 3, 17, 7, 8, and 10 where any value is past the content limit.
+unfoldable pub checkEstimate : State → List ℤ → List ℕ → Verdict
+checkEstimate s table xs =
+    checkState s (length table)
     andThen checkForward s
     andThen checkCoordinates (s .shape .axes) xs
-    andThen unless (all (contentAt table) (length table)) Contents)
-    (Value (estimateAt (s .shape) (valueAt table) (at xs)))
+    andThen unless (all (contentAt table) (length table)) Contents
+
+-- The estimate, where no check refuses.
+unfoldable pub estimate : State → List ℤ → List ℕ → Estimated
+estimate s table xs = answer Refused (checkEstimate s table xs) (Value (estimateAt (s .shape) (valueAt table) (at xs)))

@@ -1,1 +1,2 @@
 pub mod Estimates
+pub mod Negated

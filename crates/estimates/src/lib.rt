@@ -34,7 +34,7 @@ fn check_coordinates(axes: u32, coordinates: &[u32]) -> Verdict
     }
     let mut t: u32 = 0;
     while t < axes {
-        if !evaluation::is_coordinate(coordinates[t as usize]) {
+        if !axis_weights::is_coordinate(coordinates[t as usize]) {
             return Verdict::Refused(Refusal::Coordinate(t + 1));
         }
         t += 1;

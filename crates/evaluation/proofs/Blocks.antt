@@ -24,8 +24,8 @@ use Rattle.surfaces.specs.Surface.{weightOn, jointAt}
 use Rattle.surfaces.proofs.Hat.{weight-high}
 use Rattle.surfaces.proofs.Joint.{joint-above, joint-cong}
 use Rattle.surfaces.proofs.Cells.{only-half}
-use Rattle.evaluation.specs.Steps.{cellOf, indexOfCell}
-use Rattle.evaluation.proofs.Weighing.{cell-inside, index-below as taken-within}
+use Rattle.axis_weights.specs.Steps.{cellOf, indexOfCell}
+use Rattle.axis_weights.proofs.Weighing.{cell-inside, index-below as taken-within}
 
 -- ---- the points of a level vector
 

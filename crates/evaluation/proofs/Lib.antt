@@ -1,5 +1,3 @@
-pub mod Weighing
-pub mod Parts
 pub mod Blocks
 pub mod Reading
 pub mod Walking

@@ -28,7 +28,7 @@ use Rattle.evaluation.specs.Steps.{Tabulated, jointOf, positionOf, Evalu
 use Rattle.evaluation.proofs.Blocks.{count-is, takenAt, taken-joint}
 use Rattle.evaluation.proofs.Reading.{position-taken, joint-taken}
 use Rattle.evaluation.proofs.Walking.{highTerm, lowTerm, weight-small, Walked, sum-low, taken-here, next-within, walked-steps}
-use Rattle.evaluation.proofs.Parts.{fits-below}
+use Rattle.wide_sums.proofs.Parts.{fits-below}
 
 module _ {s : Shape} {xs : List ℤ} {cs : List ℕ} (ev : Evaluable s xs cs) {high : ℤ} {low first sum : ℕ} {ls : List ℕ}
     (w : Walked s xs (at cs) high low first sum ls) (more : first < length xs) where

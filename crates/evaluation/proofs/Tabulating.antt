@@ -12,8 +12,9 @@ use Rattle.naturals.proofs.Cases.{eq-or-not}
 use Rattle.numbering.specs.Point.{at}
 use Rattle.surfaces.specs.Weights.{weight}
 use Rattle.surfaces.proofs.Cells.{weight-le}
-use Rattle.evaluation.specs.Steps.{cellOf, indexOfCell, entry, Tabulated, Bounded}
-use Rattle.evaluation.proofs.Weighing.{cell-below}
+use Rattle.axis_weights.specs.Steps.{cellOf, indexOfCell}
+use Rattle.evaluation.specs.Steps.{entry, Tabulated, Bounded}
+use Rattle.axis_weights.proofs.Weighing.{cell-below}
 
 pub record Tabulating (x : ℕ → ℕ) (d : ℕ) (ws cells : List ℕ) (k t level : ℕ) : Type 0 where
   pub within : k ≤ 9 * d

@@ -4,7 +4,7 @@
 use mathlib.Core.Bool.{Bool, true}
 use mathlib.Core.List.{List}
 use mathlib.Core.Path.{_≡_, refl, ap, ap₂, sym, _∙_}
-use Prim.Native.Nat.{ℕ, zero, suc, _+_, _-_, _*_, _/_, _^_, _≤_, _<_}
+use Prim.Native.Nat.{ℕ, zero, suc, _+_, _-_, _*_, _^_, _≤_, _<_}
 use native.Mathlib.Nat.{mul-comm, mul-zero, mul-le-mul-right, suc-mul}
 use native.Mathlib.Omega.{arith}
 use lib.Dec.{leb}
@@ -20,7 +20,7 @@ use Rattle.naturals.proofs.Tests.{all-at}
 use Rattle.integers.specs.Floor.{floor, remainder}
 use Rattle.integers.specs.Half.{inLimit}
 use Rattle.integers.specs.Total.{total}
-use Rattle.integers.proofs.Floors.{floor-remainder, floor-plus}
+use Rattle.integers.proofs.Floors.{floor-remainder}
 use Rattle.integers.proofs.Linear.{leaf, _⊕_, equal}
 use Rattle.integers.proofs.Products.{times-times, plus-times}
 use Rattle.integers.proofs.Sizes.{sum-size}
@@ -39,13 +39,13 @@ use Rattle.shapes.proofs.Totals.{start-zero}
 use Rattle.grids.specs.Grids.{levelOn, indexOn}
 use Rattle.interpolation.specs.Weighted.{weighted, weightedSum}
 use Rattle.surfaces.specs.Weights.{unit}
-use Rattle.surfaces.specs.Surface.{weightOn, jointAt, rounded, estimateAt}
+use Rattle.surfaces.specs.Surface.{weightOn, jointAt, jointSum, rounded, estimateAt}
 use Rattle.surfaces.proofs.Cells.{weight-le}
 use Rattle.surfaces.proofs.Joint.{joint-le}
 use Rattle.surfaces.proofs.Unit.{unit-pos}
 use Rattle.vectors.specs.Steps.{VectorIn, vectorsBefore, NextVector}
 use Rattle.evaluation.proofs.Blocks.{count-is, block-within, takenAt, taken-below, block-zero}
-use Rattle.evaluation.proofs.Parts.{high-size, low-size}
+use Rattle.wide_sums.proofs.Parts.{high-size, low-size}
 
 -- ---- how many level vectors there are
 
@@ -123,11 +123,9 @@ module _ (s : Shape) (xs : List ℤ) (x : ℕ → ℕ) where
       (sym (plus-times (total highTerm m) (highTerm m) unit) ∙ ap (λ (z : ℤ). z *ℤ pos unit) (sym (total-suc highTerm m)))
       (sym (sumTo-suc lowTerm m))
 
-  parts-joined : total highTerm (pointsOf s) +ℤ pos (sumTo lowTerm (pointsOf s) / unit) ≡ estimateAt s (valueAt xs) x
-  unfolding estimateAt rounded weightedSum
-  parts-joined =
-      sym (ap (floor unit) (whole-sum (pointsOf s))
-      ∙ floor-plus unit (total highTerm (pointsOf s)) (sumTo lowTerm (pointsOf s)) unit-pos)
+  parts-joined : rounded (total highTerm (pointsOf s) *ℤ pos unit +ℤ pos (sumTo lowTerm (pointsOf s))) ≡ estimateAt s (valueAt xs) x
+  unfolding estimateAt jointSum weightedSum
+  parts-joined = sym (ap rounded (whole-sum (pointsOf s)))
 
 -- ---- the walk
 
@@ -269,9 +267,9 @@ module _ {s : Shape} {xs : List ℤ} {x : ℕ → ℕ} {high : ℤ} {low first s
 
 -- Past the last point both sums are over all points.
 pub walked-ends : {s : Shape} {xs : List ℤ} {x : ℕ → ℕ} {high : ℤ} {low first sum : ℕ} {ls : List ℕ} → Walked s xs x high low first sum ls →
-    pointsOf s ≤ first → high +ℤ pos (low / unit) ≡ estimateAt s (valueAt xs) x
+    pointsOf s ≤ first → rounded (high *ℤ pos unit +ℤ pos low) ≡ estimateAt s (valueAt xs) x
 walked-ends {s} {xs} {x} {high} {low} {first} w h =
     let all-points : first ≡ pointsOf s = omega (arith, w .within) in
-    ap₂ (λ (z : ℤ) (k : ℕ). z +ℤ pos (k / unit)) (w .highs) (w .lows)
-    ∙ ap (λ (m : ℕ). total (highTerm s xs x) m +ℤ pos (sumTo (lowTerm s xs x) m / unit)) all-points
+    ap₂ (λ (z : ℤ) (k : ℕ). rounded (z *ℤ pos unit +ℤ pos k)) (w .highs) (w .lows)
+    ∙ ap (λ (m : ℕ). rounded (total (highTerm s xs x) m *ℤ pos unit +ℤ pos (sumTo (lowTerm s xs x) m))) all-points
     ∙ parts-joined s xs x

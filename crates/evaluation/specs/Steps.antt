@@ -3,27 +3,17 @@
 use mathlib.Core.Bool.{true}
 use mathlib.Core.List.{List}
 use mathlib.Core.Path.{_≡_}
-use Prim.Native.Nat.{ℕ, suc, _+_, _*_, _/_, _^_, _≤_, _<_}
-use lib.Dec.{ltb}
+use Prim.Native.Nat.{ℕ, suc, _+_, _*_, _^_, _≤_, _<_}
 use lib.IntN.{ℤ}
 use lib.ListN.{length}
 use Rattle.naturals.specs.Sum.{sumTo}
-use Rattle.naturals.specs.Test.{if_then_else_}
 use Rattle.integers.specs.Half.{inLimit}
 use Rattle.numbering.specs.Point.{at}
 use Rattle.hierarchy.specs.Turns.{valueAt}
 use Rattle.shapes.specs.declared.Shape.{Shape}
 use Rattle.shapes.specs.Shapes.{pointsOf}
 use Rattle.surfaces.specs.Weights.{unit, weight, joint}
-
--- On one axis, the cell of level l in which x lies, counted from 0. The point in the middle of it alone can have a weight above 0 at x. At the unit itself no
--- point has, and 0 stands for the cell.
-unfoldable pub cellOf : ℕ → ℕ → ℕ
-cellOf x l = if ltb x unit then x * 2 ^ l / unit else 0
-
--- The index of the point in the middle of a cell.
-abbrev pub indexOfCell : ℕ → ℕ
-indexOfCell cell = 2 * cell + 1
+use Rattle.axis_weights.specs.Steps.{cellOf, indexOfCell}
 
 -- Axis t and level l in a table of nine levels for each axis.
 abbrev pub entry : ℕ → ℕ → ℕ

@@ -1,11 +1,11 @@
 -- Tables as lists and as functions: the list of a table's values holds them again, and a list is the list of its values.
 -- Assumes nothing.
 use mathlib.Core.Path.{_≡_, refl, ap, sym, _∙_, fun-ext}
-use mathlib.Core.List.{List, [], _∷_, _++_}
+use mathlib.Core.List.{List, [], _∷_, _++_, map}
 use Prim.Native.Nat.{ℕ, zero, suc, _<_}
 use native.Mathlib.Omega.{arith}
 use lib.IntN.{ℤ, pos}
-use lib.ListN.{length, getD, length-append, List·getD-append, List·getD-eq-default}
+use lib.ListN.{length, getD, length-append, List·getD-append, List·getD-eq-default, List·getD-map}
 use lib.Seq.{ext-getD, getD-append-seam}
 use Rattle.naturals.proofs.Cases.{le-or-lt}
 use Rattle.hierarchy.specs.Turns.{valueAt, valuesOf}
@@ -22,6 +22,12 @@ pub value-past : (xs : List ℤ) (p : ℕ) → length xs < p → valueAt xs p �
 unfolding valueAt
 value-past xs zero h = refl
 value-past xs (suc p) h = List·getD-eq-default xs (pos 0) (omega arith)
+
+-- What stands at a place after a step by which 0 stays 0.
+pub value-mapped : (g : ℤ → ℤ) (xs : List ℤ) → g (pos 0) ≡ pos 0 → (p : ℕ) → valueAt (map g xs) p ≡ g (valueAt xs p)
+unfolding valueAt
+value-mapped g xs z zero = sym z
+value-mapped g xs z (suc p) = ap (getD (map g xs) p) (sym z) ∙ List·getD-map g xs p (pos 0)
 
 pub values-length : (m : ℕ) (f : ℕ → ℤ) → length (valuesOf m f) ≡ m
 unfolding valuesOf

@@ -22,7 +22,7 @@ remainder-lt m (pos n) h = mod-lt n h
 remainder-lt m (negsuc n) h = omega arith
 
 -- b above a number that lies a below zero, with b < a.
-still-below : (a b n : ℕ) → a ≡ suc (n + b) → negℤ (pos a) +ℤ pos b ≡ negsuc n
+pub still-below : (a b n : ℕ) → a ≡ suc (n + b) → negℤ (pos a) +ℤ pos b ≡ negsuc n
 still-below a b n e = rw e (rw (lt-ltb b (suc (n + b)) (omega arith)) (ap negsuc (omega arith)))
 
 pub floor-remainder : (m : ℕ) (z : ℤ) → 0 < m → floor m z *ℤ pos m +ℤ pos (remainder m z) ≡ z
@@ -39,11 +39,9 @@ floor-unique m (negsuc k) r h =
     ap (floor m) (still-below (suc k * m) r (k * m + s) (omega (arith, suc-mul k m)))
     ∙ ap negsuc (omega (arith, mul-add-div-right {m = m} (omega arith) k s, div-eq-of-lt {n = s} {m = m} (omega arith)))
 
--- A multiple of the divisor goes through.
-pub floor-plus : (m : ℕ) (a : ℤ) (b : ℕ) → 0 < m → floor m (a *ℤ pos m +ℤ pos b) ≡ a +ℤ pos (b / m)
-floor-plus m a b h =
-    ap (floor m)
-    (ap (λ (n : ℕ). a *ℤ pos m +ℤ pos n) (sym (div-add-mod' b m))
+-- What is above a multiple of the divisor, by its own quotient and remainder.
+pub carried : (m : ℕ) (a : ℤ) (b : ℕ) → a *ℤ pos m +ℤ pos b ≡ (a +ℤ pos (b / m)) *ℤ pos m +ℤ pos (b % m)
+carried m a b =
+    ap (λ (n : ℕ). a *ℤ pos m +ℤ pos n) (sym (div-add-mod' b m))
     ∙ sym (+ℤ-assoc (a *ℤ pos m) (pos (b / m * m)) (pos (b % m)))
-    ∙ ap (λ (z : ℤ). z +ℤ pos (b % m)) (sym (plus-times a (pos (b / m)) m)))
-    ∙ floor-unique m (a +ℤ pos (b / m)) (b % m) (mod-lt b h)
+    ∙ ap (λ (z : ℤ). z +ℤ pos (b % m)) (sym (plus-times a (pos (b / m)) m))

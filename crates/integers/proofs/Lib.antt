@@ -4,3 +4,4 @@ pub mod Sizes
 pub mod Products
 pub mod Totals
 pub mod Floors
+pub mod Nearest

@@ -3,9 +3,9 @@
 -- Assumes nothing.
 use mathlib.Core.Path.{_≡_, refl, ap}
 use mathlib.Core.Bool.{Bool, true, false}
-use Prim.Native.Nat.{ℕ, zero, suc, _+_, _≤_}
+use Prim.Native.Nat.{ℕ, zero, suc, _+_, _-_, _≤_}
 use native.Mathlib.Omega.{arith}
-use lib.IntN.{ℤ, pos, negsuc, negℤ, natAbs, subℕ, _+ℤ_}
+use lib.IntN.{ℤ, pos, negsuc, negℤ, natAbs, subℕ, _+ℤ_, _-ℤ_}
 use borrow.Author.Tests.{lt-ltb, le-ltb}
 use Rattle.naturals.proofs.Cases.{le-or-lt}
 
@@ -99,3 +99,13 @@ size-between (negsuc n) a b h = omega arith
 
 pub size-of : (e : Expr) → natAbs (value e) ≤ side true e + side false e
 size-of e = size-between (value e) (side true e) (side false e) (parts e)
+
+size-apart : (z : ℤ) (a b : ℕ) → part true z + b ≡ part false z + a → natAbs z ≡ (a - b) + (b - a)
+unfolding part
+size-apart (pos n) a b h = omega arith
+size-apart (negsuc n) a b h = omega arith
+
+-- How far apart two natural numbers are.
+pub difference : (a b : ℕ) → natAbs (pos a -ℤ pos b) ≡ (a - b) + (b - a)
+unfolding part
+difference a b = size-apart (pos a -ℤ pos b) a b (omega (arith, parts (leaf (pos a) ⊕ ⊖ leaf (pos b))))

@@ -44,9 +44,21 @@ pub size-neg : (k : ℕ) → natAbs (negℤ (pos k)) ≡ k
 size-neg zero = refl
 size-neg (suc k) = refl
 
+pub size-negated : (z : ℤ) → natAbs (negℤ z) ≡ natAbs z
+size-negated (pos k) = size-neg k
+size-negated (negsuc k) = refl
+
 pub size-times : (z : ℤ) (n : ℕ) → natAbs (z *ℤ pos n) ≡ natAbs z * n
 size-times (pos m) n = refl
 size-times (negsuc m) n = size-neg (suc m * n)
+
+-- Numbers with no difference are the same.
+pub no-difference : (x y : ℤ) → natAbs (x -ℤ y) ≡ 0 → x ≡ y
+no-difference x y e = sym (-ℤ-+ℤ-cancel x y) ∙ ap (λ (z : ℤ). z +ℤ y) (only-zero (x -ℤ y) e) ∙ +ℤ-idl y
+  where
+    only-zero : (z : ℤ) → natAbs z ≡ 0 → z ≡ pos 0
+    only-zero (pos k) none = ap pos none
+    only-zero (negsuc k) none = absurd (omega arith)
 
 -- A factor above 0 cancels.
 pub times-cancel : (x y : ℤ) (n : ℕ) → 0 < n → x *ℤ pos n ≡ y *ℤ pos n → x ≡ y
@@ -55,11 +67,6 @@ times-cancel x y n h e =
     plus-times x (negℤ y) n
     ∙ ap₂ _+ℤ_ e (neg-times y n)
     ∙ +ℤ-invr (y *ℤ pos n) in
-    let no-size : natAbs (x -ℤ y) ≡ 0 =
-    eq-of-mul-eq-mul-right n h (natAbs (x -ℤ y)) 0
-    (sym (size-times (x -ℤ y) n) ∙ ap natAbs zero-times ∙ sym (zero-mul n)) in
-    sym (-ℤ-+ℤ-cancel x y) ∙ ap (λ (z : ℤ). z +ℤ y) (only-zero (x -ℤ y) no-size) ∙ +ℤ-idl y
-  where
-    only-zero : (z : ℤ) → natAbs z ≡ 0 → z ≡ pos 0
-    only-zero (pos k) e = ap pos e
-    only-zero (negsuc k) e = absurd (omega arith)
+    no-difference x y
+    (eq-of-mul-eq-mul-right n h (natAbs (x -ℤ y)) 0
+    (sym (size-times (x -ℤ y) n) ∙ ap natAbs zero-times ∙ sym (zero-mul n)))

@@ -4,7 +4,7 @@ use mathlib.Core.Path.{_≡_, refl, ap, ap₂, sym, _∙_}
 use Prim.Native.Nat.{ℕ, zero, suc, _+_, _<_}
 use native.Mathlib.Nat.{zero-add, add-zero, add-suc}
 use native.Mathlib.Omega.{arith}
-use lib.IntN.{ℤ, pos, _+ℤ_, _*ℤ_, +ℤ-idl, +ℤ-idr, zero-*ℤ}
+use lib.IntN.{ℤ, pos, negℤ, _+ℤ_, _*ℤ_, +ℤ-idl, +ℤ-idr, negℤ-+ℤ, zero-*ℤ}
 use Rattle.naturals.proofs.Cases.{eq-or-not}
 use Rattle.integers.specs.Total.{total}
 use Rattle.integers.proofs.Linear.{leaf, _⊕_, equal}
@@ -50,6 +50,14 @@ total-times f k (suc m) =
     ∙ ap (λ (z : ℤ). z +ℤ f m *ℤ pos k) (total-times f k m)
     ∙ sym (plus-times (total f m) (f m) k)
     ∙ ap (λ (z : ℤ). z *ℤ pos k) (sym (total-suc f m))
+
+pub total-negated : (f : ℕ → ℤ) (m : ℕ) → total (λ p. negℤ (f p)) m ≡ negℤ (total f m)
+total-negated f zero = total-zero (λ p. negℤ (f p)) ∙ sym (ap negℤ (total-zero f))
+total-negated f (suc m) =
+    total-suc (λ p. negℤ (f p)) m
+    ∙ ap (λ (z : ℤ). z +ℤ negℤ (f m)) (total-negated f m)
+    ∙ sym (negℤ-+ℤ (total f m) (f m))
+    ∙ ap negℤ (sym (total-suc f m))
 
 -- A total of which one term of the last b is left.
 total-none-past : (f : ℕ → ℤ) (a b : ℕ) → ((j : ℕ) → j < b → f (a + j) ≡ pos 0) → total f (a + b) ≡ total f a

@@ -1,3 +1,4 @@
 pub mod Half
 pub mod Total
 pub mod Floor
+pub mod Nearest

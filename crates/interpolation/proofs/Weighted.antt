@@ -1,11 +1,11 @@
--- Sums over points of coefficient times weight are linear in the weights, and with one weight that is not 0 one term is left: the laws of finite sums,
--- term by term.
+-- Sums over points of coefficient times weight are linear in the weights and odd in the coefficients, and with one weight that is not 0 one term is left:
+-- the laws of finite sums, term by term.
 -- Assumes nothing.
 use mathlib.Core.Path.{_≡_, ap, _∙_}
 use Prim.Native.Nat.{ℕ, suc, _+_, _*_, _<_}
-use lib.IntN.{ℤ, pos, _+ℤ_, _*ℤ_, *ℤ-zero}
-use Rattle.integers.proofs.Products.{times-plus, times-times}
-use Rattle.integers.proofs.Totals.{total-cong, total-none, total-plus, total-times, total-one}
+use lib.IntN.{ℤ, pos, negℤ, _+ℤ_, _*ℤ_, *ℤ-zero}
+use Rattle.integers.proofs.Products.{times-plus, times-times, neg-times}
+use Rattle.integers.proofs.Totals.{total-cong, total-none, total-plus, total-times, total-negated, total-one}
 use Rattle.interpolation.specs.Weighted.{weighted, weightedSum}
 
 module _ (m : ℕ) (c : ℕ → ℤ) where
@@ -31,6 +31,13 @@ module _ (m : ℕ) (c : ℕ → ℤ) where
   weightedSum-times w k =
       total-cong (weighted c (λ p. w p * k)) (λ p. weighted c w p *ℤ pos k) m (λ p h. times-times (c (suc p)) (w p) k)
       ∙ total-times (weighted c w) k m
+
+  -- It is odd in the coefficients.
+  pub weightedSum-negated : (w : ℕ → ℕ) → weightedSum m (λ p. negℤ (c p)) w ≡ negℤ (weightedSum m c w)
+  unfolding weightedSum weighted
+  weightedSum-negated w =
+      total-cong (weighted (λ p. negℤ (c p)) w) (λ p. negℤ (weighted c w p)) m (λ p h. neg-times (c (suc p)) (w p))
+      ∙ total-negated (weighted c w) m
 
   -- One weight that is not 0.
   pub weightedSum-one : (w : ℕ → ℕ) (q : ℕ) → q < m → ((p : ℕ) → p < m → (p ≡ q → ⊥) → w p ≡ 0) →

@@ -6,16 +6,15 @@ use Prim.Native.Nat.{ℕ, _+_, _^_, _≤_, _<_}
 use lib.IntN.{ℤ, pos, _*ℤ_}
 use Rattle.shapes.specs.declared.Shape.{Shape}
 use Rattle.shapes.specs.Shapes.{pointsOf}
-use Rattle.interpolation.specs.Weighted.{weightedSum}
 use Rattle.interpolation.proofs.Weighted.{weightedSum-cong, weightedSum-times}
 use Rattle.surfaces.specs.Weights.{unit}
-use Rattle.surfaces.specs.Surface.{coordinatesOf, productAt, jointAt, surface}
+use Rattle.surfaces.specs.Surface.{coordinatesOf, productAt, jointAt, jointSum, surface}
 use Rattle.surfaces.proofs.Unit.{unitBits}
 use Rattle.surfaces.proofs.GridPoints.{joint-exact}
 
 pub weighted-exact : (s : Shape) → s .level + s .axes ≤ unitBits → (c : ℕ → ℤ) (q : ℕ) → q < pointsOf s →
-    weightedSum (pointsOf s) c (jointAt s (coordinatesOf s q)) *ℤ pos (unit ^ (s .axes)) ≡ surface s c (coordinatesOf s q) *ℤ pos unit
-unfolding surface
+    jointSum s c (coordinatesOf s q) *ℤ pos (unit ^ (s .axes)) ≡ surface s c (coordinatesOf s q) *ℤ pos unit
+unfolding surface jointSum
 weighted-exact s few c q q-in =
     let x : ℕ → ℕ = coordinatesOf s q in
     sym (weightedSum-times (pointsOf s) c (jointAt s x) (unit ^ (s .axes)))

@@ -6,14 +6,12 @@ use mathlib.Core.Bool.{Bool, true, false}
 use Prim.Native.Nat.{ℕ, zero, suc, _+_, _*_, _^_, _≤_, _<_}
 use native.Mathlib.Nat.{pow-zero, pow-suc, one-le-pow, mul-comm}
 use native.Mathlib.Omega.{arith}
-use lib.IntN.{ℤ, pos, _*ℤ_, +ℤ-idr}
+use lib.IntN.{ℤ, pos, _*ℤ_}
 use borrow.Author.Tests.{eq-eqb, ne-eqb}
 use Rattle.naturals.specs.Test.{if_then_else_, all}
 use Rattle.naturals.proofs.Cases.{eq-or-not}
 use Rattle.integers.specs.Half.{isEven}
-use Rattle.integers.specs.Floor.{floor}
 use Rattle.integers.proofs.Products.{times-times, times-cancel}
-use Rattle.integers.proofs.Floors.{floor-unique}
 use Rattle.hierarchy.specs.Turns.{sumOn, forward}
 use Rattle.hierarchy.specs.Sets.{tableOf, everyAxis, noAxis}
 use Rattle.hierarchy.specs.Work.{put}
@@ -30,11 +28,12 @@ use Rattle.interpolation.proofs.Weighted.{weightedSum-cong}
 use Rattle.interpolation.proofs.Partly.{prodTo-indicator, factor, factors}
 use Rattle.interpolation.proofs.Through.{others, others-in, others-out, passes-through, only-coefficients, line-sums}
 use Rattle.surfaces.specs.Weights.{unit}
-use Rattle.surfaces.specs.Surface.{coordinatesOf, weightOn, productAt, jointAt, surface, rounded, estimateAt}
+use Rattle.surfaces.specs.Surface.{coordinatesOf, weightOn, productAt, jointSum, surface, rounded, estimateAt}
 use Rattle.surfaces.specs.Lines.{sameBeside, onLine, lineWeight, lineSum}
 use Rattle.surfaces.proofs.Unit.{unitBits, unit-pos}
 use Rattle.surfaces.proofs.Instance.{gridWeight, gridSame, hats}
 use Rattle.surfaces.proofs.Exact.{weighted-exact}
+use Rattle.surfaces.proofs.Rounding.{rounded-whole}
 
 -- Twice a number to the d.
 double-pow : (u d : ℕ) → (u + u) ^ d ≡ 2 ^ d * u ^ d
@@ -87,14 +86,13 @@ module _ (s : Shape) where
   pub estimate-through : 1 ≤ s .axes → s .level + s .axes ≤ unitBits → (c r : ℕ → ℤ) → r 0 ≡ pos 0 →
       ((q : ℕ) → q < pointsOf s → c (suc q) ≡ tableOf (neighbour s) (s .axes) everyAxis r (suc q)) →
       (q : ℕ) → q < pointsOf s → estimateAt s c (coordinatesOf s q) ≡ r (suc q) *ℤ pos (2 ^ (s .axes))
-  unfolding estimateAt rounded
+  unfolding estimateAt
   estimate-through dim few c r z coefficients q point =
-      ap (floor unit) (sum-is ∙ sym (+ℤ-idr (r (suc q) *ℤ pos (2 ^ (s .axes)) *ℤ pos unit)))
-      ∙ floor-unique unit (r (suc q) *ℤ pos (2 ^ (s .axes))) 0 unit-pos
+      ap rounded sum-is ∙ rounded-whole (r (suc q) *ℤ pos (2 ^ (s .axes)))
     where
-      sum-is : weightedSum (pointsOf s) c (jointAt s (coordinatesOf s q)) ≡ r (suc q) *ℤ pos (2 ^ (s .axes)) *ℤ pos unit
+      sum-is : jointSum s c (coordinatesOf s q) ≡ r (suc q) *ℤ pos (2 ^ (s .axes)) *ℤ pos unit
       sum-is =
-          times-cancel (weightedSum (pointsOf s) c (jointAt s (coordinatesOf s q))) (r (suc q) *ℤ pos (2 ^ (s .axes)) *ℤ pos unit) (unit ^ (s .axes))
+          times-cancel (jointSum s c (coordinatesOf s q)) (r (suc q) *ℤ pos (2 ^ (s .axes)) *ℤ pos unit) (unit ^ (s .axes))
           (one-le-pow (s .axes) unit unit-pos)
           (weighted-exact s few c q point
           ∙ ap (λ (v : ℤ). v *ℤ pos unit) (surface-through dim (omega arith) c r z coefficients q point)

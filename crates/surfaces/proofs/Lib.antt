@@ -5,4 +5,5 @@ pub mod Joint
 pub mod GridPoints
 pub mod Exact
 pub mod Cells
+pub mod Rounding
 pub mod Interpolates

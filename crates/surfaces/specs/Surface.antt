@@ -5,7 +5,7 @@ use mathlib.Core.Path.{_≡_}
 use Prim.Native.Nat.{ℕ, _^_}
 use lib.IntN.{ℤ, pos, _*ℤ_}
 use Rattle.naturals.specs.Sum.{prodTo}
-use Rattle.integers.specs.Floor.{floor}
+use Rattle.integers.specs.Nearest.{nearest}
 use Rattle.shapes.specs.declared.Shape.{Shape}
 use Rattle.shapes.specs.Shapes.{pointsOf}
 use Rattle.grids.specs.Grids.{levelOn, indexOn}
@@ -32,6 +32,10 @@ module _ (s : Shape) where
   unfoldable pub surface : (ℕ → ℤ) → (ℕ → ℕ) → ℤ
   surface c x = weightedSum (pointsOf s) c (productAt x)
 
+  -- The sum over all points of coefficient times joint weight, which an estimate divides.
+  unfoldable pub jointSum : (ℕ → ℤ) → (ℕ → ℕ) → ℤ
+  jointSum c x = weightedSum (pointsOf s) c (jointAt x)
+
 -- A fraction of two whole numbers.
 pub record Fraction : Type 0 where
   pub numerator : ℤ
@@ -45,10 +49,10 @@ Exactly f z = f .numerator ≡ z *ℤ pos (f .denominator)
 abbrev pub exactValue : Shape → (ℕ → ℤ) → (ℕ → ℕ) → Fraction
 exactValue s c x = record { numerator = surface s c x; denominator = unit ^ (s .axes) }
 
--- The last division of an estimate, by the unit, rounded down, also below zero.
+-- The last division of an estimate: by the unit, to the nearest whole number, halves away from zero (document 02, b).
 unfoldable pub rounded : ℤ → ℤ
-rounded z = floor unit z
+rounded z = nearest unit z
 
 -- The estimate at the coordinates x: the sum over all points of coefficient times joint weight, divided once.
 unfoldable pub estimateAt : Shape → (ℕ → ℤ) → (ℕ → ℕ) → ℤ
-estimateAt s c x = rounded (weightedSum (pointsOf s) c (jointAt s x))
+estimateAt s c x = rounded (jointSum s c x)

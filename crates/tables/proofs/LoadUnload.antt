@@ -8,7 +8,7 @@ use mathlib.Core.List.{List, [], _∷_, map}
 use Prim.Native.Nat.{ℕ, suc, _%_, _^_, _<_}
 use native.Mathlib.Omega.{arith}
 use lib.IntN.{ℤ, pos, natAbs}
-use lib.ListN.{length, getD, length-map, List·getD-map}
+use lib.ListN.{length, getD, length-map}
 use lib.Pow.{pow-pos}
 use Rattle.naturals.specs.Test.{all}
 use Rattle.naturals.proofs.Tests.{all-at, all-from}
@@ -21,7 +21,7 @@ use Rattle.refusals.specs.Checks.{unless, _andThen_, answer}
 use Rattle.refusals.proofs.Passing.{first-passed, next-passed, test-passed}
 use Rattle.integers.specs.Half.{isRate}
 use Rattle.hierarchy.specs.Turns.{valueAt}
-use Rattle.hierarchy.proofs.Values.{value-suc}
+use Rattle.hierarchy.proofs.Values.{value-mapped, value-suc}
 use Rattle.shapes.specs.declared.Shape.{Shape}
 use Rattle.states.specs.declared.State.{State}
 use Rattle.states.specs.declared.Answer.the-variants.{Done, Refused}
@@ -35,14 +35,6 @@ use Rattle.tables.proofs.Checking.{Opens, rated-pass, rated-opens, rate
 use Rattle.tables.proofs.Quotients.{quotient-times, times-quotient, times-zero, quotient-zero, scaled-parts, is-scaled-rate}
 
 -- ---- lists
-
--- What stands at a place after a step that leaves nothing nothing.
-value-mapped : (g : ℤ → ℤ) (xs : List ℤ) (p : ℕ) → g (pos 0) ≡ pos 0 → valueAt (map g xs) (suc p) ≡ g (valueAt xs (suc p))
-value-mapped g xs p z =
-    value-suc (map g xs) p
-    ∙ ap (getD (map g xs) p) (sym z)
-    ∙ List·getD-map g xs p (pos 0)
-    ∙ ap g (sym (value-suc xs p))
 
 -- One step undoes another where it does so at each value.
 map-back : (f g : ℤ → ℤ) (xs : List ℤ) → ((p : ℕ) → p < length xs → f (g (getD xs p (pos 0))) ≡ getD xs p (pos 0)) → map f (map g xs) ≡ xs
@@ -73,7 +65,7 @@ module _ (s : Shape) (xs : List ℤ) (opens : Opens s xs) (rates : Passes (rateA
   all-scaled =
       all-from (scaledAt (s .axes) scaled) (length scaled)
       (λ p h.
-      ap (isScaled (s .axes)) (value-mapped (times (s .axes)) xs p (times-zero (s .axes)))
+      ap (isScaled (s .axes)) (value-mapped (times (s .axes)) xs (times-zero (s .axes)) (suc p))
       ∙ is-scaled-rate (s .axes) (valueAt xs (suc p)) (rates p (omega (arith, length-map xs (times (s .axes))))))
 
   unload-loaded : unload loaded scaled ≡ left Passed xs
@@ -144,7 +136,7 @@ module _ (st : State) (xs : List ℤ) where
     rates : Passes (rateAt (map (quotient (st .shape .axes)) xs)) (length (map (quotient (st .shape .axes)) xs))
     unfolding rateAt
     rates p h =
-        ap isRate (value-mapped (quotient (st .shape .axes)) xs p (quotient-zero (st .shape .axes)))
+        ap isRate (value-mapped (quotient (st .shape .axes)) xs (quotient-zero (st .shape .axes)) (suc p))
         ∙ value-parts p (omega (arith, length-map xs (quotient (st .shape .axes)))) .1
 
     back : map (times (st .shape .axes)) (map (quotient (st .shape .axes)) xs) ≡ xs

@@ -1,4 +1,5 @@
--- The starred lines of document 01, "Worked tables": a sort of example for each sort of line, what it says, and the list of them.
+-- The starred lines of document 01, "Worked tables", with the cases of document 02, b): a sort of example for each sort of line, what it says, and the
+-- list of them.
 -- Assumes nothing.
 use mathlib.Core.Path.{_≡_}
 use mathlib.Core.List.{List, [], _∷_, map}
@@ -55,5 +56,7 @@ examples =
     ∷ estimate (sparse 1 1) (pos 6 ∷ pos 7 ∷ pos 11 ∷ []) (8192 ∷ []) (pos 5)
     ∷ estimate (sparse 1 1) (pos 6 ∷ pos 7 ∷ pos 11 ∷ []) (0 ∷ []) (pos 0)
     ∷ estimate (sparse 1 1) (pos 6 ∷ pos 7 ∷ pos 11 ∷ []) (1 ∷ []) (pos 0)
-    ∷ estimate (sparse 1 1) (negsuc 5 ∷ negsuc 6 ∷ negsuc 10 ∷ []) (1 ∷ []) (negsuc 0)
+    ∷ estimate (sparse 1 1) (negsuc 5 ∷ negsuc 6 ∷ negsuc 10 ∷ []) (1 ∷ []) (pos 0)
+    ∷ estimate (sparse 1 0) (pos 1 ∷ []) (16384 ∷ []) (pos 1)
+    ∷ estimate (sparse 1 0) (negsuc 0 ∷ []) (16384 ∷ []) (negsuc 0)
     ∷ []

@@ -2,7 +2,7 @@
 //!
 //! `NUMOLEFAYS_SEED` and `NUMOLEFAYS_COUNT` set the seed and the number of rounds; a round is one random input to every
 //! call. `NUMOLEFAYS_LARGE=0` leaves out the large tables, as for a run under valgrind. The last line has the counts; the
-//! exit code is 1 where anything differs.
+//! exit code is 1 where anything differs, and where an answer was not met or a wrong reading would not be seen.
 
 mod checks;
 mod draw;
@@ -11,7 +11,10 @@ mod lent;
 mod model;
 mod report;
 
-use checks::{edges, estimates, exhaustive, files, points, rates, runs, threads, turns, walks, worked, writes};
+use checks::{
+    edges, estimates, exhaustive, files, misreadings, points, rates, rounding, runs, threads, turns, walks, worked,
+    writes,
+};
 use draw::Draw;
 use report::Report;
 use std::time::Instant;
@@ -75,6 +78,9 @@ fn main() {
     edges::of_file_shapes(&mut draw, &mut report);
     step(&clock, "each call at its edges");
 
+    rounding::rounding(&mut Draw::new(seed ^ 0x6861_6c76_6573), &mut report);
+    step(&clock, "estimates on halves and beside them");
+
     exhaustive::states(&mut draw, &mut report);
     exhaustive::lengths(&mut draw, &mut report);
     exhaustive::line(&mut draw, &mut report);
@@ -120,7 +126,7 @@ fn main() {
     step(&clock, "threads");
 
     report.print();
-    let mut met = true;
+    let mut met = misreadings_shown(&report);
     if count >= COUNT {
         for (call, numbers) in ANSWERS {
             let missing = report.never_met(call, numbers);
@@ -136,6 +142,21 @@ fn main() {
 
 fn step(clock: &Instant, what: &str) {
     println!("{:7.1} s  {what}", clock.elapsed().as_secs_f64());
+}
+
+/// How many calls show each wrong reading of an estimate; false where none shows one of them.
+fn misreadings_shown(report: &Report) -> bool {
+    let mut all = true;
+    println!("{:14}{:>9}  wrong reading of an estimate", "shown by", "calls");
+    for reading in misreadings::names() {
+        let times = report.times_shown(reading);
+        println!("{:14}{times:9}  {reading}", "");
+        if times == 0 {
+            all = false;
+            println!("estimate: no call shows the reading {reading:?}");
+        }
+    }
+    all
 }
 
 /// Longer trials on chosen shapes.

@@ -47,6 +47,8 @@ impl Tally {
 #[derive(Default)]
 pub struct Report {
     kinds: BTreeMap<&'static str, Tally>,
+    /// How many calls show each wrong reading.
+    shown: BTreeMap<&'static str, u64>,
     pub differences: u64,
 }
 
@@ -73,6 +75,15 @@ impl Report {
         self.kinds.entry(kind).or_default().walked += 1;
     }
 
+    /// One call is answered otherwise by this wrong reading.
+    pub fn shown(&mut self, reading: &'static str) {
+        *self.shown.entry(reading).or_default() += 1;
+    }
+
+    pub fn times_shown(&self, reading: &str) -> u64 {
+        self.shown.get(reading).copied().unwrap_or(0)
+    }
+
     pub fn same<T: PartialEq + Debug + ?Sized>(
         &mut self,
         call: &'static str,
@@ -97,6 +108,9 @@ impl Report {
         self.differences += other.differences;
         for (kind, theirs) in other.kinds {
             self.kinds.entry(kind).or_default().add(&theirs);
+        }
+        for (reading, times) in other.shown {
+            *self.shown.entry(reading).or_default() += times;
         }
     }
 

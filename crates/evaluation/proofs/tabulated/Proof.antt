@@ -6,8 +6,8 @@ use lib.Pow.{pow-mono}
 use borrow.Author.Needs.{needs}
 use Rattle.numbering.specs.Point.{at}
 use Rattle.surfaces.specs.Weights.{unit}
-use Rattle.evaluation.specs.Steps.{indexOfCell}
-use Rattle.evaluation.proofs.Weighing.{index-below}
+use Rattle.axis_weights.specs.Steps.{indexOfCell}
+use Rattle.axis_weights.proofs.Weighing.{index-below}
 use Rattle.evaluation.proofs.Tabulating.{Tabulating, tabulating-starts, entry-lt, next-level, next-axis, tabulating-ends}
 use Rattle.evaluation.proofs.tabulated.Statement.{statement}
 use Rattle.evaluation.proofs.tabulated.Tie as tie

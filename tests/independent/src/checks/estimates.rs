@@ -1,6 +1,6 @@
 //! Estimates.
 
-use super::{answer, refusal, short};
+use super::{answer, misreadings, refusal, short};
 use crate::draw::Draw;
 use crate::inputs;
 use crate::model::estimates as model;
@@ -11,6 +11,7 @@ use numolefays::{boundary, Shape, State};
 
 const CALL: &str = "estimate";
 
+/// Returns the library's estimate, none where it refuses.
 pub fn estimate(
     draw: &mut Draw,
     report: &mut Report,
@@ -19,17 +20,24 @@ pub fn estimate(
     bits: u8,
     table: &[i64],
     coordinates: &[u32],
-) {
+) -> Option<i64> {
     let want = model::estimate(axes, level, bits, table, coordinates);
     report.case(CALL, answer(&want).0);
+    if let Ok(estimate) = want {
+        misreadings::of_call(report, axes, level, table, coordinates, estimate);
+    }
     let say = || format!("axes {axes} level {level} bits {bits:#x} coordinates {coordinates:?} table {}", short(table));
     let junk = draw.bits() as i64;
     let (mut found, mut at) = (junk, draw.bits());
-    let got = boundary::estimate(axes, level, bits, table, coordinates, &mut found, &mut at);
+    let (handed, handed_at) = (table.to_vec(), coordinates.to_vec());
+    let got = boundary::estimate(axes, level, bits, &handed, &handed_at, &mut found, &mut at);
     report.same(CALL, "answer and place", &answer(&want), &(got, at), &say);
     report.same(CALL, "estimate", &want.unwrap_or(junk), &found, &say);
+    report.same(CALL, "table", table, &handed[..], &say);
+    report.same(CALL, "coordinates", coordinates, &handed_at[..], &say);
     let state = State::saved(Shape::new(axes, level), bits);
     report.same(CALL, "wrapper", &want.map_err(refusal), &state.estimate(table, coordinates), &say);
+    (got == 0).then_some(found)
 }
 
 /// At the points of a grid, every one or every so manieth, the estimate from the coefficients of accepted rates is the rate times 2^d.

@@ -1,4 +1,4 @@
-//! The worked tables of document 01, through the wrapper and in the separate code; and files written by hand.
+//! The worked tables of documents 01 and 02, through the wrapper and in the separate code; halves and files by hand.
 
 use super::writes::{library_rewrites, library_writes};
 use crate::model;
@@ -38,16 +38,27 @@ pub fn worked(report: &mut Report) {
         paper("whole back", rates.to_vec(), separate, if done.is_ok() { there } else { vec![] });
     }
 
-    let readings: [(&[i64], u32, i64); 5] = [
-        (&[6, 7, 11], 16_384, 10),
-        (&[6, 7, 11], 8_192, 5),
-        (&[6, 7, 11], 0, 0),
-        (&[6, 7, 11], 1, 0),
-        (&[-6, -7, -11], 1, -1),
+    // document 01's, the fifth as document 02 has it, and document 02's own; then 1.5, 2.5, 0.5 and a little less
+    let readings: [(u32, &[i64], u32, i64); 15] = [
+        (1, &[6, 7, 11], 16_384, 10),
+        (1, &[6, 7, 11], 8_192, 5),
+        (1, &[6, 7, 11], 0, 0),
+        (1, &[6, 7, 11], 1, 0),
+        (1, &[-6, -7, -11], 1, 0),
+        (0, &[1], 16_384, 1),
+        (0, &[-1], 16_384, -1),
+        (0, &[3], 16_384, 2),
+        (0, &[-3], 16_384, -2),
+        (0, &[5], 49_152, 3),
+        (0, &[-5], 49_152, -3),
+        (0, &[16_384], 1, 1),
+        (0, &[-16_384], 65_535, -1),
+        (0, &[16_383], 65_535, 0),
+        (0, &[-16_383], 1, 0),
     ];
-    for (table, x, want) in readings {
-        let separate = model::estimates::estimate(1, 1, 1, table, &[x]).unwrap_or(i64::MIN);
-        let library = State::saved(Shape::new(1, 1), 1).estimate(table, &[x]).unwrap_or(i64::MIN);
+    for (level, table, x, want) in readings {
+        let separate = model::estimates::estimate(1, level, 1, table, &[x]).unwrap_or(i64::MIN);
+        let library = State::saved(Shape::new(1, level), 1).estimate(table, &[x]).unwrap_or(i64::MIN);
         paper("estimate", vec![want], vec![separate], vec![library]);
     }
 

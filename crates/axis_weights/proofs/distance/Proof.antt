@@ -1,10 +1,10 @@
--- `evaluation::distance` meets its contract: of the two differences one is 0, and the code returns the other.
+-- `axis_weights::distance` meets its contract: of the two differences one is 0, and the code returns the other.
 -- Assumes nothing.
 use native.Mathlib.Omega.{arith}
 use borrow.Author.Needs.{needs}
 use Rattle.surfaces.specs.Weights.{distance}
-use Rattle.evaluation.proofs.distance.Statement.{statement}
-use Rattle.evaluation.proofs.distance.Tie as tie
+use Rattle.axis_weights.proofs.distance.Statement.{statement}
+use Rattle.axis_weights.proofs.distance.Tie as tie
 
 sub-result : tie.Need-sub-result
 sub-result c = search needs

@@ -1,4 +1,4 @@
--- `evaluation::weight` meets its contract: the shifts lose nothing, and where the distance is larger than the unit nothing is left.
+-- `axis_weights::weight` meets its contract: the shifts lose nothing, and where the distance is larger than the unit nothing is left.
 -- Assumes nothing.
 use mathlib.Core.Path.{_≡_, ap₂, _∙_}
 use Prim.Native.Nat.{suc, _*_, _^_}
@@ -7,9 +7,9 @@ use borrow.Author.Needs.{needs}
 use Rattle.surfaces.specs.Weights.{unit, distance}
 use Rattle.surfaces.proofs.Cells.{weight-is}
 use Rattle.surfaces.proofs.Unit.{unit-is}
-use Rattle.evaluation.proofs.Weighing.{here-shifted, centre-shifted}
-use Rattle.evaluation.proofs.weight.Statement.{statement}
-use Rattle.evaluation.proofs.weight.Tie as tie
+use Rattle.axis_weights.proofs.Weighing.{here-shifted, centre-shifted}
+use Rattle.axis_weights.proofs.weight.Statement.{statement}
+use Rattle.axis_weights.proofs.weight.Tie as tie
 
 add-distance : tie.Need-add-distance
 add-distance c = search needs

@@ -1,13 +1,13 @@
--- `evaluation::add_low` meets its contract: the mask is the remainder, and product and sum fit 64 bits.
+-- `wide_sums::add_low` meets its contract: the mask is the remainder, and product and sum fit 64 bits.
 -- Assumes nothing.
 use native.Mathlib.Omega.{arith}
 use borrow.Author.Needs.{needs}
 use Rattle.integers.proofs.Floors.{remainder-lt}
 use Rattle.surfaces.specs.Weights.{unit}
 use Rattle.surfaces.proofs.Unit.{unit-is}
-use Rattle.evaluation.proofs.Parts.{low-value, low-size}
-use Rattle.evaluation.proofs.add_low.Statement.{statement}
-use Rattle.evaluation.proofs.add_low.Tie as tie
+use Rattle.wide_sums.proofs.Parts.{low-value, low-size}
+use Rattle.wide_sums.proofs.add_low.Statement.{statement}
+use Rattle.wide_sums.proofs.add_low.Tie as tie
 
 cast-result : tie.Need-cast-result
 cast-result c = search needs

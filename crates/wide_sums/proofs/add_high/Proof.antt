@@ -1,4 +1,4 @@
--- `evaluation::add_high` meets its contract: product and sum fit 64 bits, and the shift is the division rounded down.
+-- `wide_sums::add_high` meets its contract: product and sum fit 64 bits, and the shift is the division rounded down.
 -- Assumes nothing.
 use native.Mathlib.Omega.{arith}
 use lib.IntN.{pos, _+ℤ_, _*ℤ_}
@@ -8,9 +8,9 @@ use borrow.Author.Needs.{needs}
 use Rattle.integers.specs.Floor.{floor}
 use Rattle.surfaces.specs.Weights.{unit}
 use Rattle.surfaces.proofs.Unit.{unit-is}
-use Rattle.evaluation.proofs.Parts.{high-product, high-product-fits, high-sum-fits}
-use Rattle.evaluation.proofs.add_high.Statement.{statement}
-use Rattle.evaluation.proofs.add_high.Tie as tie
+use Rattle.wide_sums.proofs.Parts.{high-product, high-product-fits, high-sum-fits}
+use Rattle.wide_sums.proofs.add_high.Statement.{statement}
+use Rattle.wide_sums.proofs.add_high.Tie as tie
 
 cast-result : tie.Need-cast-result
 cast-result c = search needs

@@ -1,13 +1,13 @@
--- `evaluation::cell` meets its contract: the shifts are the product and the division of the definition.
+-- `axis_weights::cell` meets its contract: the shifts are the product and the division of the definition.
 -- Assumes nothing.
 use mathlib.Core.Path.{ap₂, sym, _∙_}
 use Prim.Native.Nat.{ℕ, _/_}
 use native.Mathlib.Omega.{arith}
 use borrow.Author.Needs.{needs}
 use Rattle.surfaces.proofs.Unit.{unit-is}
-use Rattle.evaluation.proofs.Weighing.{cell-shifted, cell-inside, cell-border}
-use Rattle.evaluation.proofs.cell.Statement.{statement}
-use Rattle.evaluation.proofs.cell.Tie as tie
+use Rattle.axis_weights.proofs.Weighing.{cell-shifted, cell-inside, cell-border}
+use Rattle.axis_weights.proofs.cell.Statement.{statement}
+use Rattle.axis_weights.proofs.cell.Tie as tie
 
 cast-if1 : tie.Need-cast-if1
 cast-if1 c = search needs

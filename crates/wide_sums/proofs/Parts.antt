@@ -83,10 +83,10 @@ low-size z w small =
 
 -- ---- both
 
-pub low-quotient : (low : ℕ) → low ≤ 2 ^ 62 → toZ w64 (low / 2 ^ 16) ≡ pos (low / unit)
+pub low-quotient : (low : ℕ) → low < 2 ^ 63 → toZ w64 (low / 2 ^ 16) ≡ pos (low / unit)
 low-quotient low small = toZ-pos w64 (low / 2 ^ 16) (omega arith) ∙ ap (λ (u : ℕ). pos (low / u)) (sym unit-is)
 
-pub joined-fits : (high : ℤ) (low : ℕ) → natAbs high ≤ 2 ^ 62 → low ≤ 2 ^ 62 → SFits w64 (high +ℤ pos (low / unit))
-joined-fits high low small few =
+pub divided-fits : (high : ℤ) (low : ℕ) → natAbs high ≤ 2 ^ 62 → low < 2 ^ 63 → SFits w64 (high +ℤ pos (low / unit))
+divided-fits high low small few =
     fits-below (high +ℤ pos (low / unit))
     (omega (arith, sum-size high (pos (low / unit)), ap (λ (u : ℕ). low / u) unit-is))

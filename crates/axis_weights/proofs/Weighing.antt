@@ -10,7 +10,7 @@ use borrow.Author.Tests.{lt-ltb, le-ltb}
 use Rattle.naturals.proofs.Cases.{le-or-lt}
 use Rattle.surfaces.specs.Weights.{unit}
 use Rattle.surfaces.proofs.Unit.{unit-is}
-use Rattle.evaluation.specs.Steps.{cellOf, indexOfCell}
+use Rattle.axis_weights.specs.Steps.{cellOf, indexOfCell}
 
 module _ (x l : ℕ) (small : x ≤ unit) (low : l ≤ 8) where
   pub here-shifted : x * 2 ^ (l + 1) % 2 ^ 64 ≡ x * 2 ^ suc l
