@@ -1,5 +1,6 @@
--- What the last division does to the call's answer: the estimate is within one half of the quotient that is rounded, and the estimate of the negated table
--- is the negated one, refusals staying. True of the sum and its division; and the checks see only lengths and sizes, which negation keeps.
+-- What the last division does to the call's answer: the estimate is the whole number nearest to the quotient, so within one half of it, and the estimate
+-- of the negated table is the negated one, refusals staying. True of the sum and its division; and the checks see only lengths and sizes, which negation
+-- keeps.
 -- Assumes nothing.
 use mathlib.Core.Path.{_≡_, refl, ap, subst, _∙_, fun-ext}
 use mathlib.Core.List.{List}
@@ -11,13 +12,14 @@ use Rattle.refusals.specs.declared.Verdict.{Verdict}
 use Rattle.refusals.specs.declared.Verdict.the-variants as verdict
 use Rattle.refusals.specs.Checks.{answer}
 use Rattle.integers.specs.Half.{limit, inLimit, contentAt}
+use Rattle.integers.specs.Nearest.{Nearest}
 use Rattle.integers.proofs.Products.{size-negated}
 use Rattle.numbering.specs.Point.{at}
 use Rattle.hierarchy.specs.Turns.{valueAt}
 use Rattle.hierarchy.proofs.Values.{value-mapped}
 use Rattle.surfaces.specs.Weights.{unit}
 use Rattle.surfaces.specs.Surface.{jointSum, estimateAt}
-use Rattle.surfaces.proofs.Rounding.{estimate-half, estimate-odd}
+use Rattle.surfaces.proofs.Rounding.{estimate-nearest, estimate-half, estimate-odd}
 use Rattle.states.specs.declared.State.{State}
 use Rattle.estimates.specs.declared.Estimated.{Estimated}
 use Rattle.estimates.specs.declared.Estimated.the-variants.{Value, Refused}
@@ -25,21 +27,30 @@ use Rattle.estimates.specs.Estimates.{checkEstimate, estimate}
 use Rattle.estimates.specs.Negated.{negated, negatedAnswer}
 
 module _ (s : State) (table : List ℤ) (xs : List ℕ) where
-  -- An answer that is an estimate is within one half of the quotient.
-  abbrev Within : Estimated → Type 0
-  Within (Value v) = 2 * natAbs (v *ℤ pos unit -ℤ jointSum (s .shape) (valueAt table) (at xs)) ≤ unit
-  Within (Refused r) = Unit {0}
+  abbrev sum : ℤ
+  sum = jointSum (s .shape) (valueAt table) (at xs)
 
-  answer-within : (z : ℤ) → Within (Value z) → (v : Verdict) → Within (answer Refused v (Value z))
-  answer-within z near verdict.Passed = near
-  answer-within z near (verdict.Refused r) = tt
+  -- What holds of the sum's division holds of an answer that is an estimate.
+  abbrev Holds : (ℤ → Type 0) → Estimated → Type 0
+  Holds P (Value v) = P v
+  Holds P (Refused r) = Unit {0}
 
-  pub within-half : (v : ℤ) → estimate s table xs ≡ Value v →
-      2 * natAbs (v *ℤ pos unit -ℤ jointSum (s .shape) (valueAt table) (at xs)) ≤ unit
+  holds-answered : (P : ℤ → Type 0) (z : ℤ) → P z → (v : Verdict) → Holds P (answer Refused v (Value z))
+  holds-answered P z holds verdict.Passed = holds
+  holds-answered P z holds (verdict.Refused r) = tt
+
+  answered : (P : ℤ → Type 0) → P (estimateAt (s .shape) (valueAt table) (at xs)) → (v : ℤ) → estimate s table xs ≡ Value v → P v
   unfolding estimate
-  within-half v e =
-      let z : ℤ = estimateAt (s .shape) (valueAt table) (at xs) in
-      subst Within e (answer-within z (estimate-half (s .shape) (valueAt table) (at xs)) (checkEstimate s table xs))
+  answered P holds v e =
+      subst (Holds P) e (holds-answered P (estimateAt (s .shape) (valueAt table) (at xs)) holds (checkEstimate s table xs))
+
+  -- The estimate is the whole number nearest to the quotient, of two as near the one further from zero.
+  pub answer-nearest : (v : ℤ) → estimate s table xs ≡ Value v → Nearest unit sum v
+  answer-nearest = answered (Nearest unit sum) (estimate-nearest (s .shape) (valueAt table) (at xs))
+
+  -- It is within one half of it.
+  pub within-half : (v : ℤ) → estimate s table xs ≡ Value v → 2 * natAbs (v *ℤ pos unit -ℤ sum) ≤ unit
+  within-half = answered (λ v. 2 * natAbs (v *ℤ pos unit -ℤ sum) ≤ unit) (estimate-half (s .shape) (valueAt table) (at xs))
 
   -- The checks see lengths and sizes, which negation keeps.
   negated-length : length (negated table) ≡ length table

@@ -1,6 +1,6 @@
--- The joint weight, axis by axis: it reads the axis weights alone, is above 0 only where each of them is, and is at most the unit where each of them is, since
--- the product of two numbers of at most the unit is at most the unit squared. It is never more than the product of the axis weights, since each division is
--- rounded down.
+-- The joint weight, axis by axis. As a share of the unit it is at most the product of the axis weights, since each division is rounded down. It reads the
+-- axis weights alone, is above 0 only where each of them is, and is at most the unit where each of them is, since the product of two numbers of at most
+-- the unit is at most the unit squared.
 -- Assumes nothing.
 use mathlib.Core.Path.{_≡_, refl, ap₂, sym, _∙_}
 use Prim.Native.Nat.{ℕ, zero, suc, _*_, _/_, _^_, _≤_, _<_}
@@ -20,6 +20,18 @@ right-above a zero h = omega (arith, mul-zero a)
 right-above a (suc b) h = omega arith
 
 module _ (w : ℕ → ℕ) where
+  -- As shares of the unit, the joint weight is at most the product of the axis weights; here both stand times the unit to the k + 1.
+  pub joint-under : (k : ℕ) → joint w k * unit ^ k ≤ prodTo w k * unit
+  unfolding joint
+  joint-under zero = rw (pow-zero unit, prodTo-zero w) (omega arith)
+  joint-under (suc k) =
+      rw (pow-suc unit k, prodTo-suc w k) (divided-under (joint w k) (w k) (unit ^ k) (prodTo w k) unit (joint-under k))
+    where
+      divided-under : (j v e p u : ℕ) → j * e ≤ p * u → j * v / u * (e * u) ≤ p * v * u
+      divided-under j v e p u before =
+          let down : j * v / u * u ≤ j * v = omega (arith, div-add-mod' (j * v) u) in
+          omega (arith, mul-le-mul-right e down, mul-le-mul-right v before)
+
   pub joint-zero : joint w 0 ≡ unit
   unfolding joint
   joint-zero = refl
@@ -41,17 +53,6 @@ module _ (w : ℕ → ℕ) where
   joint-le zero each = omega (arith, joint-zero)
   joint-le (suc k) each =
       rw (joint-suc k) (div-le-of-le-mul unit (mul-le-mul (joint-le k (λ t h. each t (omega arith))) (each k (omega arith))))
-
-  -- Both counted in units to the k + 1: the joint weight is at most the product of the axis weights.
-  pub joint-under : (k : ℕ) → joint w k * unit ^ k ≤ prodTo w k * unit
-  joint-under zero = rw (joint-zero, pow-zero unit, prodTo-zero w) (omega arith)
-  joint-under (suc k) =
-      rw (joint-suc k, pow-suc unit k, prodTo-suc w k) (divided-under (joint w k) (w k) (unit ^ k) (prodTo w k) unit (joint-under k))
-    where
-      divided-under : (j v e p u : ℕ) → j * e ≤ p * u → j * v / u * (e * u) ≤ p * v * u
-      divided-under j v e p u before =
-          let down : j * v / u * u ≤ j * v = omega (arith, div-add-mod' (j * v) u) in
-          omega (arith, mul-le-mul-right e down, mul-le-mul-right v before)
 
 pub joint-cong : (v w : ℕ → ℕ) (k : ℕ) → ((t : ℕ) → t < k → v t ≡ w t) → joint v k ≡ joint w k
 joint-cong v w zero same = joint-zero v ∙ sym (joint-zero w)

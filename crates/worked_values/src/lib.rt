@@ -1,1 +1,1 @@
-// The worked values of documents 01 and 02 that are marked to be proved, as one list. Definitions and one theorem, no code.
+// The worked values of document 01 that are marked to be proved, with those of document 02, b), as one list. Definitions and one theorem, no code.

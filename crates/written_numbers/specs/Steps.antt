@@ -1,4 +1,4 @@
--- What the writer's steps answer.
+-- How a number's bytes are counted: by the bounds that it reaches.
 -- Assumes nothing.
 use Prim.Native.Nat.{ℕ}
 use lib.Dec.{leb}

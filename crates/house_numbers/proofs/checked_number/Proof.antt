@@ -1,4 +1,4 @@
--- `house_file::checked_number` meets its contract: a number of one byte is that byte, and all others are read byte by byte.
+-- `house_numbers::checked_number` meets its contract: a number of one byte is that byte, and all others are read byte by byte.
 -- Assumes nothing.
 use borrow.Author.Needs.{needs}
 use Rattle.house_numbers.proofs.CheckedNumbers.{one-byte-read, first-there}

@@ -1,4 +1,4 @@
--- `house_file::limited` meets its contract: one comparison with the largest number that can be filed decides.
+-- `house_numbers::limited` meets its contract: one comparison with the largest number that can be filed decides.
 -- Assumes nothing.
 use native.Mathlib.Omega.{arith}
 use borrow.Author.Needs.{needs}

@@ -1,4 +1,4 @@
--- `house_file::long_checked` meets its contract. The loop's invariant is `Gathered`, with a group left; the measure is what is left of 28 bits.
+-- `house_numbers::long_checked` meets its contract. The loop's invariant is `Gathered`, with a group left; the measure is what is left of 28 bits.
 -- Assumes nothing.
 use mathlib.Core.Path.{_≡_, ap, _∙_}
 use Prim.Native.Nat.{ℕ, _+_, _-_, _*_, _^_, _≤_, _<_}

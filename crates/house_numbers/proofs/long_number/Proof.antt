@@ -1,4 +1,4 @@
--- `house_file::long_number` meets its contract. The loop's invariant is `Gathered`, and the measure is what is left of the 35 bits.
+-- `house_numbers::long_number` meets its contract. The loop's invariant is `Gathered`, and the measure is what is left of the 35 bits.
 -- Assumes nothing.
 use mathlib.Core.Path.{sym, ap, _∙_}
 use Prim.Native.Nat.{ℕ, _+_, _-_}

@@ -1,4 +1,4 @@
--- `house_file::number_at` meets its contract: a number of one byte is that byte, and all others are read byte by byte.
+-- `house_numbers::number_at` meets its contract: a number of one byte is that byte, and all others are read byte by byte.
 -- Assumes nothing.
 use native.Mathlib.Omega.{arith}
 use borrow.Author.Needs.{needs}

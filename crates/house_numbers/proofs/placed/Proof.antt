@@ -1,4 +1,4 @@
--- `house_file::placed` meets its contract: a shift of seven bits by at most 28 loses none in 64.
+-- `house_numbers::placed` meets its contract: a shift of seven bits by at most 28 loses none in 64.
 -- Assumes nothing.
 use native.Mathlib.Omega.{arith}
 use borrow.Author.Needs.{needs}

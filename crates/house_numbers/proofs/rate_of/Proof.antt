@@ -1,4 +1,4 @@
--- `house_file::rate_of` meets its contract: the lowest bit says whether the number is even, and half of it is the rate or the rate's complement.
+-- `house_numbers::rate_of` meets its contract: the lowest bit says whether the number is even, and half of it is the rate or the rate's complement.
 -- Assumes nothing.
 use mathlib.Core.Path.{_≡_, sym, ap, _∙_}
 use Prim.Native.Nat.{_/_}

@@ -1,4 +1,4 @@
--- `house_file::check_each` meets its contract. The loop's invariant is `Checked`, and the measure is the rates that are left.
+-- `house_rates::check_each` meets its contract. The loop's invariant is `Checked`, and the measure is the rates that are left.
 -- Assumes nothing.
 use mathlib.Core.Path.{sym, ap, _∙_}
 use native.Mathlib.Omega.{arith}

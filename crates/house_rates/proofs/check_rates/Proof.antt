@@ -1,4 +1,4 @@
--- `house_file::check_rates` meets its contract: rates that are sound pass, and the others are checked one by one.
+-- `house_rates::check_rates` meets its contract: rates that are sound pass, and the others are checked one by one.
 -- Assumes nothing.
 use mathlib.Core.Path.{sym}
 use borrow.Author.Needs.{needs}

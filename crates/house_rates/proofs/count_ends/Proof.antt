@@ -1,4 +1,4 @@
--- `house_file::count_ends` meets its contract. The loop's invariant is `Counted`, inside the bytes; the measure is the bytes left. No more is counted than
+-- `house_rates::count_ends` meets its contract. The loop's invariant is `Counted`, inside the bytes; the measure is the bytes left. No more is counted than
 -- there are bytes, so no sum is too large.
 -- Assumes nothing.
 use Prim.Native.Nat.{_-_, _≤_}

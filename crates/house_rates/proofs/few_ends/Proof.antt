@@ -1,4 +1,4 @@
--- `house_file::few_ends` meets its contract. The loop's invariant is `Counted`, with no more counted than bytes passed; the measure is the bytes left.
+-- `house_rates::few_ends` meets its contract. The loop's invariant is `Counted`, with no more counted than bytes passed; the measure is the bytes left.
 -- Assumes nothing.
 use mathlib.Core.Path.{_≡_}
 use Prim.Native.Nat.{_-_, _≤_}

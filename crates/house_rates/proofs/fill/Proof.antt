@@ -1,4 +1,4 @@
--- `house_file::fill` meets its contract. The loop's invariant is `Filled`, and the measure is the rates that are left; every number was checked.
+-- `house_rates::fill` meets its contract. The loop's invariant is `Filled`, and the measure is the rates that are left; every number was checked.
 -- Assumes nothing.
 use mathlib.Core.Path.{sym, _∙_}
 use Prim.Native.Nat.{_-_}

@@ -1,4 +1,4 @@
--- `house_file::is_end` meets its contract: a test counts 1 or 0.
+-- `house_rates::is_end` meets its contract: a test counts 1 or 0.
 -- Assumes nothing.
 use borrow.Author.Needs.{needs}
 use Rattle.house_rates.proofs.Counting.{end-counted}

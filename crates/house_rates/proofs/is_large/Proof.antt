@@ -1,4 +1,4 @@
--- `house_file::is_large` meets its contract: the five tests together.
+-- `house_rates::is_large` meets its contract: the five tests together.
 -- Assumes nothing.
 use Rattle.house_rates.proofs.FiveBytes.{not-large}
 use Rattle.house_rates.proofs.is_large.Statement.{statement}

@@ -1,4 +1,4 @@
--- `house_file::none_large` meets its contract. The loop's invariant is `Clear`, and the measure is the rows that are left.
+-- `house_rates::none_large` meets its contract. The loop's invariant is `Clear`, and the measure is the rows that are left.
 -- Assumes nothing.
 use Prim.Native.Nat.{_-_}
 use native.Mathlib.Omega.{arith}

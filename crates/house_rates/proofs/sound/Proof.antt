@@ -1,4 +1,4 @@
--- `house_file::sound` meets its contract: where it says yes, the rates pass together.
+-- `house_rates::sound` meets its contract: where it says yes, the rates pass together.
 -- Assumes nothing.
 use mathlib.Core.Bool.{false≢true}
 use native.Mathlib.Omega.{arith}

@@ -1,4 +1,4 @@
--- `turns::lower` meets its contract: each turn of the loop lowers the points of one level vector, whose parents are as they were, then comes the level
+-- `sweeps::lower` meets its contract: each turn of the loop lowers the points of one level vector, whose parents are as they were, then comes the level
 -- vector before it; the loop stops at a point that is not accepted.
 -- Assumes nothing.
 use mathlib.Core.Path.{_≡_, sym}

@@ -1,4 +1,4 @@
--- `turns::lower_subspace` meets its contract: each turn of the loop is one step down, at a point that is accepted, and the loop stops at a point that is
+-- `sweeps::lower_subspace` meets its contract: each turn of the loop is one step down, at a point that is accepted, and the loop stops at a point that is
 -- not.
 -- Assumes nothing.
 use mathlib.Core.Path.{_≡_, ap, sym, _∙_}

@@ -1,4 +1,4 @@
--- `turns::lower_vector` meets its contract: at level 0 on the axis no point of the level vector moves, else the steps of its points are made.
+-- `sweeps::lower_vector` meets its contract: at level 0 on the axis no point of the level vector moves, else the steps of its points are made.
 -- Assumes nothing.
 use mathlib.Core.Path.{_≡_, sym}
 use Prim.Native.Nat.{ℕ, suc, _≤_, _<_}

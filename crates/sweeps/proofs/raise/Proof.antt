@@ -1,4 +1,4 @@
--- `turns::raise` meets its contract: each turn of the loop raises the points of one level vector, whose parents stand before it, then comes the next level
+-- `sweeps::raise` meets its contract: each turn of the loop raises the points of one level vector, whose parents stand before it, then comes the next level
 -- vector; the loop stops at a point that is not accepted.
 -- Assumes nothing.
 use mathlib.Core.Path.{_≡_, refl, sym, _∙_}

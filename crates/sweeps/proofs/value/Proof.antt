@@ -1,4 +1,4 @@
--- `turns::value` meets its contract: at code 0 there is nothing, at code p + 1 what stands at p, and nothing past the end.
+-- `sweeps::value` meets its contract: at code 0 there is nothing, at code p + 1 what stands at p, and nothing past the end.
 -- Assumes nothing.
 use mathlib.Core.List.{List}
 use mathlib.Core.Path.{_≡_, ap, sym, _∙_}

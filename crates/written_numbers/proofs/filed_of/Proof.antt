@@ -1,4 +1,4 @@
--- `house_writer::filed_of` meets its contract: twice a rate fits 64 bits by far, and what is answered 32.
+-- `written_numbers::filed_of` meets its contract: twice a rate fits 64 bits by far, and what is answered 32.
 -- Assumes nothing.
 use mathlib.Core.Path.{_≡_, sym, subst, ap, _∙_}
 use mathlib.Core.Bool.{Bool, true, false}

@@ -1,4 +1,4 @@
--- `house_writer::put_number` meets its contract. The loop's invariant is `Grouped`, and the measure is what is left of the number.
+-- `written_numbers::put_number` meets its contract. The loop's invariant is `Grouped`, and the measure is what is left of the number.
 -- Assumes nothing.
 use mathlib.Core.Path.{ap}
 use Prim.Native.Nat.{ℕ, _+_}

@@ -1,4 +1,4 @@
--- `house_writer::reaches` meets its contract: a test counts 1 or 0.
+-- `written_numbers::reaches` meets its contract: a test counts 1 or 0.
 -- Assumes nothing.
 use borrow.Author.Needs.{needs}
 use Rattle.written_numbers.proofs.Sizes.{counted}

@@ -1,4 +1,4 @@
--- `house_writer::size_of` meets its contract: the bounds that the number reaches are counted.
+-- `written_numbers::size_of` meets its contract: the bounds that the number reaches are counted.
 -- Assumes nothing.
 use native.Mathlib.Omega.{arith}
 use borrow.Author.Needs.{needs}

@@ -1,4 +1,4 @@
--- `reports::lines::put_heading` meets its contract: its pieces are the line, and each has room.
+-- `texts::lines::put_heading` meets its contract: its pieces are the line, and each has room.
 -- Assumes nothing.
 use native.Mathlib.Omega.{arith}
 use borrow.Author.Needs.{needs}

@@ -1,4 +1,4 @@
--- `reports::lines::put_point` meets its contract: its four pieces are the line, and each has room.
+-- `texts::lines::put_point` meets its contract: its four pieces are the line, and each has room.
 -- Assumes nothing.
 use mathlib.Core.Path.{ap}
 use mathlib.Core.List.{_++_}

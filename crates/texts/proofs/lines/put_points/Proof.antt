@@ -1,4 +1,4 @@
--- `reports::lines::put_points` meets its contract. The loop's invariant: the lines of the points passed have been put; the measure is what is left of the table.
+-- `texts::lines::put_points` meets its contract. The loop's invariant: the lines of the points passed have been put; the measure is what is left of the table.
 -- Assumes nothing.
 use mathlib.Core.Path.{ap}
 use Prim.Native.Nat.{_-_}

@@ -1,4 +1,4 @@
--- `reports::lines::put_refused` meets its contract: its pieces are the line.
+-- `texts::lines::put_refused` meets its contract: its pieces are the line.
 -- Assumes nothing.
 use mathlib.Core.Path.{ap}
 use mathlib.Core.List.{_++_}

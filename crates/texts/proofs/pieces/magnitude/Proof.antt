@@ -1,4 +1,4 @@
--- `reports::pieces::magnitude` meets its contract: below zero one more is negated, which fits 64 bits, and 1 is added again.
+-- `texts::pieces::magnitude` meets its contract: below zero one more is negated, which fits 64 bits, and 1 is added again.
 -- Assumes nothing.
 use mathlib.Core.Path.{_≡_, ap}
 use mathlib.Core.Bool.{Bool, true, false}

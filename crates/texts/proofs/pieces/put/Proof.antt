@@ -1,4 +1,4 @@
--- `reports::pieces::put` meets its contract. The loop's invariant: the characters passed have been put; the measure is what is left of them.
+-- `texts::pieces::put` meets its contract. The loop's invariant: the characters passed have been put; the measure is what is left of them.
 -- Assumes nothing.
 use Prim.Native.Nat.{_-_}
 use native.Mathlib.Omega.{arith}

@@ -1,4 +1,4 @@
--- `reports::pieces::put_decimal` meets its contract: the digits that `io::decimal` writes are those of the report, at most 20, and are put.
+-- `texts::pieces::put_decimal` meets its contract: the digits that `io::decimal` writes are those of the report, at most 20, and are put.
 -- Assumes nothing.
 use mathlib.Core.Path.{_∙_}
 use native.Mathlib.Omega.{arith}

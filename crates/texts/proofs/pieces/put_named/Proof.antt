@@ -1,4 +1,4 @@
--- `reports::pieces::put_named` meets its contract: a word is put, and then a number.
+-- `texts::pieces::put_named` meets its contract: a word is put, and then a number.
 -- Assumes nothing.
 use Rattle.buffers.proofs.Puts.{put-then}
 use borrow.Author.Needs.{needs}

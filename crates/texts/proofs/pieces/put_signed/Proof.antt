@@ -1,4 +1,4 @@
--- `reports::pieces::put_signed` meets its contract: where the number is below zero a minus sign is put first; then the digits of its distance from zero.
+-- `texts::pieces::put_signed` meets its contract: where the number is below zero a minus sign is put first; then the digits of its distance from zero.
 -- Assumes nothing.
 use mathlib.Core.Path.{_≡_, ap, _∙_}
 use mathlib.Core.Bool.{true, false}
