@@ -2,7 +2,7 @@
  * Household surface tables: points, turns and estimates, for C and C++.
  *
  * docs/MANUAL.md explains every word below; the numbers in brackets name its sections. Link with
- * target/staticlib/libnumolefays.a (`rt staticlib numolefays`), which needs memcpy and memset and nothing
+ * target/staticlib/libnumolefays.a (`tools/build`), which needs memcpy and memset and nothing
  * else. Each function does what the library's call of that name does, and is proved to: crates/numolefays.
  *
  * Answers. Every function answers 0 where the call succeeded, else the number of the refusal, the first that

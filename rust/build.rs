@@ -1,4 +1,4 @@
-//! Links the proved library, `libnumolefays.a`, which `rt staticlib numolefays` writes to `target/staticlib`.
+//! Links the proved library, `libnumolefays.a`, which `tools/build` writes to `target/staticlib`.
 //!
 //! Another folder: set `NUMOLEFAYS_ARCHIVE_DIR` to the whole path of the folder that holds the archive.
 
@@ -13,7 +13,7 @@ fn main() {
     let archive = folder.join("libnumolefays.a");
     println!("cargo:rerun-if-changed={}", archive.display());
     if !archive.is_file() {
-        panic!("{} is not there: run `rt staticlib numolefays`, or set NUMOLEFAYS_ARCHIVE_DIR", archive.display());
+        panic!("{} is not there: run `tools/build`, or set NUMOLEFAYS_ARCHIVE_DIR", archive.display());
     }
     let folder = folder.canonicalize().unwrap_or(folder);
     println!("cargo:rustc-link-search=native={}", folder.display());

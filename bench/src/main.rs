@@ -44,5 +44,5 @@ fn machine() -> String {
         info.lines().find(|l| l.starts_with("model name")).and_then(|l| l.split(": ").nth(1)).unwrap_or("unknown");
     let load = std::fs::read_to_string("/proc/loadavg").unwrap_or_default();
     let load = load.split(' ').next().unwrap_or("unknown").to_string();
-    format!("Processor: {model}; load when it began: {load}. The library: release archive by `rt staticlib`; the others: rustc, opt-level 3.")
+    format!("Processor: {model}; load when it began: {load}. The library: archive by `tools/build`; the others: rustc, opt-level 3.")
 }

@@ -1,26 +1,19 @@
 // Reads a house file from standard input and prints its coefficients, or the number of why it is refused.
 #![tactic(auto)]
 
-use libc::{STDERR_FILENO, STDOUT_FILENO};
 use reports::{BYTES, MOST};
 
-fn main() {
+fn main(rt: HostRuntime) {
     let mut bytes = [0u8; BYTES];
-    let input = streams::read_input(&mut bytes);
+    let input = streams::read_input(&mut rt.stdin(), &mut bytes);
     if !input.readable {
-        io::write_all(
-            STDERR_FILENO,
-            b"coefficients: standard input could not be read\n",
-        );
+        let _ = eprintln!(rt; "coefficients: standard input could not be read");
         return;
     }
     let mut out = [0u8; MOST];
     let length = input.length;
     let count = reports::text(&bytes[..length], &mut out);
-    if !io::write_all(STDOUT_FILENO, &out[..count]) {
-        io::write_all(
-            STDERR_FILENO,
-            b"coefficients: standard output could not be written\n",
-        );
+    if rt.write_all(&out[..count]).is_err() {
+        let _ = eprintln!(rt; "coefficients: standard output could not be written");
     }
 }

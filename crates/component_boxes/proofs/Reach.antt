@@ -2,7 +2,7 @@
 -- follow each other reaches no further than these. True since a place is an odd number times its reach.
 -- Assumes nothing.
 use mathlib.Core.Path.{◌≡◌, refl, ap, sym, ◌∙◌}
-use Prim.Native.Nat.{ℕ, suc, ◌+◌, ◌-◌, ◌*◌, ◌%◌, ◌^◌, ◌≤◌, ◌<◌}
+use Prim.Native.Nat.{ℕ, zero, suc, ◌+◌, ◌-◌, ◌*◌, ◌%◌, ◌^◌, ◌≤◌, ◌<◌}
 use native.Mathlib.Nat.{eq_of_mul-eq-mul_right, mul_assoc, add-mul, one-mul, mul-le-mul_right, lt_of_mul-lt-mul_right, pow-suc}
 use native.Mathlib.Omega.{arith}
 use lib.Pow.{pow-add, pow_mono, pow_pos}
@@ -16,6 +16,7 @@ pub power-parts : (a b : ℕ) → a ≤ b → 2 ^ b ≡ 2 ^ (b - a) * 2 ^ a
 power-parts a b h = let e : b ≡ (b - a) + a = omega arith in ap (λ (x : ℕ). 2 ^ x) e ∙ pow-add 2 (b - a) a
 
 even_power : (k m : ℕ) → 0 < k → m * 2 ^ k % 2 ≡ 0
+even_power zero m some = elim some [ ]
 even_power (suc k) m some = omega (arith, ap (λ (x : ℕ). m * x) (pow-suc 2 k))
 
 module _ (k e x : ℕ) (some : 1 ≤ x) where

@@ -13,7 +13,6 @@ use lib.Pow.{pow_pos, pow_mono}
 use Rattle.naturals.proofs.Cases.{le-or-lt, eq-or-not}
 use Rattle.numbering.specs.Parent.{twos}
 use Rattle.component_grids.proofs.Places.{place-low}
-use Rattle.component_grids.proofs.Beside.{reach}
 use Rattle.component_sweeps.specs.Steps.{CanBand, LoweredOn, InBand, Turn, placeOn, middle, Asked, Turned, Along, Reaches, ClassOf}
 use Rattle.component_sweeps.proofs.Apart.{Apart, turned_none, turned_same, limited-next, turned-both}
 use Rattle.component_sweeps.proofs.Reaching.{OddTimes, odd-times, reach-odd, odd-near, odd-next, even-times, odd-first, odd-after, reach-grows}

@@ -9,7 +9,6 @@ use native.Mathlib.Omega.{arith}
 use lib.ListN.{set, replicate, length-set}
 use lib.Seq.{get_or-set_same, get_or-set_other}
 use Rattle.naturals.proofs.Cases.{eq-or-not}
-use Rattle.numbering.specs.Point.{at}
 use Rattle.surfaces.specs.Weights.{weight}
 use Rattle.surfaces.proofs.Cells.{weight-le}
 use Rattle.axis_weights.specs.Steps.{cellOf, indexOfCell}

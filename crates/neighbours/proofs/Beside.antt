@@ -14,7 +14,6 @@ use Rattle.naturals.proofs.Cases.{true-or-false}
 use Rattle.naturals.proofs.Sums.{sumTo-suc, sumTo-mono}
 use Rattle.numbering.specs.declared.Side.{Side}
 use Rattle.numbering.specs.declared.Side.TheVariants.{Left, Right}
-use Rattle.numbering.specs.Count.{start}
 use Rattle.numbering.specs.Point.{at}
 use Rattle.numbering.specs.Number.{position, firstOf, number}
 use Rattle.numbering.specs.Inverse.{levelAt, indexOf, indexAt}

@@ -2,7 +2,6 @@
 #![tactic(auto)]
 
 use house_writer::Filed;
-use libc::{STDERR_FILENO, STDOUT_FILENO};
 use refusals::Refusal;
 use reports::LINE;
 
@@ -16,35 +15,29 @@ const BYTES: usize = 163851;
 const MOST: usize = 163842;
 
 // A line as `coefficients` prints it, on standard error.
-fn refuse(why: Refusal) {
+fn refuse(rt: &HostRuntime, why: Refusal) {
     let mut line = [0u8; LINE];
     let count = reports::refused(why, &mut line);
-    io::write_all(STDERR_FILENO, &line[..count]);
+    let _ = rt.stderr().write_all(&line[..count]);
 }
 
-fn print(form: &[u8]) {
-    if !io::write_all(STDOUT_FILENO, form) {
-        io::write_all(
-            STDERR_FILENO,
-            b"rewrite: standard output could not be written\n",
-        );
+fn print(rt: &HostRuntime, form: &[u8]) {
+    if rt.write_all(form).is_err() {
+        let _ = eprintln!(rt; "rewrite: standard output could not be written");
     }
 }
 
-fn main() {
+fn main(rt: HostRuntime) {
     let mut bytes = [0u8; BYTES];
-    let input = streams::read_input(&mut bytes);
+    let input = streams::read_input(&mut rt.stdin(), &mut bytes);
     if !input.readable {
-        io::write_all(
-            STDERR_FILENO,
-            b"rewrite: standard input could not be read\n",
-        );
+        let _ = eprintln!(rt; "rewrite: standard input could not be read");
         return;
     }
     let mut out = [0u8; MOST];
     let length = input.length;
     match house_writer::rewrite(&bytes[..length], PLACES, &mut out) {
-        Filed::Refused(why) => refuse(why),
-        Filed::Length(size) => print(&out[..size]),
+        Filed::Refused(why) => refuse(&rt, why),
+        Filed::Length(size) => print(&rt, &out[..size]),
     }
 }

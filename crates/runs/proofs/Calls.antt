@@ -15,7 +15,7 @@ use Rattle.naturals.proofs.Tests.{and_left, and_right}
 use Rattle.refusals.specs.declared.Refusal.{Refusal}
 use Rattle.refusals.specs.declared.Refusal.TheVariants.{Axis, AlreadyForward, NotForward}
 use Rattle.refusals.specs.declared.Verdict.TheVariants as verdict
-use Rattle.refusals.specs.Checks.{unless, answer}
+use Rattle.refusals.specs.Checks.{unless}
 use Rattle.hierarchy.specs.declared.Turn.{Turn}
 use Rattle.hierarchy.specs.declared.Turn.TheVariants.{Forward, Back}
 use Rattle.hierarchy.specs.Turns.{valueAt, valuesOf, forward, accepted, backward}
@@ -34,7 +34,7 @@ use Rattle.states.specs.declared.State.{State}
 use Rattle.states.specs.States.{has}
 use Rattle.states.proofs.Bits.{has-marked-same, has-marked-other, has-cleared-same, has-cleared-other, marked-small, cleared-small}
 use Rattle.states.proofs.Checked.{state-passes}
-use Rattle.states.specs.declared.Answer.TheVariants.{Done, Refused}
+use Rattle.states.specs.declared.Answer.TheVariants.{Done}
 use Rattle.states.specs.After.{After, after, kept}
 use Rattle.turns.specs.Turns.{turnedTable, formerTable, isAccepted, checkTurn, forwardTurn, backTurn}
 use Rattle.runs.specs.Model.{Axes, modelAnswer, changed, modelSet}

@@ -7,6 +7,7 @@ use points::{Located, Outcome};
 use refusals::Verdict;
 use shapes::{Counted, Shape};
 use states::{Answer, State};
+use std::io;
 use vectors::compare_levels;
 
 // Where the next number goes: from 0 in the list l, from 10 in the six words of the state, from 16 in the list i, from 32 in the table; and the
@@ -55,84 +56,85 @@ fn store(at: usize, n: u64, l: &mut [u32; 16], i: &mut [u32; 16], table: &mut [i
     }
 }
 
-fn show(at: usize, table: &[i64; 2048]) {
+fn show(out: &impl Print, at: usize, table: &[i64; 2048]) -> io::Result<()> {
     if TABLE <= at && at - TABLE < 2048 {
-        text::value(table[at - TABLE]);
+        text::value(out, table[at - TABLE])?;
     }
+    Ok(())
 }
 
 // ---- answers
 
-fn told(outcome: Outcome) {
+fn told(out: &impl Print, outcome: Outcome) -> io::Result<()> {
     match outcome {
-        Outcome::Found => text::letter(b'f'),
-        Outcome::End => text::letter(b'e'),
-        Outcome::Border => text::letter(b'b'),
-        Outcome::Refused(why) => text::refused(why),
+        Outcome::Found => text::letter(out, b'f'),
+        Outcome::End => text::letter(out, b'e'),
+        Outcome::Border => text::letter(out, b'b'),
+        Outcome::Refused(why) => text::refused(out, why),
     }
 }
 
-fn located(at: Located) {
+fn located(out: &impl Print, at: Located) -> io::Result<()> {
     let outcome = at.outcome;
     let point = at.point;
     let levels = point.levels;
     let indices = point.indices;
-    told(outcome);
-    text::list(levels);
-    text::list(indices);
+    told(out, outcome)?;
+    text::list(out, levels)?;
+    text::list(out, indices)
 }
 
-fn numbered(number: Numbered) {
+fn numbered(out: &impl Print, number: Numbered) -> io::Result<()> {
     match number {
-        Numbered::At(number) => text::number(number),
-        Numbered::Refused(why) => text::refused(why),
+        Numbered::At(number) => text::number(out, number),
+        Numbered::Refused(why) => text::refused(out, why),
     }
 }
 
-fn counted(count: Counted) {
+fn counted(out: &impl Print, count: Counted) -> io::Result<()> {
     match count {
-        Counted::Points(points) => text::number(points),
-        Counted::Refused(why) => text::refused(why),
+        Counted::Points(points) => text::number(out, points),
+        Counted::Refused(why) => text::refused(out, why),
     }
 }
 
-fn ordered(order: Order) {
+fn ordered(out: &impl Print, order: Order) -> io::Result<()> {
     match order {
-        Order::Before => text::letter(b'<'),
-        Order::Same => text::letter(b'='),
-        Order::After => text::letter(b'>'),
+        Order::Before => text::letter(out, b'<'),
+        Order::Same => text::letter(out, b'='),
+        Order::After => text::letter(out, b'>'),
     }
 }
 
-fn estimated(estimate: Estimated) {
+fn estimated(out: &impl Print, estimate: Estimated) -> io::Result<()> {
     match estimate {
-        Estimated::Value(v) => text::value(v),
-        Estimated::Refused(why) => text::refused(why),
+        Estimated::Value(v) => text::value(out, v),
+        Estimated::Refused(why) => text::refused(out, why),
     }
 }
 
-fn judged(verdict: Verdict) {
+fn judged(out: &impl Print, verdict: Verdict) -> io::Result<()> {
     match verdict {
-        Verdict::Passed => text::letter(b'd'),
-        Verdict::Refused(why) => text::refused(why),
+        Verdict::Passed => text::letter(out, b'd'),
+        Verdict::Refused(why) => text::refused(out, why),
     }
 }
 
 // The state that is answered; its set is handed to the next call.
-fn shown(state: State) -> u8 {
+fn shown(out: &impl Print, state: State) -> io::Result<u8> {
     let shape = state.shape;
-    text::number(state.forward as u64);
-    text::number(shape.axes as u64);
-    text::number(shape.level as u64);
-    state.forward
+    text::number(out, state.forward as u64)?;
+    text::number(out, shape.axes as u64)?;
+    text::number(out, shape.level as u64)?;
+    Ok(state.forward)
 }
 
-fn answered(answer: Answer, set: u8) -> u8 {
+fn answered(out: &impl Print, answer: Answer, set: u8) -> io::Result<u8> {
     match answer {
-        Answer::Done(state) => shown(state),
+        Answer::Done(state) => shown(out, state),
         Answer::Refused(why) => {
-            text::refused(why);
-            set
+            text::refused(out, why)?;
+            Ok(set)
         }
     }
 }
@@ -157,39 +159,52 @@ fn parent(shape: Shape, letter: u8, levels: &[u32], indices: &[u32], axis: u32) 
     parents::parent(shape, levels, indices, axis, side)
 }
 
-fn call_on_point(shape: Shape, letter: u8, levels: &[u32], indices: &[u32], x: u64) {
+fn call_on_point(
+    out: &impl Print,
+    shape: Shape,
+    letter: u8,
+    levels: &[u32],
+    indices: &[u32],
+    x: u64,
+) -> io::Result<()> {
     match letter {
-        b'N' => numbered(numbers::number_of_point(shape, levels, indices)),
-        b'O' => ordered(compare_levels(points::padded(levels), points::padded(indices))),
-        b'S' => located(successor::successor(shape, levels, indices)),
-        _ => located(parent(shape, letter, levels, indices, word(x))),
+        b'N' => numbered(out, numbers::number_of_point(shape, levels, indices)),
+        b'O' => ordered(out, compare_levels(points::padded(levels), points::padded(indices))),
+        b'S' => located(out, successor::successor(shape, levels, indices)),
+        _ => located(out, parent(shape, letter, levels, indices, word(x))),
     }
 }
 
-fn call_on_shape(shape: Shape, letter: u8, x: u64) {
+fn call_on_shape(out: &impl Print, shape: Shape, letter: u8, x: u64) -> io::Result<()> {
     if letter == b'C' {
-        counted(shapes::count(shape));
+        counted(out, shapes::count(shape))
     } else {
-        located(numbers::point_of_number(shape, x));
+        located(out, numbers::point_of_number(shape, x))
     }
 }
 
 // Four turns, and what is reported of them.
-fn run(state: State, l: &[u32; 16], axes: &[u32], table: &mut [i64]) -> Answer {
+fn run(
+    out: &impl Print,
+    state: State,
+    l: &[u32; 16],
+    axes: &[u32],
+    table: &mut [i64],
+) -> io::Result<Answer> {
     let directions = [byte(l[0]), byte(l[1]), byte(l[2]), byte(l[3])];
     let mut numbers = [77u32; 4];
     let mut places = [77u64; 4];
     let answer = runs::run(state, table, &directions, axes, &mut numbers, &mut places);
-    reported(numbers[0], places[0]);
-    reported(numbers[1], places[1]);
-    reported(numbers[2], places[2]);
-    reported(numbers[3], places[3]);
-    answer
+    reported(out, numbers[0], places[0])?;
+    reported(out, numbers[1], places[1])?;
+    reported(out, numbers[2], places[2])?;
+    reported(out, numbers[3], places[3])?;
+    Ok(answer)
 }
 
-fn reported(number: u32, place: u64) {
-    text::number(number as u64);
-    text::number(place);
+fn reported(out: &impl Print, number: u32, place: u64) -> io::Result<()> {
+    text::number(out, number as u64)?;
+    text::number(out, place)
 }
 
 fn turn(state: State, letter: u8, table: &mut [i64], axis: u32) -> Answer {
@@ -209,11 +224,17 @@ fn whole(state: State, letter: u8, table: &mut [i64]) -> Verdict {
     }
 }
 
-fn call_on_table(state: State, letter: u8, l: &[u32], table: &mut [i64]) {
+fn call_on_table(
+    out: &impl Print,
+    state: State,
+    letter: u8,
+    l: &[u32],
+    table: &mut [i64],
+) -> io::Result<()> {
     if letter == b'E' {
-        estimated(estimates::estimate(state, table, l));
+        estimated(out, estimates::estimate(state, table, l))
     } else {
-        judged(whole(state, letter, table));
+        judged(out, whole(state, letter, table))
     }
 }
 
@@ -228,41 +249,58 @@ fn state_of(words: &[u32; 16]) -> State {
     }
 }
 
-fn call_on_lists(shape: Shape, letter: u8, l: &[u32], i: &[u32], x: u64) {
+fn call_on_lists(
+    out: &impl Print,
+    shape: Shape,
+    letter: u8,
+    l: &[u32],
+    i: &[u32],
+    x: u64,
+) -> io::Result<()> {
     if letter == b'C' || letter == b'P' {
-        call_on_shape(shape, letter, x);
+        call_on_shape(out, shape, letter, x)
     } else {
-        call_on_point(shape, letter, l, i, x);
+        call_on_point(out, shape, letter, l, i, x)
     }
 }
 
 // The set afterwards.
-fn call(letter: u8, x: u64, l: &[u32; 16], i: &[u32; 16], table: &mut [i64]) -> u8 {
+fn call(
+    out: &impl Print,
+    letter: u8,
+    x: u64,
+    l: &[u32; 16],
+    i: &[u32; 16],
+    table: &mut [i64],
+) -> io::Result<u8> {
     let state = state_of(l);
     let set = state.forward;
     match letter {
-        b'T' => return answered(run(state, l, part(i, l[14]), table), set),
-        b'A' | b'B' | b'F' | b'G' => return answered(turn(state, letter, table, word(x)), set),
-        b'E' | b'U'..=b'W' => call_on_table(state, letter, part(l, l[13]), table),
-        _ => call_on_lists(state.shape, letter, part(l, l[13]), part(i, l[14]), x),
+        b'T' => return answered(out, run(out, state, l, part(i, l[14]), table)?, set),
+        b'A' | b'B' | b'F' | b'G' => {
+            return answered(out, turn(state, letter, table, word(x)), set);
+        }
+        b'E' | b'U'..=b'W' => call_on_table(out, state, letter, part(l, l[13]), table)?,
+        _ => call_on_lists(out, state.shape, letter, part(l, l[13]), part(i, l[14]), x)?,
     }
-    set
+    Ok(set)
 }
 
 // The library is lent so many places.
 fn call_on_part(
+    out: &impl Print,
     letter: u8,
     x: u64,
     l: &[u32; 16],
     i: &[u32; 16],
     count: u32,
     table: &mut [i64],
-) -> u8 {
+) -> io::Result<u8> {
     let places = count as usize;
     if table.len() < places {
-        return 0;
+        return Ok(0);
     }
-    call(letter, x, l, i, &mut table[..places])
+    call(out, letter, x, l, i, &mut table[..places])
 }
 
 // Where the numbers after a letter go.
@@ -278,50 +316,52 @@ fn named(letter: u8, at: usize) -> usize {
 
 // A letter that ends a number, or stands for one.
 fn ended(
+    out: &impl Print,
     letter: u8,
     desk: Desk,
     l: &mut [u32; 16],
     i: &mut [u32; 16],
     table: &mut [i64; 2048],
-) -> Desk {
+) -> io::Result<Desk> {
     let n = desk.number;
     if letter == b'.' {
-        show(desk.at, table);
+        show(out, desk.at, table)?;
     } else if letter == b',' {
         store(desk.at, n, l, i, table);
     } else {
         store(desk.at, std::num::wrapping_sub_u64(0, n), l, i, table);
     }
-    Desk {
+    Ok(Desk {
         at: std::num::wrapping_add_usize(desk.at, 1),
         number: 0,
-    }
+    })
 }
 
 // One letter.
 pub fn read(
+    out: &impl Print,
     desk: Desk,
     letter: u8,
     l: &mut [u32; 16],
     i: &mut [u32; 16],
     table: &mut [i64; 2048],
-) -> Desk {
+) -> io::Result<Desk> {
     let n = desk.number;
     let at = desk.at;
     match letter {
-        b'0'..=b'9' => Desk {
+        b'0'..=b'9' => Ok(Desk {
             at: at,
             number: longer(n, letter),
-        },
-        b','..=b'.' => ended(letter, desk, l, i, table),
+        }),
+        b','..=b'.' => ended(out, letter, desk, l, i, table),
         b'A'..=b'Z' => {
             let places = l[15];
-            l[SET] = call_on_part(letter, n, l, i, places, table) as u32;
-            Desk { at: at, number: 0 }
+            l[SET] = call_on_part(out, letter, n, l, i, places, table)? as u32;
+            Ok(Desk { at: at, number: 0 })
         }
-        _ => Desk {
+        _ => Ok(Desk {
             at: named(letter, at),
             number: 0,
-        },
+        }),
     }
 }

@@ -1,9 +1,11 @@
-// Standard input, read to its end or until a buffer is full.
+// What a reader gives, as standard input, read to its end or until a buffer is full.
 #![tactic(auto)]
 
+ghost use Rattle.std.specs.Prelude.{◌≡◌, true, ◌<◌, length, take};
+ghost use Rattle.std.specs.Io.KnownBytes.{Consumes, IsAtEnd};
 ghost use Rattle.io.specs.Counts.{IsPrefixLen};
 
-use libc::STDIN_FILENO;
+use std::io::Read;
 
 // How many bytes came, and whether every read succeeded.
 #[derive(Clone, Copy)]
@@ -12,24 +14,33 @@ pub struct Input {
     pub readable: bool,
 }
 
-// Reads standard input to its end or until the buffer is full.
-pub fn read_input(bytes: &mut [u8]) -> Input
-    ensures { IsPrefixLen result.length bytes.new }
+// Reads to the end or until the buffer is full. The bytes that came stand at the start of the buffer. Where every read succeeded and the buffer is not
+// full, no byte is left.
+pub fn read_input<R: Read>(from: &mut R, bytes: &mut [u8]) -> Input
+    ensures prefix_len { IsPrefixLen result.length bytes.new }
+    ensures came { Consumes (R.remaining from.old) (R.remaining from.new) (take result.length bytes.new) }
+    ensures end { result.readable ≡ true → result.length < length bytes.new → IsAtEnd (R.remaining from.new) }
 {
     let mut length: usize = 0;
     while length < bytes.len() {
-        let got = libc::read(STDIN_FILENO, &mut bytes[length..]);
-        let more = io::count(got, &bytes[length..]);
-        if more == 0 {
-            return Input {
-                length: length,
-                readable: got == 0,
-            };
+        match from.read(&mut bytes[length..]) {
+            Ok(0) => {
+                return Input {
+                    length,
+                    readable: true,
+                };
+            }
+            Ok(more) => length += more,
+            Err(_) => {
+                return Input {
+                    length,
+                    readable: false,
+                };
+            }
         }
-        length += more;
     }
     Input {
-        length: length,
+        length,
         readable: true,
     }
 }

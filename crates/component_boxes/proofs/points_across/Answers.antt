@@ -1,13 +1,9 @@
 -- `component_boxes::points_across` meets its contract: two to the level plus one, less one.
 -- Assumes nothing.
 use native.Mathlib.Omega.{arith}
-use lib.Pow.{pow_pos}
 use Rattle.component_grids.specs.Component.{across}
 use Rattle.component_boxes.proofs.Powers.{shifted-two}
 use Rattle.component_boxes.proofs.points_across.Goals as goal
-
-pub overflow_sub-result : goal.overflow_sub-result
-overflow_sub-result c = omega (arith, shifted-two c.args.level c.requires, pow_pos c.args.level)
 
 pub returns : goal.returns
 unfolding across

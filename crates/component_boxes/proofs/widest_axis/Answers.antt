@@ -1,8 +1,7 @@
-use mathlib.Core.Logic.{⊎_elim}
-use Prim.Native.Nat.{◌-◌}
 use native.Mathlib.Omega.{arith}
 use Rattle.component_boxes.proofs.Seeking.{widest-starts, widest-inside, widest-wider, widest-same, widest-ends}
 use Rattle.component_boxes.proofs.widest_axis.Goals as goal
+use Rattle.component_boxes.proofs.widest_axis.Goals.{then-levels-most, else-levels-most}
 
 pub loop-t-init : goal.loop-t-init
 loop-t-init c = widest-starts _ _ c.requires.0
@@ -11,7 +10,7 @@ pub offset_bounds-levels-most : goal.offset_bounds-levels-most
 offset_bounds-levels-most c =
     omega (
       arith,
-      widest-inside c.args.axes c.args.t1 c.loop-t.t c.loop-t.most c.loop-t.invariant c.loop-t-test.true,
+      widest-inside c.args.axes c.args.levels c.loop-t.t c.loop-t.most c.loop-t.invariant c.loop-t-test.true,
       c.requires.1,
     )
 
@@ -19,7 +18,7 @@ pub bounds-levels-most : goal.bounds-levels-most
 bounds-levels-most c =
     omega (
       arith,
-      widest-inside c.args.axes c.args.t1 c.loop-t.t c.loop-t.most c.loop-t.invariant c.loop-t-test.true,
+      widest-inside c.args.axes c.args.levels c.loop-t.t c.loop-t.most c.loop-t.invariant c.loop-t-test.true,
       c.requires.1,
     )
 
@@ -29,10 +28,10 @@ loop-t-preserved c =
     let most = c.loop-t.most in
     let inv = c.loop-t.invariant in
     let taken = c.loop-t-test.true in
-    ⊎_elim
-    (λ w. rw w.1 (widest-wider c.args.axes c.args.t1 t most inv taken w.0.taken))
-    (λ w. rw w.1 (widest-same c.args.axes c.args.t1 t most inv taken w.0.left))
-    c.if-levels-most.branch
+    elim c.if-levels-most.branch [
+      | then-levels-most w ↦ rw w.most-is (widest-wider c.args.axes c.args.levels t most inv taken w.if-levels-most.true)
+      | else-levels-most w ↦ rw w.most-is (widest-same c.args.axes c.args.levels t most inv taken w.if-levels-most.false)
+    ]
 
 pub returns : goal.returns
 returns c = widest-ends _ _ _ _ c.loop-t.invariant c.loop-t-test.false

@@ -8,9 +8,6 @@ use Rattle.component_order.specs.InOrder.{workedIn}
 use Rattle.component_order.proofs.Loading.{loaded-mixed, in-order-is}
 use Rattle.component_order.proofs.in_order.Goals as goal
 
-pub middle_point-requires : goal.middle_point-requires
-middle_point-requires c = c.requires.0
-
 pub work-requires : goal.work-requires
 work-requires c =
     (c.requires.0, rw c.middle_point.ensures (loaded-mixed _ _ _ c.requires.1))

@@ -1,7 +1,6 @@
 use mathlib.Core.Path.{refl}
-use Prim.Native.Nat.{◌-◌, ◌^◌}
+use Prim.Native.Nat.{◌^◌}
 use native.Mathlib.Omega.{arith}
-use lib.Pow.{pow_pos}
 use Rattle.component_sweeps.specs.Steps.{topsOf}
 use Rattle.naturals.proofs.Shifts.{one_shifted}
 use Rattle.component_order.proofs.Counting.{centred-starts, centred-fits, centred-steps, centred-ends}
@@ -9,16 +8,6 @@ use Rattle.component_order.proofs.middle_point.Goals as goal
 
 pub loop-t-init : goal.loop-t-init
 loop-t-init c = centred-starts _
-
-pub overflow_shl-p : goal.overflow_shl-p
-overflow_shl-p c = omega (arith, c.requires.low c.loop-t.t)
-
-pub overflow_sub-p : goal.overflow_sub-p
-overflow_sub-p c =
-    let g = c.args.layout in
-    let t = c.loop-t.t in
-    let shift = one_shifted 64 (topsOf g t) (omega (arith, c.requires.low t)) in
-    omega (arith, pow_pos (topsOf g t))
 
 pub overflow_mul-p : goal.overflow_mul-p
 overflow_mul-p c =

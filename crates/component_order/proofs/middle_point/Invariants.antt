@@ -5,7 +5,7 @@ use Rattle.component_order.proofs.Counting.{Centred}
 use Rattle.component_order.proofs.middle_point.Given as goal
 
 abbrev pub invariant-loop-t : goal.invariant-loop-t
-invariant-loop-t l = Centred (record { l.axes = l.axes; l.tops = l.tops; l.strides = l.strides }) l.t l.p
+invariant-loop-t l = Centred l.fn.layout l.t l.p
 
 abbrev pub decreases-loop-t : goal.decreases-loop-t
 decreases-loop-t l = l.axes - l.t

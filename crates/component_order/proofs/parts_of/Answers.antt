@@ -20,7 +20,7 @@ module _ (c : After-widest_axis-r) where
   r = c.widest_axis-r.result
 
   abbrev levels : List ℕ
-  levels = c.args.t2
+  levels = c.args.levels
 
   small : r < 8
   small = cutting.small c.args.layout levels c.args.centre c.requires.0 c.requires.1 c.requires.2 r c.widest_axis-r.ensures
@@ -43,9 +43,6 @@ module _ (c : After-widest_axis-r) where
   away-right : c.args.centre + away (topsOf c.args.layout) (at levels) r < 32768
   away-right = cutting.away-right c.args.layout levels c.args.centre c.requires.0 c.requires.1 c.requires.2 r c.widest_axis-r.ensures
 
-pub widest_axis-r-requires : goal.widest_axis-r-requires
-widest_axis-r-requires c = (c.requires.0.some, c.requires.0.few)
-
 pub offset_bounds-levels-r : goal.offset_bounds-levels-r
 offset_bounds-levels-r c = omega (arith, small (goal.at.offset_bounds-levels-r c).After-widest_axis-r)
 
@@ -67,9 +64,6 @@ offset_bounds-half-r c = omega (arith, small (goal.at.offset_bounds-half-r c).Af
 pub bounds-half-r : goal.bounds-half-r
 bounds-half-r c = small (goal.at.bounds-half-r c).After-widest_axis-r
 
-pub overflow_cast-away : goal.overflow_cast-away
-overflow_cast-away c = omega (arith, low (goal.at.overflow_cast-away c).After-widest_axis-r)
-
 pub overflow_shl-away : goal.overflow_shl-away
 overflow_shl-away c = omega (arith, low (goal.at.overflow_shl-away c).After-widest_axis-r)
 
@@ -88,17 +82,14 @@ overflow_sub-result c = omega (arith, away-here (goal.at.overflow_sub-result c).
 pub overflow_add-result : goal.overflow_add-result
 overflow_add-result c = omega (arith, away-here (goal.at.overflow_add-result c).After-widest_axis-r, away-right (goal.at.overflow_add-result c).After-widest_axis-r)
 
-pub cut_at-requires : goal.cut_at-requires
-cut_at-requires c = tt
-
 pub returns : goal.returns
 returns c =
-    let long : length c.args.t2 ≡ 8 = c.before.before.before.well-formed.1.0.1.0.1 in
+    let long : length c.args.levels ≡ 8 = omega arith in
     let same = c.widest_axis-r.ensures in
     record {
-      middle = cutting.middle-set c.args.layout c.args.t2 c.args.centre c.requires.0 c.requires.1 c.requires.2 (r (goal.at.returns c).After-widest_axis-r) same long ∙ ap (middleOf (at c.args.t2)) same;
-      half = cutting.half-set c.args.layout c.args.t2 c.args.centre c.requires.0 c.requires.1 c.requires.2 (r (goal.at.returns c).After-widest_axis-r) same long ∙ ap (halfOf (at c.args.t2)) same;
-      left = ap (λ (x : ℕ). c.args.centre - x) (away-here (goal.at.returns c).After-widest_axis-r ∙ ap (away (topsOf c.args.layout) (at c.args.t2)) same);
-      right = ap (λ (x : ℕ). c.args.centre + x) (away-here (goal.at.returns c).After-widest_axis-r ∙ ap (away (topsOf c.args.layout) (at c.args.t2)) same);
+      middle = cutting.middle-set c.args.layout c.args.levels c.args.centre c.requires.0 c.requires.1 c.requires.2 (r (goal.at.returns c).After-widest_axis-r) same long ∙ ap (middleOf (at c.args.levels)) same;
+      half = cutting.half-set c.args.layout c.args.levels c.args.centre c.requires.0 c.requires.1 c.requires.2 (r (goal.at.returns c).After-widest_axis-r) same long ∙ ap (halfOf (at c.args.levels)) same;
+      left = ap (λ (x : ℕ). c.args.centre - x) (away-here (goal.at.returns c).After-widest_axis-r ∙ ap (away (topsOf c.args.layout) (at c.args.levels)) same);
+      right = ap (λ (x : ℕ). c.args.centre + x) (away-here (goal.at.returns c).After-widest_axis-r ∙ ap (away (topsOf c.args.layout) (at c.args.levels)) same);
       cut = c.cut_at.ensures ∙ ap (cut c.args.from c.args.to) same;
     }

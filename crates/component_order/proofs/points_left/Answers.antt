@@ -1,21 +1,15 @@
-use Prim.Native.Nat.{◌-◌}
 use native.Mathlib.Omega.{arith}
-use Rattle.component_order.proofs.Counting.{counted-starts, counted-fits, counted-steps, counted-ends}
+use Rattle.component_order.proofs.Counting.{counted-starts, counted-fits, counted-steps}
 use Rattle.component_order.proofs.points_left.Goals as goal
 
 pub loop-t-init : goal.loop-t-init
 loop-t-init c = counted-starts _ _
 
-pub points_across-points-requires : goal.points_across-points-requires
-points_across-points-requires c =
-    let t = c.loop-t.t in
-    omega (arith, c.requires.1 t c.loop-t-test.true, c.requires.0.low t)
-
 pub overflow_mul-points : goal.overflow_mul-points
 overflow_mul-points c =
     omega (
       arith,
-      counted-fits c.args.layout c.args.t2 c.loop-t.t c.loop-t.points
+      counted-fits c.args.layout c.args.levels c.loop-t.t c.loop-t.points
           c.loop-t.invariant
           c.loop-t-test.true
           c.points_across-points.result
@@ -26,11 +20,8 @@ overflow_mul-points c =
 
 pub loop-t-preserved : goal.loop-t-preserved
 loop-t-preserved c =
-    counted-steps c.args.layout c.args.t2 c.loop-t.t c.loop-t.points
+    counted-steps c.args.layout c.args.levels c.loop-t.t c.loop-t.points
     c.loop-t.invariant
     c.loop-t-test.true
     c.points_across-points.result
     c.points_across-points.ensures
-
-pub returns : goal.returns
-returns c = counted-ends _ _ _ _ c.loop-t.invariant c.loop-t-test.false

@@ -1,16 +1,8 @@
 use mathlib.Core.Path.{◌≡◌}
-use Prim.Native.Nat.{◌-◌}
 use native.Mathlib.Numerals.{add-one}
 use native.Mathlib.Omega.{arith}
-use Rattle.numbering.specs.Point.{at}
-use Rattle.component_order.proofs.Sweeping.{sweep-starts, sweep-asks, sweep-steps, sweep-ends}
+use Rattle.component_order.proofs.Sweeping.{sweep-asks, sweep-steps, sweep-ends}
 use Rattle.component_order.proofs.sweep_box.Goals as goal
-
-pub loop-a-init : goal.loop-a-init
-loop-a-init c =
-    let laid = c.requires.0 in
-    let mixed = c.requires.1 in
-    (omega arith, mixed.order, λ m. sweep-starts _ _ laid.some laid.few _ _ _ _ _ m)
 
 pub sweep-requires : goal.sweep-requires
 sweep-requires c =

@@ -1,5 +1,3 @@
-use mathlib.Core.Path.{◌≡◌}
-use Prim.Native.Nat.{◌-◌}
 use native.Mathlib.Omega.{arith}
 use Rattle.component_sweeps.proofs.Lowering.{band-starts, band-inside, band-can, band-steps}
 use Rattle.component_sweeps.proofs.band.Goals as goal
@@ -19,20 +17,8 @@ pub run-requires : goal.run-requires
 run-requires c =
     band-can _ _ _ _ _ _ _ _ _ c.requires _ c.loop-l-test.true _ c.loop-l.invariant.1
 
-pub overflow_add-l : goal.overflow_add-l
-overflow_add-l c = omega arith
-
-pub loop-l-smaller : goal.loop-l-smaller
-loop-l-smaller c = omega arith
-
 pub loop-l-preserved : goal.loop-l-preserved
-loop-l-preserved c =
-    (
-      omega arith,
-      band-steps _ _ _ _ _ _ _ _ _ c.requires _ c.loop-l-test.true _ c.loop-l.invariant.1 _ c.run.ensures,
-    )
-
-pub returns : goal.returns
-returns c =
-    let all : c.loop-l.l ≡ c.args.lines = omega arith in
-    rw (← all) c.loop-l.invariant.1
+loop-l-preserved c = (
+  omega arith,
+  band-steps _ _ _ _ _ _ _ _ _ c.requires _ c.loop-l-test.true _ c.loop-l.invariant.1 _ c.run.ensures,
+)

@@ -1,4 +1,3 @@
-use Prim.Native.Nat.{◌-◌}
 use Rattle.component_sweeps.proofs.Covering.{covers-none}
 use Rattle.component_sweeps.proofs.bands.Goals as goal
 

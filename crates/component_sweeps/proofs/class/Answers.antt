@@ -1,8 +1,6 @@
-use Prim.Native.Nat.{◌-◌, ◌<◌}
 use native.Mathlib.Omega.{arith}
 use Rattle.component_sweeps.proofs.Lines.{parents-tested}
-use Rattle.component_sweeps.proofs.Classes.{reach-some, reach-most, high-most, far-most, start-most, first-most, passing-most, passing-starts, passing-can, passing-steps, passing-ends}
-use Rattle.component_sweeps.proofs.class.Goals.{After-table-1, At-loop-x}
+use Rattle.component_sweeps.proofs.Classes.{reach-most, high-most, far-most, start-most, first-most, passing-most, passing-starts, passing-can, passing-steps, passing-ends}
 use Rattle.component_sweeps.proofs.class.Goals as goal
 
 pub overflow_mul-far : goal.overflow_mul-far
@@ -12,9 +10,6 @@ pub overflow_add-x : goal.overflow_add-x
 overflow_add-x c =
     let of = c.requires.of in
     omega (arith, reach-most _ _ _ _ _ _ _ _ _ _ _ _ of, high-most _ _ _ _ _ _ _ _ _ _ _ _ of, of.lowIs, of.highIs)
-
-pub overflow_sub-p : goal.overflow_sub-p
-overflow_sub-p c = omega (arith, reach-some _ _ _ _ _ _ _ _ _ _ _ _ c.requires.of)
 
 pub overflow_mul-p : goal.overflow_mul-p
 overflow_mul-p c = omega (arith, start-most _ _ _ _ _ _ _ _ _ _ _ _ c.requires.of)
@@ -35,40 +30,27 @@ lower-requires c =
     let of = c.requires.of in
     passing-can _ _ _ _ _ _ _ _ _ _ _ _ of _ _ _ (c.loop-x.invariant _ of) c.loop-x-test.true _ _ (parents-tested _ _ _)
 
--- The loop as it stands after a turn's run.
-abbrev loop-at : After-table-1 → At-loop-x
-loop-at c = c.before.before.before.before
-
-less : (c : After-table-1) → (loop-at c).loop-x.x < (loop-at c).args.high
-less c = c.loop-x-test.true
-
-pub overflow_mul-x : goal.overflow_mul-x
-overflow_mul-x c = omega (arith, reach-most _ _ _ _ _ _ _ _ _ _ _ _ (loop-at (goal.at.overflow_mul-x c).After-table-1).requires.of)
-
 pub overflow_add-x-in-loop-x-2 : goal.overflow_add-x-in-loop-x-2
 overflow_add-x-in-loop-x-2 c =
-    let of = (loop-at (goal.at.overflow_add-x-in-loop-x-2 c).After-table-1).requires.of in
-    omega (arith, reach-most _ _ _ _ _ _ _ _ _ _ _ _ of, high-most _ _ _ _ _ _ _ _ _ _ _ _ of, less (goal.at.overflow_add-x-in-loop-x-2 c).After-table-1)
+    let of = c.requires.of in
+    omega (arith, reach-most _ _ _ _ _ _ _ _ _ _ _ _ of, high-most _ _ _ _ _ _ _ _ _ _ _ _ of, c.loop-x-test.true)
 
 pub overflow_mul-p-in-loop-x : goal.overflow_mul-p-in-loop-x
-overflow_mul-p-in-loop-x c = omega (arith, far-most _ _ _ _ _ _ _ _ _ _ _ _ (loop-at (goal.at.overflow_mul-p-in-loop-x c).After-table-1).requires.of)
+overflow_mul-p-in-loop-x c = omega (arith, far-most _ _ _ _ _ _ _ _ _ _ _ _ c.requires.of)
 
 pub overflow_add-p-in-loop-x : goal.overflow_add-p-in-loop-x
 overflow_add-p-in-loop-x c =
-    let of = (loop-at (goal.at.overflow_add-p-in-loop-x c).After-table-1).requires.of in
+    let of = c.requires.of in
     omega (
       arith,
       far-most _ _ _ _ _ _ _ _ _ _ _ _ of,
-      passing-most _ _ _ _ _ _ _ _ _ _ _ _ of _ _ _ ((loop-at (goal.at.overflow_add-p-in-loop-x c).After-table-1).loop-x.invariant _ of) (less (goal.at.overflow_add-p-in-loop-x c).After-table-1),
+      passing-most _ _ _ _ _ _ _ _ _ _ _ _ of _ _ _ (c.loop-x.invariant _ of) c.loop-x-test.true,
     )
-
-pub loop-x-smaller : goal.loop-x-smaller
-loop-x-smaller c = omega (arith, less (goal.at.loop-x-smaller c).After-table-1, reach-some _ _ _ _ _ _ _ _ _ _ _ _ (loop-at (goal.at.loop-x-smaller c).After-table-1).requires.of)
 
 pub loop-x-preserved : goal.loop-x-preserved
 loop-x-preserved c =
     λ g of.
-    passing-steps _ _ _ _ _ _ _ _ _ _ _ _ of _ _ _ ((loop-at (goal.at.loop-x-preserved c).After-table-1).loop-x.invariant g of) (less (goal.at.loop-x-preserved c).After-table-1) _ _ (parents-tested _ _ _) _ c.lower.ensures
+    passing-steps _ _ _ _ _ _ _ _ _ _ _ _ of _ _ _ (c.loop-x.invariant g of) c.loop-x-test.true _ _ (parents-tested _ _ _) _ c.lower.ensures
 
 pub returns : goal.returns
 returns c = λ g of. passing-ends _ _ _ _ _ _ _ _ _ _ _ _ of _ _ _ (c.loop-x.invariant g of) (omega arith)

@@ -1,8 +1,6 @@
-use Prim.Native.Nat.{◌-◌}
 use native.Mathlib.Omega.{arith}
 use Rattle.component_sweeps.proofs.Lines.{parents-tested}
-use Rattle.component_sweeps.proofs.Refining.{half-fits, half-some, own-most, far-most, middle-most, first-most, refining-starts, refining-some, refining-class, refining-steps, last-can, line-ends, line-still}
-use Rattle.component_sweeps.proofs.line.Goals.{After-table-1, At-loop-finer}
+use Rattle.component_sweeps.proofs.Refining.{half-fits, own-most, far-most, middle-most, first-most, refining-starts, refining-class, refining-steps, last-can, line-ends, line-still}
 use Rattle.component_sweeps.proofs.line.Goals as goal
 
 pub overflow_sub-low : goal.overflow_sub-low
@@ -22,23 +20,10 @@ class-requires c =
       of = refining-class _ _ _ _ _ _ _ _ _ _ _ _ of _ _ (c.loop-finer.invariant _ of) c.loop-finer-test.true;
     }
 
--- The loop as it stands after a turn.
-abbrev loop-at : After-table-1 → At-loop-finer
-loop-at c = c.before.before.before.before
-
-pub overflow_mul-finer : goal.overflow_mul-finer
-overflow_mul-finer c =
-    omega (arith, c.loop-finer-test.true, half-fits _ _ _ _ _ _ _ _ _ _ _ _ (loop-at (goal.at.overflow_mul-finer c).After-table-1).requires.of)
-
-pub loop-finer-smaller : goal.loop-finer-smaller
-loop-finer-smaller c =
-    let of = (loop-at (goal.at.loop-finer-smaller c).After-table-1).requires.of in
-    omega (arith, c.loop-finer-test.true, refining-some _ _ _ _ _ _ _ _ _ _ _ _ of _ _ ((loop-at (goal.at.loop-finer-smaller c).After-table-1).loop-finer.invariant _ of))
-
 pub loop-finer-preserved : goal.loop-finer-preserved
 loop-finer-preserved c =
     λ g of.
-    let s = (loop-at (goal.at.loop-finer-preserved c).After-table-1).loop-finer.invariant g of in
+    let s = c.loop-finer.invariant g of in
     let less = c.loop-finer-test.true in
     refining-steps _ _ _ _ _ _ _ _ _ _ _ _ of _ _ s less _ (c.class.ensures g (refining-class _ _ _ _ _ _ _ _ _ _ _ _ of _ _ s less))
 
@@ -51,9 +36,6 @@ pub returns-then-place-reach-2 : goal.returns-then-place-reach-2
 returns-then-place-reach-2 c =
     λ g of.
     line-still _ _ _ _ _ _ _ _ _ _ _ _ of _ _ (c.loop-finer.invariant g of) c.loop-finer-test.false c.if-place-reach.true c.if-place-reach-2.true
-
-pub overflow_sub-half : goal.overflow_sub-half
-overflow_sub-half c = half-some _ _ _ _ _ _ _ _ _ _ _ _ c.requires.of
 
 pub overflow_mul-half : goal.overflow_mul-half
 overflow_mul-half c = omega (arith, middle-most _ _ _ _ _ _ _ _ _ _ _ _ c.requires.of)

@@ -21,12 +21,6 @@ zeros-few x some less =
     (λ le. absurd (omega (arith, pow_mono {i = 9} {j = twos x} le, reach-le x some)))
     (λ lt. omega (arith, zeros-are x some less))
 
-pub overflow_cast-result : goal.overflow_cast-result
-overflow_cast-result c = omega (arith, zeros-few c.args.place c.requires.0 c.requires.1)
-
-pub overflow_shl-result : goal.overflow_shl-result
-overflow_shl-result c = omega (arith, zeros-few c.args.place c.requires.0 c.requires.1)
-
 pub returns : goal.returns
 returns c =
     one_shifted 64 _ (omega (arith, zeros-few c.args.place c.requires.0 c.requires.1))

@@ -1,5 +1,3 @@
-use mathlib.Core.Path.{◌≡◌}
-use Prim.Native.Nat.{◌-◌}
 use native.Mathlib.Omega.{arith}
 use Rattle.component_sweeps.proofs.Lowering.{run-starts, run_step, run-steps}
 use Rattle.component_sweeps.proofs.run.Goals as goal
@@ -19,20 +17,8 @@ pub step-requires : goal.step-requires
 step-requires c =
     run_step _ _ _ _ _ _ _ c.requires _ c.loop-i-test.true _ c.loop-i.invariant.1
 
-pub overflow_add-i : goal.overflow_add-i
-overflow_add-i c = omega arith
-
-pub loop-i-smaller : goal.loop-i-smaller
-loop-i-smaller c = omega arith
-
 pub loop-i-preserved : goal.loop-i-preserved
-loop-i-preserved c =
-    (
-      omega arith,
-      rw c.step.ensures (run-steps _ _ _ _ _ _ _ c.requires _ c.loop-i-test.true _ c.loop-i.invariant.1),
-    )
-
-pub returns : goal.returns
-returns c =
-    let all : c.loop-i.i ≡ c.args.width = omega arith in
-    rw (← all) c.loop-i.invariant.1
+loop-i-preserved c = (
+  omega arith,
+  rw c.step.ensures (run-steps _ _ _ _ _ _ _ c.requires _ c.loop-i-test.true _ c.loop-i.invariant.1),
+)

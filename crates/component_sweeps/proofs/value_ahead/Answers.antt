@@ -12,21 +12,12 @@ use Rattle.hierarchy.proofs.Values.{value-zero, value-suc}
 use Rattle.component_sweeps.specs.Steps.{ahead}
 use Rattle.component_sweeps.proofs.value_ahead.Goals as goal
 
-pub overflow_add-result : goal.overflow_add-result
-overflow_add-result c = omega (arith, c.requires c.if-some.true, c.before.well-formed)
-
-pub offset_bounds-table-p : goal.offset_bounds-table-p
-offset_bounds-table-p c = omega (arith, c.requires c.if-some.true, c.before.well-formed)
-
-pub bounds-table-p : goal.bounds-table-p
-bounds-table-p c = omega (arith, c.requires c.if-some.true)
-
 pub returns-then-some : goal.returns-then-some
 returns-then-some c =
     let xs = c.args.table.now in
     let p = c.args.p in
     let far = c.args.far in
-    to_z-of_z w64 (get_or xs (p + far) (pos 0)) (record { sfits = c.result-1.given })
+    to_z-of_z w64 (get_or xs (p + far) (pos 0)) (record { sfits = omega arith })
     ∙ sym (value-suc xs (p + far))
     ∙ ap (λ some. valueAt xs (ahead p far some)) (sym c.if-some.true)
 

@@ -12,21 +12,12 @@ use Rattle.hierarchy.proofs.Values.{value-zero, value-suc}
 use Rattle.component_sweeps.specs.Steps.{behind}
 use Rattle.component_sweeps.proofs.value_behind.Goals as goal
 
-pub overflow_sub-result : goal.overflow_sub-result
-overflow_sub-result c = omega (arith, c.requires c.if-some.true, c.before.well-formed)
-
-pub offset_bounds-table-p : goal.offset_bounds-table-p
-offset_bounds-table-p c = omega (arith, c.requires c.if-some.true, c.before.well-formed)
-
-pub bounds-table-p : goal.bounds-table-p
-bounds-table-p c = omega (arith, c.requires c.if-some.true)
-
 pub returns-then-some : goal.returns-then-some
 returns-then-some c =
     let xs = c.args.table.now in
     let p = c.args.p in
     let far = c.args.far in
-    to_z-of_z w64 (get_or xs (p - far) (pos 0)) (record { sfits = c.result-1.given })
+    to_z-of_z w64 (get_or xs (p - far) (pos 0)) (record { sfits = omega arith })
     ∙ sym (value-suc xs (p - far))
     ∙ ap (λ some. valueAt xs (behind p far some)) (sym c.if-some.true)
 

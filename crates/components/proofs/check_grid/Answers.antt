@@ -18,9 +18,6 @@ pub returns-in-Refused : goal.returns-in-Refused
 unfolding checkGrid
 returns-in-Refused c = rw (← c.check_levels.ensures, c.in-Refused.is)
 
-pub count_points-requires : goal.count_points-requires
-count_points-requires c = passed (goal.at.count_points-requires c).In_default
-
 pub returns-then-count_points-gt-MOST_POINTS : goal.returns-then-count_points-gt-MOST_POINTS
 unfolding checkGrid
 returns-then-count_points-gt-MOST_POINTS c =

@@ -1,4 +1,3 @@
-use Prim.Native.Nat.{◌-◌}
 use native.Mathlib.Omega.{arith}
 use borrow.Author.Count.{below_more}
 use borrow.Author.Rules.{rules}
@@ -17,9 +16,6 @@ unfolding checkLevels
 returns-then-levels-gt8 c =
     let ls = c.args.levels.now in
     simp (le-leb 1 (length ls) (omega arith), lt-leb (length ls) 8 (omega arith))
-
-pub loop-t-init : goal.loop-t-init
-loop-t-init c = (search rules, λ t h. absurd (omega arith))
 
 pub returns-then-levels-t-gt8 : goal.returns-then-levels-t-gt8
 unfolding checkLevels lowAt

@@ -1,4 +1,3 @@
-use Prim.Native.Nat.{◌-◌}
 use native.Mathlib.Omega.{arith}
 use Rattle.components.proofs.Checked.{levels-passed}
 use Rattle.components.proofs.Counting.{counted-starts, counted-fits, counted-steps, counted-stops, counted-ends}

@@ -1,5 +1,4 @@
 use mathlib.Core.Path.{refl}
-use Prim.Native.Nat.{◌-◌}
 use native.Mathlib.Omega.{arith}
 use Rattle.components.proofs.Checked.{levels-passed, grid-levels}
 use Rattle.components.proofs.Counting.{counted-fits}

@@ -1,11 +1,10 @@
 use mathlib.Core.Path.{◌≡◌, sym, ◌∙◌}
-use Prim.Native.Nat.{◌-◌}
 use native.Mathlib.Numerals.{add-one}
 use native.Mathlib.Omega.{arith}
 use lib.ListN.{length}
 use borrow.Author.Count.{below_more}
 use borrow.Author.Rules.{rules}
-use borrow.Author.Tests.{eq-eqb, ne_eqb, le-leb, lt-leb, not-true, not-false}
+use borrow.Author.Tests.{eq-eqb, ne_eqb, le-leb, lt-leb}
 use Rattle.naturals.specs.FirstFailing.{firstFailing}
 use Rattle.naturals.proofs.FirstFailing.{first-none, first-at}
 use Rattle.estimates.specs.Estimates.{insideAt, firstOutside, checkCoordinates}
@@ -17,15 +16,6 @@ unfolding checkCoordinates
 returns-then-coordinates-axes c =
     let a = c.args in
     rw (ne_eqb (length a.coordinates.now) a.axes (λ e. omega (arith, e, c.if-coordinates-axes.true)))
-
-pub loop-t-init : goal.loop-t-init
-loop-t-init c = (search rules, λ k h. absurd (omega arith))
-
-pub offset_bounds-coordinates-t : goal.offset_bounds-coordinates-t
-offset_bounds-coordinates-t c = record { fits = omega arith }
-
-pub bounds-coordinates-t : goal.bounds-coordinates-t
-bounds-coordinates-t c = omega (arith, c.if-coordinates-axes.false)
 
 -- the test's answer
 tested : (c : After-is_coordinate) →
@@ -39,7 +29,7 @@ returns-then-not-is_coordinate c =
     let loop = c.loop-t in
     let a = c.args in
     let first : firstFailing (insideAt a.coordinates.now) a.axes ≡ loop.t =
-    first-at (insideAt a.coordinates.now) a.axes loop.t loop.invariant.1 (tested (goal.at.returns-then-not-is_coordinate c).After-is_coordinate ∙ not-true _ c.if-not-is_coordinate.true) (omega arith) in
+    first-at (insideAt a.coordinates.now) a.axes loop.t loop.invariant.1 (tested (goal.at.returns-then-not-is_coordinate c).After-is_coordinate ∙ c.if-not-is_coordinate.true) (omega arith) in
     rw (
       eq-eqb (length a.coordinates.now) a.axes (omega (arith, c.if-coordinates-axes.false)),
       first,
@@ -50,7 +40,7 @@ returns-then-not-is_coordinate c =
 pub loop-t-preserved : goal.loop-t-preserved
 loop-t-preserved c = (
   search rules,
-  below_more _ _ c.loop-t.invariant.1 (tested (goal.at.loop-t-preserved c).After-is_coordinate ∙ not-false _ c.if-not-is_coordinate.false),
+  below_more _ _ c.loop-t.invariant.1 (tested (goal.at.loop-t-preserved c).After-is_coordinate ∙ c.if-not-is_coordinate.false),
 )
 
 pub returns : goal.returns

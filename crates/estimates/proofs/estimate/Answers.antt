@@ -4,7 +4,6 @@ use mathlib.Core.Path.{◌≡◌, ap, sym, ◌∙◌}
 use lib.ListN.{length}
 use mir.Syntax.{w64}
 use mir.ValLaws.{to_z-of_z}
-use borrow.Author.Tests.{not-true, not-false}
 use Rattle.refusals.specs.declared.Verdict.TheVariants.{Passed}
 use Rattle.states.specs.States.{checkState}
 use Rattle.estimates.specs.declared.Estimated.TheVariants.{Value}
@@ -53,18 +52,18 @@ returns-then-not-all_in_limit c =
     let a = c.args in
     sym
     (past-limit a.state a.table.now a.coordinates.now (checked (goal.at.returns-then-not-all_in_limit c).In_default) (forward (goal.at.returns-then-not-all_in_limit c).In_default-check_forward) (listed (goal.at.returns-then-not-all_in_limit c).In_default-check_coordinates)
-    (sym c.all_in_limit.ensures ∙ not-true _ c.if-not-all_in_limit.true))
+    (sym c.all_in_limit.ensures ∙ c.if-not-all_in_limit.true))
 
 pub evaluate-requires : goal.evaluate-requires
 evaluate-requires c =
     let a = c.args in
     evaluable a.state a.table.now a.coordinates.now (checked (goal.at.evaluate-requires c).In_default) (forward (goal.at.evaluate-requires c).In_default-check_forward) (listed (goal.at.evaluate-requires c).In_default-check_coordinates)
-    (sym c.all_in_limit.ensures ∙ not-false _ c.if-not-all_in_limit.false)
+    (sym c.all_in_limit.ensures ∙ c.if-not-all_in_limit.false)
 
 pub returns : goal.returns
 returns c =
     let a = c.args in
-    ap Value (to_z-of_z w64 c.evaluate.result (record { sfits = c.evaluate.type-inv }) ∙ c.evaluate.ensures)
+    ap Value (to_z-of_z w64 c.evaluate.result (record { sfits = c.evaluate.type_inv }) ∙ c.evaluate.ensures)
     ∙ sym
     (estimated a.state a.table.now a.coordinates.now (checked (goal.at.returns c).In_default) (forward (goal.at.returns c).In_default-check_forward) (listed (goal.at.returns c).In_default-check_coordinates)
-    (sym c.all_in_limit.ensures ∙ not-false _ c.if-not-all_in_limit.false))
+    (sym c.all_in_limit.ensures ∙ c.if-not-all_in_limit.false))

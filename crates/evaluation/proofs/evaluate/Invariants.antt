@@ -2,15 +2,13 @@
 -- Assumes nothing.
 use Prim.Native.Nat.{◌-◌}
 use lib.ListN.{length}
-use mir.Syntax.{w64}
-use mir.Val.{to_z}
 use Rattle.numbering.specs.Point.{at}
 use Rattle.evaluation.proofs.Walking.{Walked}
 use Rattle.evaluation.proofs.evaluate.Given as goal
 
 abbrev pub invariant-loop-first : goal.invariant-loop-first
 invariant-loop-first l =
-    Walked l.shape l.table (at l.coordinates) (to_z w64 l.high) l.low l.first l.sum l.levels
+    Walked l.shape l.table (at l.coordinates) l.high l.low l.first l.sum l.levels
 
 abbrev pub decreases-loop-first : goal.decreases-loop-first
 decreases-loop-first l =

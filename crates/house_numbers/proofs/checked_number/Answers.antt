@@ -13,9 +13,3 @@ overflow_add-result c = search (rules, first-there c.args.bytes.now c.args.from 
 pub returns-then-first-lt128 : goal.returns-then-first-lt128
 returns-then-first-lt128 c =
     one-byte-read c.args.bytes.now c.args.from (first-there c.args.bytes.now c.args.from c.requires) c.if-first-lt128.true
-
-pub long_checked-requires : goal.long_checked-requires
-long_checked-requires c = c.requires
-
-pub returns : goal.returns
-returns c = c.long_checked.ensures

@@ -7,7 +7,7 @@ use Rattle.house_numbers.specs.Reading.{got}
 use Rattle.house_numbers.specs.Numbers.{largest}
 use Rattle.house_numbers.proofs.Gathering.{gathered-starts, sum_fits, gathered-steps}
 use Rattle.house_numbers.proofs.CheckedNumbers.{byte-there, fifth-last, value-filed, value_read}
-use Rattle.house_numbers.proofs.long_checked.Goals.{After-loop-shift, After-placed-2, After-shared_slice_known-2-1, In-loop-shift}
+use Rattle.house_numbers.proofs.long_checked.Goals.{After-loop-shift, After-placed-2, In-loop-shift}
 use Rattle.house_numbers.proofs.long_checked.Goals as goal
 
 -- a byte follows
@@ -18,12 +18,12 @@ there c = byte-there c.loop-shift.invariant.0 (omega (arith, c.loop-shift.invari
 past : (c : After-loop-shift) → c.loop-shift.at < length c.args.bytes.now
 past c = byte-there c.loop-shift.invariant.0 (omega (arith, c.loop-shift.invariant.1)) c.requires
 
-ends : (c : After-shared_slice_known-2-1) →
+ends : (c : After-loop-shift) →
     get_or c.args.bytes.now c.loop-shift.at 0 < 128
 ends c =
     let loop = c.loop-shift in
     fifth-last loop.invariant.0 (omega (arith, loop.invariant.1)) c.requires (omega arith)
-    (omega (arith, c.shared_slice_known-2-1.given loop.at))
+    (omega (arith, c.type_inv.bytes loop.at))
 
 pub loop-shift-init : goal.loop-shift-init
 loop-shift-init c = (gathered-starts _ _, omega arith)
@@ -33,9 +33,6 @@ bounds-bytes-at c = there (goal.at.bounds-bytes-at c).In-loop-shift
 
 pub overflow_add-at : goal.overflow_add-at
 overflow_add-at c = search (rules, there (goal.at.overflow_add-at c).In-loop-shift)
-
-pub placed-requires : goal.placed-requires
-placed-requires c = (omega arith, omega (arith, c.loop-shift.invariant.1))
 
 pub overflow_add-result : goal.overflow_add-result
 overflow_add-result c =
@@ -53,11 +50,6 @@ returns-then-byte-lt128 c =
     let loop = c.loop-shift in
     rw c.placed.ensures (value_read loop.invariant.0 (omega (arith, loop.invariant.1)) c.requires c.if-byte-lt128.true)
 
-pub placed-value-requires : goal.placed-value-requires
-placed-value-requires c =
-    let loop = c.loop-shift in
-    (omega (arith, c.shared_slice_known-in-loop-shift-1.given loop.at), omega (arith, loop.invariant.1))
-
 pub overflow_add-value : goal.overflow_add-value
 overflow_add-value c =
     let loop = c.loop-shift in
@@ -65,16 +57,15 @@ overflow_add-value c =
     omega (
       arith,
       c.placed-value.ensures,
-      sum_fits loop.invariant.0 (omega (arith, loop.invariant.1)) (byte - 128) (omega (arith, c.shared_slice_known-in-loop-shift-1.given loop.at)),
+      sum_fits loop.invariant.0 (omega (arith, loop.invariant.1)) (byte - 128) (omega arith),
     )
 
 pub loop-shift-preserved : goal.loop-shift-preserved
 loop-shift-preserved c =
-    let loop = c.loop-shift in
-    (
+    let loop = c.loop-shift in (
       rw c.placed-value.ensures
           (gathered-steps loop.invariant.0 (omega (arith, loop.invariant.1)) (there (goal.at.loop-shift-preserved c).In-loop-shift)
-          (omega (arith, c.shared_slice_known-in-loop-shift-1.given loop.at)) (omega arith)),
+          (omega arith) (omega arith)),
       omega (arith, loop.invariant.0.places),
     )
 
@@ -82,7 +73,7 @@ pub bounds-bytes-at-2 : goal.bounds-bytes-at-2
 bounds-bytes-at-2 c = past (goal.at.bounds-bytes-at-2 c).After-loop-shift
 
 pub placed-requires-2 : goal.placed-requires-2
-placed-requires-2 c = (ends (goal.at.placed-requires-2 c).After-shared_slice_known-2-1, omega arith)
+placed-requires-2 c = (ends (goal.at.placed-requires-2 c).After-loop-shift, omega arith)
 
 -- the shift is 28
 whole : (c : After-placed-2) →
@@ -98,13 +89,13 @@ whole c =
 pub overflow_add-result-2 : goal.overflow_add-result-2
 overflow_add-result-2 c =
     let loop = c.loop-shift in
-    omega (arith, whole (goal.at.overflow_add-result-2 c).After-placed-2, sum_fits loop.invariant.0 (omega (arith, loop.invariant.1)) _ (ends (goal.at.overflow_add-result-2 c).After-shared_slice_known-2-1))
+    omega (arith, whole (goal.at.overflow_add-result-2 c).After-placed-2, sum_fits loop.invariant.0 (omega (arith, loop.invariant.1)) _ (ends (goal.at.overflow_add-result-2 c).After-loop-shift))
 
 pub overflow_cast-result-2 : goal.overflow_cast-result-2
 unfolding largest
 overflow_cast-result-2 c =
     let loop = c.loop-shift in
-    omega (arith, whole (goal.at.overflow_cast-result-2 c).After-placed-2, value-filed loop.invariant.0 (omega (arith, loop.invariant.1)) c.requires (ends (goal.at.overflow_cast-result-2 c).After-shared_slice_known-2-1))
+    omega (arith, whole (goal.at.overflow_cast-result-2 c).After-placed-2, value-filed loop.invariant.0 (omega (arith, loop.invariant.1)) c.requires (ends (goal.at.overflow_cast-result-2 c).After-loop-shift))
 
 pub overflow_add-result-3 : goal.overflow_add-result-3
 overflow_add-result-3 c = search (rules, past (goal.at.overflow_add-result-3 c).After-loop-shift)
@@ -113,4 +104,4 @@ pub returns : goal.returns
 returns c =
     let loop = c.loop-shift in
     ap (λ (v : ℕ). got v (drop (loop.at + 1) c.args.bytes.now)) (whole (goal.at.returns c).After-placed-2)
-    ∙ value_read loop.invariant.0 (omega (arith, loop.invariant.1)) c.requires (ends (goal.at.returns c).After-shared_slice_known-2-1)
+    ∙ value_read loop.invariant.0 (omega (arith, loop.invariant.1)) c.requires (ends (goal.at.returns c).After-loop-shift)

@@ -31,20 +31,20 @@ returns-then-byte-lt128 c =
 pub placed-value-requires : goal.placed-value-requires
 placed-value-requires c =
     let loop = c.loop-shift in
-    (omega (arith, c.shared_slice_known-in-loop-shift-1.given loop.at), shift_small loop.invariant (omega arith))
+    (omega arith, shift_small loop.invariant (omega arith))
 
 pub overflow_add-value-in-loop-shift : goal.overflow_add-value-in-loop-shift
 overflow_add-value-in-loop-shift c =
     let loop = c.loop-shift in
     let byte = get_or c.args.bytes.now loop.at 0 in
     omega
-    (arith, c.placed-value.ensures, sum_fits loop.invariant (omega arith) (byte - 128) (omega (arith, c.shared_slice_known-in-loop-shift-1.given loop.at)))
+    (arith, c.placed-value.ensures, sum_fits loop.invariant (omega arith) (byte - 128) (omega arith))
 
 pub loop-shift-preserved : goal.loop-shift-preserved
 loop-shift-preserved c =
     let loop = c.loop-shift in
     rw c.placed-value.ensures
-    (gathered-steps loop.invariant (omega arith) (omega arith) (omega (arith, c.shared_slice_known-in-loop-shift-1.given loop.at)) (omega arith))
+    (gathered-steps loop.invariant (omega arith) (omega arith) (omega arith) (omega arith))
 
 pub returns : goal.returns
 returns c = sym (too_long c.loop-shift.invariant (omega arith))

@@ -10,6 +10,3 @@ returns-then-bytes-from c = no_byte c.args.bytes.now c.args.from (omega arith)
 pub returns-then-first-lt128 : goal.returns-then-first-lt128
 returns-then-first-lt128 c =
     let a = c.args in one-byte-read a.bytes.now a.from (omega arith) (omega arith)
-
-pub returns : goal.returns
-returns c = c.long_number.ensures

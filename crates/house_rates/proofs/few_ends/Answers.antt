@@ -1,5 +1,3 @@
-use mathlib.Core.Path.{◌≡◌}
-use Prim.Native.Nat.{◌-◌}
 use native.Mathlib.Omega.{arith}
 use lib.ListN.{get_or}
 use borrow.Author.Rules.{rules}
@@ -16,8 +14,3 @@ overflow_add-count c =
 
 pub loop-at-preserved : goal.loop-at-preserved
 loop-at-preserved c = (rw c.is_end-count.ensures (counted-one c.loop-at.invariant.0 (omega arith)), search rules)
-
-pub returns : goal.returns
-returns c =
-    let all : c.loop-at.at ≡ c.args.to = omega (arith, c.loop-at.invariant.1) in
-    rw (← all) c.loop-at.invariant.0

@@ -1,5 +1,4 @@
 use mathlib.Core.Path.{sym, ◌∙◌}
-use Prim.Native.Nat.{◌-◌}
 use native.Mathlib.Omega.{arith}
 use mir.Syntax.{w64}
 use mir.Val.{to_z, of_z}
@@ -20,7 +19,7 @@ loop-p-preserved c =
     let filed = c.checked_number-number.result in
     filled-steps loop.invariant c.loop-p-test.true c.requires.1 filed.value filed.next (sym c.checked_number-number.ensures)
     (to_z w64 (of_z w64 c.rate_of.result))
-    (to_z-of_z w64 c.rate_of.result (record { sfits = c.rate_of.type-inv }) ∙ c.rate_of.ensures)
+    (to_z-of_z w64 c.rate_of.result (record { sfits = c.rate_of.type_inv }) ∙ c.rate_of.ensures)
 
 pub returns : goal.returns
 returns c = filled-ends c.loop-p.invariant (omega arith)

@@ -1,4 +1,3 @@
-use Prim.Native.Nat.{◌-◌}
 use native.Mathlib.Omega.{arith}
 use borrow.Author.Tests.{not-true}
 use Rattle.house_rates.proofs.FiveBytes.{clear-starts, past_end, clear-steps, clear-ends}

@@ -1,9 +1,8 @@
 -- `house_writer::form_has_room` meets its contract: the form is never longer than the file, and where there are fewer bytes they are summed.
 -- Assumes nothing.
-use mathlib.Core.Path.{sym, ap}
+use mathlib.Core.Path.{sym}
 use Prim.Native.Nat.{ℕ, ◌+◌}
 use native.Mathlib.Omega.{arith}
-use lib.Dec.{leb}
 use lib.ListN.{drop}
 use lib.Seq.{get_or-drop}
 use borrow.Author.Tests.{le-leb}
@@ -17,11 +16,8 @@ pub returns-then-bytes-room : goal.returns-then-bytes-room
 returns-then-bytes-room c =
     let a = c.args in
     let byte : Bytes (drop a.from a.bytes.now) =
-    λ (i : ℕ). omega (arith, c.shared_slice_known-1.given (a.from + i), get_or-drop a.from a.bytes.now i 0) in
+    λ (i : ℕ). omega (arith, c.type_inv.bytes (a.from + i), get_or-drop a.from a.bytes.now i 0) in
     sym (le-leb _ a.room (omega (arith, c.requires.2, read-few a.count (drop a.from a.bytes.now) byte c.requires.0)))
-
-pub form_size-requires : goal.form_size-requires
-form_size-requires c = (c.requires.0, c.requires.1)
 
 pub overflow_add-result : goal.overflow_add-result
 overflow_add-result c =
@@ -34,6 +30,3 @@ overflow_add-result c =
       read-many a.count rest c.requires.0,
       c.requires.1,
     )
-
-pub returns : goal.returns
-returns c = ap (λ (n : ℕ). leb (2 + n) c.args.room) c.form_size.ensures

@@ -1,5 +1,4 @@
 use mathlib.Core.Path.{sym}
-use Prim.Native.Nat.{◌-◌}
 use native.Mathlib.Omega.{arith}
 use Rattle.house_rates.proofs.Walking.{read_here}
 use Rattle.house_writer.proofs.Forms.{formed-starts, formed-room, formed-steps, formed-ends}

@@ -1,122 +1,121 @@
 -- `house_writer::rewrite_table` meets its contract: where the reader's checks pass, the form of what is read is put, part by part.
 -- Assumes nothing.
 use mathlib.Core.Path.{◌≡◌, sym, ap, ◌∙◌}
+use mathlib.Core.Bool.{true, false}
 use mathlib.Core.List.{List}
-use Prim.Native.Nat.{ℕ, ◌≤◌}
+use Prim.Native.Nat.{ℕ, ◌+◌, ◌≤◌, ◌<◌}
 use native.Mathlib.Omega.{arith}
 use lib.Dec.{leb}
 use lib.IntN.{ℤ}
 use lib.ListN.{length, drop}
-use borrow.Author.Tests.{not-true, not-false, leb-true, leb-false}
+use borrow.Author.Tests.{leb-true, leb-false}
 use Rattle.refusals.specs.declared.Verdict.TheVariants.{Passed}
+use Rattle.shapes.specs.declared.Shape.{Shape}
 use Rattle.shapes.specs.Shapes.{checkShape, pointsOf}
 use Rattle.shapes.proofs.Totals.{points-small}
 use Rattle.buffers.proofs.Puts.{put-length}
 use Rattle.house_rates.specs.Rates.{readRates}
 use Rattle.house_file.specs.Files.{readTable}
-use Rattle.house_rates.specs.Steps.{ratesRead}
+use Rattle.house_rates.specs.Steps.{checkedRates, ratesRead}
 use Rattle.house_file.specs.Steps.{checkedRest}
-use Rattle.house_file.specs.Written.{writtenFile}
+use Rattle.house_file.specs.Written.{writtenRates, writtenFile}
 use Rattle.house_file.proofs.Answering.{table-refused, table_fits, rates-checked, table-opens}
 use Rattle.house_writer.specs.Writing.{putFile}
 use Rattle.house_writer.specs.Rewriting.{writtenAgain}
 use Rattle.house_writer.proofs.WholeFile.{put-short, put-answered, file-size, rates-room, parts-put}
-use Rattle.house_writer.proofs.rewrite_table.Goals.{After-form_has_room, Else-not-form_has_room, In_default}
 use Rattle.house_writer.proofs.rewrite_table.Goals as goal
 
--- what follows d and n, and the rates in it
-behind : In_default → List ℕ
-behind c = let a = c.args in drop a.from a.bytes.now
+-- What the checks decided, for the bytes that follow d and n: the shape passed, so that the form of the rates is put, and the room for two bytes and the
+-- rates is the room for the form.
+module _ (places : ℕ) (s : Shape) (rest out : List ℕ) (passed : checkedRest places s rest ≡ Passed) where
+  shaped : checkShape s ≡ Passed
+  shaped = (table_fits places s rest passed).shape
 
-rates : In_default → List ℤ
-rates c = ratesRead (readRates (pointsOf c.args.shape) (behind c))
+  module _ (count : ℕ) (points : count ≡ pointsOf s) where
+    abbrev rates : List ℤ
+    rates = ratesRead (readRates count rest)
 
--- all checks of the reader passed
-passed : (c : In_default) →
-    let a = c.args in checkedRest a.places a.shape (behind c) ≡ Passed
-unfolding behind
-passed c = sym c.check_rest.ensures ∙ c.in_default.is
+    abbrev form : List ℕ
+    form = writtenFile s rates
 
-shaped : (c : In_default) → checkShape c.args.shape ≡ Passed
-shaped c =
-    let a = c.args in (table_fits a.places a.shape (behind c) (passed c)).shape
+    checked : checkedRates (readRates count rest) ≡ Passed
+    checked = rw points (rates-checked places s rest passed)
 
--- so the form is put
-put : (c : In_default) →
-    let a = c.args in
-    writtenAgain a.out.now (readTable a.places a.shape (behind c)) ≡ putFile (writtenFile a.shape (rates c)) a.out.now
-unfolding rates
-put c =
-    let a = c.args in
-    ap (writtenAgain a.out.now) (table-opens a.places a.shape (behind c) (passed c)).is
+    put : putFile form out ≡ writtenAgain out (readTable places s rest)
+    put = rw points (sym (ap (writtenAgain out) (table-opens places s rest passed).is))
 
--- the room, as it was tested
-room : (c : After-form_has_room) →
-    let a = c.args in
-    c.form_has_room.result ≡ leb (length (writtenFile a.shape (rates c.before.before))) (length a.out.now)
-unfolding behind rates
-room c =
-    let c.before.before = c.before.before in
-    let a = c.args in
-    rw c.points_of-count.ensures at c.form_has_room.ensures
-    ∙ ap (λ (n : ℕ). leb n (length a.out.now)) (file-size a.shape (shaped c.before.before) (rates c.before.before))
+    fits : true ≡ leb (2 + length (writtenRates rates)) (length out) → length form ≤ length out
+    fits e = omega (arith, file-size s shaped rates, leb-true (2 + length (writtenRates rates)) (length out) (sym e))
 
-fits : (c : Else-not-form_has_room) →
-    let a = c.args in
-    length (writtenFile a.shape (rates c.before.before.before)) ≤ length a.out.now
-fits c =
-    let c.before.before.before = c.before.before.before in
-    let a = c.args in
-    leb-true (length (writtenFile a.shape (rates c.before.before.before))) (length a.out.now) (sym (room c.before) ∙ not-false _ c.if-not-form_has_room.false)
+    short : false ≡ leb (2 + length (writtenRates rates)) (length out) → length out < length form
+    short e = omega (arith, file-size s shaped rates, leb-false (2 + length (writtenRates rates)) (length out) (sym e))
 
 pub returns-in-Refused : goal.returns-in-Refused
 returns-in-Refused c =
     let a = c.args in
-    sym
-    (ap (writtenAgain a.out.now)
-    (table-refused a.places a.shape (drop a.from a.bytes.now) (sym c.check_rest.ensures ∙ c.in-Refused.is)))
+    sym (ap (writtenAgain a.out.now) (table-refused a.places a.shape (drop a.from a.bytes.now) (sym c.in-Refused.ensures)))
 
 pub points_of-count-requires : goal.points_of-count-requires
-points_of-count-requires c = shaped (goal.at.points_of-count-requires c).In_default
+points_of-count-requires c = shaped _ _ _ c.args.out.now (sym c.in_default.ensures)
 
 pub form_has_room-requires : goal.form_has_room-requires
-unfolding behind
 form_has_room-requires c =
     let a = c.args in
-    let count = c.points_of-count.ensures in (
-      rw count (rates-checked a.places a.shape (behind (goal.at.form_has_room-requires c).In_default) (passed (goal.at.form_has_room-requires c).In_default)),
-      omega (arith, count, points-small a.shape (shaped (goal.at.form_has_room-requires c).In_default)),
+    let rest = drop a.from a.bytes.now in
+    let read : checkedRest a.places a.shape rest ≡ Passed = sym c.in_default.ensures in (
+      checked a.places a.shape rest a.out.now read c.points_of-count.result c.points_of-count.ensures,
+      omega (arith, c.points_of-count.ensures, points-small a.shape (shaped a.places a.shape rest a.out.now read)),
       c.requires,
     )
 
 pub returns-then-not-form_has_room : goal.returns-then-not-form_has_room
-unfolding behind
 returns-then-not-form_has_room c =
     let a = c.args in
-    let form = writtenFile a.shape (rates (goal.at.returns-then-not-form_has_room c).In_default) in
-    sym (put (goal.at.returns-then-not-form_has_room c).In_default ∙ put-short form a.out.now (leb-false (length form) (length a.out.now) (sym (room (goal.at.returns-then-not-form_has_room c).After-form_has_room) ∙ not-true _ c.if-not-form_has_room.true)))
+    let out = a.out.now in
+    let rest = drop a.from a.bytes.now in
+    let read : checkedRest a.places a.shape rest ≡ Passed = sym c.in_default.ensures in
+    let count = c.points_of-count in
+    sym (put-short (form a.places a.shape rest out read count.result count.ensures) out
+    (short a.places a.shape rest out read count.result count.ensures c.if-not-form_has_room.ensures))
+    ∙ put a.places a.shape rest out read count.result count.ensures
 
 pub put_head-place-requires : goal.put_head-place-requires
 put_head-place-requires c =
-    let s = c.args.shape in
-    (shaped (goal.at.put_head-place-requires c).In_default, omega (arith, fits (goal.at.put_head-place-requires c).Else-not-form_has_room, file-size s (shaped (goal.at.put_head-place-requires c).In_default) (rates (goal.at.put_head-place-requires c).In_default)))
+    let a = c.args in
+    let count = c.points_of-count.result in
+    let rest = drop a.from a.bytes.now in (
+      shaped a.places a.shape rest a.out.now (sym c.in_default.ensures),
+      omega (
+        arith,
+        leb-true (2 + length (writtenRates (ratesRead (readRates count rest)))) (length a.out.now) (sym c.if-not-form_has_room.ensures),
+      ),
+    )
 
 pub put_form-requires : goal.put_form-requires
-unfolding behind rates
 put_form-requires c =
     let a = c.args in
-    let count = c.points_of-count.ensures in (
-      rw count (rates-checked a.places a.shape (behind (goal.at.put_form-requires c).In_default) (passed (goal.at.put_form-requires c).In_default)),
-      rw count
-          (omega
-          (arith, put-length c.put_head-place.ensures, rates-room a.shape (shaped (goal.at.put_form-requires c).In_default) (rates (goal.at.put_form-requires c).In_default) (fits (goal.at.put_form-requires c).Else-not-form_has_room) c.put_head-place.ensures)),
+    let out = a.out.now in
+    let rest = drop a.from a.bytes.now in
+    let read : checkedRest a.places a.shape rest ≡ Passed = sym c.in_default.ensures in
+    let count = c.points_of-count in
+    let head = c.put_head-place.ensures in (
+      checked a.places a.shape rest out read count.result count.ensures,
+      omega (
+        arith,
+        put-length head,
+        rates-room a.shape (shaped a.places a.shape rest out read) (ratesRead (readRates count.result rest))
+            (fits a.places a.shape rest out read count.result count.ensures c.if-not-form_has_room.ensures) head,
+      ),
     )
 
 pub returns : goal.returns
-unfolding behind rates
 returns c =
     let a = c.args in
-    put-answered (writtenFile a.shape (rates (goal.at.returns c).In_default)) a.out.now (fits (goal.at.returns c).Else-not-form_has_room)
-    (parts-put a.shape (shaped (goal.at.returns c).In_default) (rates (goal.at.returns c).In_default) c.put_head-place.ensures
-    (rw c.points_of-count.ensures at c.put_form.ensures))
-    ∙ sym (put (goal.at.returns c).In_default)
+    let out = a.out.now in
+    let rest = drop a.from a.bytes.now in
+    let read : checkedRest a.places a.shape rest ≡ Passed = sym c.in_default.ensures in
+    let count = c.points_of-count in
+    put-answered (form a.places a.shape rest out read count.result count.ensures) out
+    (fits a.places a.shape rest out read count.result count.ensures c.if-not-form_has_room.ensures)
+    (parts-put a.shape (shaped a.places a.shape rest out read) (ratesRead (readRates count.result rest)) c.put_head-place.ensures c.put_form.ensures)
+    ∙ put a.places a.shape rest out read count.result count.ensures

@@ -1,10 +1,7 @@
 use mathlib.Core.Path.{◌≡◌, ap, sym, ◌∙◌}
-use mathlib.Core.Bool.{true}
-use Prim.Native.Nat.{◌-◌}
 use native.Mathlib.Omega.{arith}
 use borrow.Author.Count.{below_more}
 use borrow.Author.Rules.{rules}
-use borrow.Author.Tests.{not-true, not-false}
 use lib.IntN.{pos}
 use lib.ListN.{length, get_or}
 use mir.Syntax.{w64}
@@ -22,7 +19,7 @@ tested c =
     let xs = c.args.table.now in
     let p = c.loop-p.p in
     c.in_limit.ensures
-    ∙ ap inLimit (to_z-of_z w64 (get_or xs p (pos 0)) (record { sfits = c.in_limit-arg-1.given }))
+    ∙ ap inLimit (to_z-of_z w64 (get_or xs p (pos 0)) (search rules))
 
 pub loop-p-init : goal.loop-p-init
 loop-p-init c = (search rules, λ p h. absurd (omega arith))
@@ -31,12 +28,12 @@ pub returns-then-not-in_limit : goal.returns-then-not-in_limit
 returns-then-not-in_limit c =
     let xs = c.args.table.now in
     let p = c.loop-p.p in
-    sym (all-fails (contentAt xs) (length xs) p (omega arith) (sym (tested (goal.at.returns-then-not-in_limit c).After-in_limit) ∙ not-true _ c.if-not-in_limit.true))
+    sym (all-fails (contentAt xs) (length xs) p (omega arith) (sym (tested (goal.at.returns-then-not-in_limit c).After-in_limit) ∙ c.if-not-in_limit.true))
 
 pub loop-p-preserved : goal.loop-p-preserved
 loop-p-preserved c = (
   search rules,
-  below_more _ _ c.loop-p.invariant.1 (sym (tested (goal.at.loop-p-preserved c).After-in_limit) ∙ not-false _ c.if-not-in_limit.false),
+  below_more _ _ c.loop-p.invariant.1 (sym (tested (goal.at.loop-p-preserved c).After-in_limit) ∙ c.if-not-in_limit.false),
 )
 
 pub returns : goal.returns

@@ -1,4 +1,4 @@
-use Prim.Native.Nat.{◌-◌, ◌<◌}
+use Prim.Native.Nat.{◌<◌}
 use native.Mathlib.Omega.{arith}
 use Rattle.neighbours.proofs.Coarsening.{coarsened-starts, coarsened-ends, level-small, changed-sum, coarsened-steps}
 use Rattle.neighbours.proofs.coarser.Goals.{After-first_of}

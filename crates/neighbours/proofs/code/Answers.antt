@@ -43,30 +43,30 @@ small c =
     total-small pre.0 _ _ _ pre.3 pre.4 (inner c.before) _ _ up.0 up.1 pre.2 pre.1
 
 pub bounds-coarser-level : goal.bounds-coarser-level
-bounds-coarser-level c = omega (arith, lower (goal.at.bounds-coarser-level c).After-struct_known-1, c.requires.0.bits)
+bounds-coarser-level c = omega (arith, lower (goal.at.bounds-coarser-level c).After-reduce-up, c.requires.0.bits)
 
 pub overflow_add-result : goal.overflow_add-result
-overflow_add-result c = omega (arith, small (goal.at.overflow_add-result c).After-struct_known-1)
+overflow_add-result c = omega (arith, small (goal.at.overflow_add-result c).After-reduce-up)
 
 pub overflow_add-result-2 : goal.overflow_add-result-2
-overflow_add-result-2 c = omega (arith, small (goal.at.overflow_add-result-2 c).After-struct_known-1)
+overflow_add-result-2 c = omega (arith, small (goal.at.overflow_add-result-2 c).After-reduce-up)
 
 pub overflow_add-result-3 : goal.overflow_add-result-3
 overflow_add-result-3 c =
-    omega (arith, lower (goal.at.overflow_add-result-3 c).After-struct_known-1, c.requires.0.bits)
+    omega (arith, lower (goal.at.overflow_add-result-3 c).After-reduce-up, c.requires.0.bits)
 
 pub overflow_shl-result-2 : goal.overflow_shl-result-2
 overflow_shl-result-2 c =
-    omega (arith, lower (goal.at.overflow_shl-result-2 c).After-struct_known-1, c.requires.0.bits)
+    omega (arith, lower (goal.at.overflow_shl-result-2 c).After-reduce-up, c.requires.0.bits)
 
 pub overflow_add-result-4 : goal.overflow_add-result-4
-overflow_add-result-4 c = omega (arith, small (goal.at.overflow_add-result-4 c).After-struct_known-1)
+overflow_add-result-4 c = omega (arith, small (goal.at.overflow_add-result-4 c).After-reduce-up)
 
 pub overflow_add-result-5 : goal.overflow_add-result-5
-overflow_add-result-5 c = omega (arith, small (goal.at.overflow_add-result-5 c).After-struct_known-1)
+overflow_add-result-5 c = omega (arith, small (goal.at.overflow_add-result-5 c).After-reduce-up)
 
 pub returns : goal.returns
 returns c =
     let pre = c.requires in
     let up = c.reduce-up.ensures in
-    computed pre.0 _ _ _ pre.3 pre.4 (inner (goal.at.returns c).After-reduce-up) _ _ up.0 up.1 pre.2
+    computed pre.0 _ _ _ pre.3 pre.4 (inner (goal.at.returns c).Else-is_border) _ _ up.0 up.1 pre.2

@@ -27,11 +27,10 @@ v-own c = c.args.v.own
 
 -- the digit of the axis has at most 8 bits
 digit-fits : (c : After-low_bits-digit) → (c.low_bits-digit.result < 2 ^ v-own c) × (2 ^ v-own c ≤ 2 ^ 8)
-digit-fits c =
-    (
-      omega (arith, c.low_bits-digit.ensures, digit-small c.requires.0 _ c.requires.2 c.requires.3),
-      pow_mono {i = v-own c} {j = 8} (omega (arith, (sized c.requires.0 c.requires.1).bits)),
-    )
+digit-fits c = (
+  omega (arith, c.low_bits-digit.ensures, digit-small c.requires.0 _ c.requires.2 c.requires.3),
+  pow_mono {i = v-own c} {j = 8} (omega (arith, (sized c.requires.0 c.requires.1).bits)),
+)
 
 pub overflow_cast-digit : goal.overflow_cast-digit
 overflow_cast-digit c = omega (arith, digit-fits (goal.at.overflow_cast-digit c).After-low_bits-digit)

@@ -1,4 +1,4 @@
-use Prim.Native.Nat.{◌-◌, ◌≤◌, ◌<◌}
+use Prim.Native.Nat.{◌≤◌, ◌<◌}
 use native.Mathlib.Omega.{arith}
 use borrow.Author.Rules.{rules}
 use Rattle.naturals.proofs.Sums.{term-le}
@@ -12,16 +12,16 @@ pub loop-t-init : goal.loop-t-init
 loop-t-init c = unpacked-starts _ _ _
 
 -- a level is at most the level sum, and so its digit is small
-few : (c : In-loop-t) → at c.args.t2 c.loop-t.t ≤ 8
+few : (c : In-loop-t) → at c.args.levels c.loop-t.t ≤ 8
 few c =
-    omega (arith, term-le (at c.args.t2) c.args.axes c.loop-t.t c.loop-t-test.true)
+    omega (arith, term-le (at c.args.levels) c.args.axes c.loop-t.t c.loop-t-test.true)
 
 small : (c : After-low_bits-digit) → c.low_bits-digit.result < 256
 small c =
     omega (
       arith,
       c.low_bits-digit.ensures,
-      digit-small c.loop-t.rest (at c.args.t2 c.loop-t.t) (few c.before),
+      digit-small c.loop-t.rest (at c.args.levels c.loop-t.t) (few c.before),
     )
 
 pub low_bits-digit-requires : goal.low_bits-digit-requires

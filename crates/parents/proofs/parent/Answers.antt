@@ -17,7 +17,7 @@ overflow_sub-axis c = (known (goal.at.overflow_sub-axis c).In-Passed).low
 
 pub parent_on-requires : goal.parent_on-requires
 parent_on-requires c =
-    let s = (known (goal.at.parent_on-requires c).After-parent_on-arg-1).steps in
+    let s = (known (goal.at.parent_on-requires c).In-Passed).steps in
     (s.place, s.small, s.odd, s.below)
 
 pub returns-in-Refused : goal.returns-in-Refused
@@ -33,7 +33,7 @@ returns-in-Refused c =
 pub returns-in-Passed : goal.returns-in-Passed
 unfolding parentOf
 returns-in-Passed c =
-    let p = (known (goal.at.returns-in-Passed c).After-parent_on-arg-1).handed in
+    let p = (known (goal.at.returns-in-Passed c).In-Passed).handed in
     rw (
       ← checks _ _ _ _ c.point_from-given.ensures,
       ← c.check.ensures,

@@ -1,38 +1,31 @@
 -- `parents::parent_on` meets its contract: the border is told from the numerator, and within the borders the writes in the two lists of eight are the step
--- of `Stepped` along one axis.
+-- of `Stepped` along one axis. That the lists have eight places, their type says.
 -- Assumes nothing.
-use mathlib.Core.Path.{◌≡◌, sym, ◌∙◌}
+use mathlib.Core.Path.{sym, ◌∙◌}
 use Prim.Native.Nat.{suc}
 use native.Mathlib.Omega.{arith}
-use lib.ListN.{length, length-map}
+use borrow.Author.Rules.{rules}
 use lib.Pow.{pow_mono}
 use Rattle.numbering.specs.Point.{at}
 use Rattle.numbering.proofs.Parents.{Inside, inside}
 use Rattle.parents.specs.Parents.{located}
 use Rattle.parents.proofs.Stepped.{to-border, to-parent}
-use Rattle.parents.proofs.parent_on.Goals.{Else-is_border, Start}
+use Rattle.parents.proofs.parent_on.Goals.{Else-is_border}
 use Rattle.parents.proofs.parent_on.Goals as goal
-
--- both lists of a point have eight places
-eight-levels : (c : Start) → length c.args.t3.levels ≡ 8
-eight-levels c = simp length-map at c.well-formed.1.1.0.1.1.0.1.0.1
-
-eight-indices : (c : Start) → length c.args.t3.indices ≡ 8
-eight-indices c = simp length-map at c.well-formed.1.1.0.1.1.1.0.1.0.1
 
 -- past the test the numerator lies within the borders
 between : (c : Else-is_border) → let a = c.args in
-    Inside (at a.t3.levels a.t) c.neighbour-numerator.result
+    Inside (at a.p.levels a.t) c.neighbour-numerator.result
 between c =
     let a = c.args in
     let numerator = c.neighbour-numerator.ensures in
     rw numerator
-    (inside a.side (at a.t3.levels a.t) (at a.t3.indices a.t) c.requires.2 c.requires.3
+    (inside a.side (at a.p.levels a.t) (at a.p.indices a.t) c.requires.2 c.requires.3
     (rw numerator at (sym c.is_border.ensures ∙ c.if-is_border.false)))
 
 pub neighbour-numerator-requires : goal.neighbour-numerator-requires
 neighbour-numerator-requires c =
-    let l = at c.args.t3.levels c.args.t in
+    let l = at c.args.p.levels c.args.t in
     omega (arith, c.requires, pow_mono {i = suc l} {j = 9} (omega (arith, c.requires)))
 
 pub returns-then-is_border : goal.returns-then-is_border
@@ -40,7 +33,7 @@ unfolding located
 returns-then-is_border c =
     let a = c.args in
     c.nowhere.ensures
-    ∙ to-border a.t a.side a.t3.levels a.t3.indices _ c.neighbour-numerator.ensures
+    ∙ to-border a.t a.side a.p.levels a.p.indices _ c.neighbour-numerator.ensures
     (sym c.is_border.ensures ∙ c.if-is_border.true)
 
 pub reduce-up-requires : goal.reduce-up-requires
@@ -52,6 +45,6 @@ pub returns : goal.returns
 returns c =
     let a = c.args in
     let up = c.reduce-up.ensures in
-    to-parent a.t a.side a.t3.levels a.t3.indices _ c.neighbour-numerator.ensures
+    to-parent a.t a.side a.p.levels a.p.indices _ c.neighbour-numerator.ensures
     (sym c.is_border.ensures ∙ c.if-is_border.false)
-    c.requires.0 (eight-levels (goal.at.returns c).Start) (eight-indices (goal.at.returns c).Start) _ _ up.0 up.1
+    c.requires.0 (search rules) (search rules) _ _ up.0 up.1

@@ -1,7 +1,5 @@
 use mathlib.Core.Path.{sym, ◌∙◌}
-use Prim.Native.Nat.{◌-◌}
 use native.Mathlib.Numerals.{add-one}
-use borrow.Author.Tests.{not-true, not-false}
 use Rattle.points.proofs.Tested.{tested-starts, tested-steps, tested-ends, level-fails, index-fails}
 use Rattle.points.proofs.is_point.Goals as goal
 
@@ -15,7 +13,7 @@ pub returns-then-not-is_index : goal.returns-then-not-is_index
 returns-then-not-is_index c =
     sym
     (index-fails c.loop-t.invariant c.loop-t-test.true
-    (sym c.is_index.ensures ∙ not-true _ c.if-not-is_index.true))
+    (sym c.is_index.ensures ∙ c.if-not-is_index.true))
 
 pub loop-t-preserved : goal.loop-t-preserved
 loop-t-preserved c =
@@ -23,7 +21,7 @@ loop-t-preserved c =
     (tested-steps c.loop-t.invariant
     c.loop-t-test.true
     c.if-left-l.false
-    (sym c.is_index.ensures ∙ not-false _ c.if-not-is_index.false))
+    (sym c.is_index.ensures ∙ c.if-not-is_index.false))
 
 pub returns : goal.returns
 returns c = sym (tested-ends c.loop-t.invariant c.loop-t-test.false)

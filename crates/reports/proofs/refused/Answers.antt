@@ -6,4 +6,6 @@ use Rattle.texts.proofs.Listing.{refused-length}
 use Rattle.reports.proofs.refused.Goals as goal
 
 pub returns : goal.returns
-returns c = put_whole c.put_refused.ensures (omega (arith, refused-length c.args.why))
+returns c =
+    let whole = put_whole c.put_refused.ensures (omega (arith, refused-length c.args.why)) in
+    record { put = whole.0; out_after = whole.1.0; prefix_len = whole.1.1 }

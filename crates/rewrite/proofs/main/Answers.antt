@@ -19,8 +19,8 @@ within : (c : In-Length) →
 within c =
     let size = c.in-Length.size in
     let called = c.rewrite in
-    let left : afterWriting (Length size) called.new.1.1.0 ≡ rewriteFile 32768 _ _ =
-    ap (λ (a : Filed). afterWriting a called.new.1.1.0) (sym c.in-Length.is) ∙ called.ensures in
+    let left : afterWriting (Length size) called.new.out ≡ rewriteFile 32768 _ _ =
+    ap (λ (a : Filed). afterWriting a called.new.out) (sym c.in-Length.is) ∙ called.ensures in
     rw (ap (λ (a : AfterWriting). a.out) left) (form-within 32768 _ _ size (sym (ap (λ (a : AfterWriting). a.answer) left)))
 
 pub slice_bounds-out-end : goal.slice_bounds-out-end

@@ -1,9 +1,7 @@
 use mathlib.Core.Logic.{⊎_elim}
 use mathlib.Core.Path.{◌≡◌, sym, ◌∙◌}
-use Prim.Native.Nat.{◌-◌}
 use native.Mathlib.Omega.{arith}
 use lib.ListN.{length}
-use borrow.Author.Tests.{eqb-true, eqb-false, not-true, not-false}
 use Rattle.refusals.specs.declared.Verdict.TheVariants.{Passed}
 use Rattle.states.specs.States.{checkState}
 use Rattle.runs.proofs.Appending.{run-unchecked, matched-or-refused}
@@ -24,16 +22,11 @@ returns-in-Refused c =
 
 pub returns-then-axes-count : goal.returns-then-axes-count
 returns-then-axes-count c =
+    let seen = goal.at.returns-then-axes-count c in
     let a = c.args in
-    matched-or-refused a.state a.table.now a.directions.now a.axes.now a.numbers.now a.places.now (checked (goal.at.returns-then-axes-count c).In_default)
+    matched-or-refused a.state a.table.now a.directions.now a.axes.now a.numbers.now a.places.now (checked seen.In_default)
     (λ m.
-    absurd
-    (⊎_elim
-    (λ w. w.taken m.axes-long)
-    (⊎_elim
-    (λ w. eqb-false _ _ (not-true _ w.1.taken) m.numbers-long)
-    (λ w. eqb-false _ _ (not-true _ w.2.taken) m.places-long))
-    c.if-axes-count.branch))
+    absurd (⊎_elim (λ w. w m.axes-long) (⊎_elim (λ w. w.1 m.numbers-long) (λ w. w.2 m.places-long)) c.then-axes-count.either))
     (λ h. sym h)
 
 pub loop-i-init : goal.loop-i-init
@@ -41,8 +34,8 @@ loop-i-init c =
     reporting-starts _ _ _ _ _ _ (checked (goal.at.loop-i-init c).In_default)
     (record {
       axes-long = c.if-axes-count.false;
-      numbers-long = eqb-true _ _ (not-false _ c.if-numbers-count.false);
-      places-long = eqb-true _ _ (not-false _ c.if-places-count.false);
+      numbers-long = c.if-numbers-count.false;
+      places-long = c.if-places-count.false;
     })
 
 pub bounds-numbers-i : goal.bounds-numbers-i
@@ -58,7 +51,7 @@ bounds-places-i c =
 pub loop-i-preserved : goal.loop-i-preserved
 loop-i-preserved c =
     let called = c.turn-answer in
-    reporting-steps _ _ _ _ _ _ _ _ _ _ _ c.loop-i.invariant c.loop-i-test.true _ _ called.auto.1.0 called.ensures _ _ _
+    reporting-steps _ _ _ _ _ _ _ _ _ _ _ c.loop-i.invariant c.loop-i-test.true _ _ called.auto.table called.ensures _ _ _
     c.number_in.ensures c.place_in.ensures c.handed_on-reached.ensures
 
 pub returns : goal.returns

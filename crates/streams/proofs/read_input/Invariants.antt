@@ -1,13 +1,13 @@
--- `streams::read_input` meets its contract. The loop's invariant: the buffer is as long as it was, and no more bytes came than it has. The measure is the
--- room that is left.
+-- `streams::read_input` meets its contract. The loop's invariant: no more bytes came than the buffer has, and those that came are what the reader lost.
+-- The measure is the room that is left.
 -- Assumes nothing.
-use mathlib.Core.Path.{◌≡◌}
-use Prim.Native.Nat.{◌-◌, ◌≤◌}
-use lib.ListN.{length}
+use Rattle.std.proofs.Common.{◌-◌, ◌≤◌, length, take}
+use Rattle.std.specs.Io.KnownBytes.{Consumes}
 use Rattle.streams.proofs.read_input.Given as goal
 
 abbrev pub invariant-loop-length : goal.invariant-loop-length
-invariant-loop-length l = (length l.bytes ≡ length l.initial.bytes) × (l.length ≤ length l.bytes)
+invariant-loop-length g l =
+    (l.length ≤ length l.bytes) × Consumes (g.R.Read.remaining l.initial.from) (g.R.Read.remaining l.from) (take l.length l.bytes)
 
 abbrev pub decreases-loop-length : goal.decreases-loop-length
-decreases-loop-length l = length l.bytes - l.length
+decreases-loop-length g l = length l.bytes - l.length

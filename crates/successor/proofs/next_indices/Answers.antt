@@ -1,4 +1,3 @@
-use Prim.Native.Nat.{◌-◌}
 use native.Mathlib.Omega.{arith}
 use Rattle.successor.proofs.Indices.{turned-starts, turned-steps, turned-raised, turned-past, level-small, index-small, bound}
 use native.Mathlib.Numerals.{add-one}

@@ -17,9 +17,6 @@ returns-then-count-eq0 c =
     let pre = c.requires in
     lowering-ends _ _ _ _ 0 _ _ (lowering-starts _ _ _ _ pre.0 pre.1 pre.2) (omega arith) (λ less. absurd (omega (arith, c.if-count-eq0.true)))
 
-pub overflow_sub-count : goal.overflow_sub-count
-overflow_sub-count c = omega (arith, c.if-count-eq0.false)
-
 pub vector_at-last-requires : goal.vector_at-last-requires
 vector_at-last-requires c =
     let pre = c.requires in
@@ -39,12 +36,13 @@ overflow_sub-start-2 c =
 
 pub loop-start-init : goal.loop-start-init
 loop-start-init c =
+    let seen = goal.at.loop-start-init c in
     let got = c.vector_at-last.ensures in
     let pre = c.requires in (
       lowering-starts _ _ _ _ pre.0 pre.1 pre.2,
-      stands _ _ _ pre.0.few (last-inside (goal.at.loop-start-init c).After-vector_at-last) _ _ _ got.0 got.1 got.2,
+      stands _ _ _ pre.0.few (last-inside seen.After-vector_at-last) _ _ _ got.0 got.1 got.2,
       omega (arith, c.if-count-eq0.false),
-      omega (arith, inside _ _ _ pre.0.few (last-inside (goal.at.loop-start-init c).After-vector_at-last) _ _ _ got.0 got.1 got.2, c.if-count-eq0.false),
+      omega (arith, inside _ _ _ pre.0.few (last-inside seen.After-vector_at-last) _ _ _ got.0 got.1 got.2, c.if-count-eq0.false),
     )
 
 -- The level vector is one of the shape.
@@ -124,10 +122,11 @@ overflow_shl-start c = omega (arith, sum-small (goal.at.overflow_shl-start c).Af
 
 pub loop-start-preserved : goal.loop-start-preserved
 loop-start-preserved c =
-    let s = (at-loop (goal.at.loop-start-preserved c).After-previous_vector-before).loop-start.invariant in
-    let shift = one_shifted 64 c.previous_vector-before.result.sum (omega (arith, sum-small (goal.at.loop-start-preserved c).After-previous_vector-before)) in (
-      rw (sym (all-of-it (goal.at.loop-start-preserved c).Else-start-lowered)) (lowering-block _ _ _ _ _ _ s.0 _ _ _ c.lower_vector-lowered.ensures),
-      rw shift (before-it (goal.at.loop-start-preserved c).After-previous_vector-before),
-      omega (arith, shift, has_room (goal.at.loop-start-preserved c).After-previous_vector-before, pow_pos c.previous_vector-before.result.sum),
-      omega (arith, shift, has_room (goal.at.loop-start-preserved c).After-previous_vector-before),
+    let seen = goal.at.loop-start-preserved c in
+    let s = (at-loop seen.After-previous_vector-before).loop-start.invariant in
+    let shift = one_shifted 64 c.previous_vector-before.result.sum (omega (arith, sum-small seen.After-previous_vector-before)) in (
+      rw (sym (all-of-it seen.Else-start-lowered)) (lowering-block _ _ _ _ _ _ s.0 _ _ _ c.lower_vector-lowered.ensures),
+      rw shift (before-it seen.After-previous_vector-before),
+      omega (arith, shift, has_room seen.After-previous_vector-before, pow_pos c.previous_vector-before.result.sum),
+      omega (arith, shift, has_room seen.After-previous_vector-before),
     )

@@ -1,7 +1,7 @@
 -- `sweeps::lower` meets its contract: each turn of the loop lowers the points of one level vector, whose parents are as they were, then comes the level
 -- vector before it; the loop stops at a point that is not accepted.
 -- Assumes nothing.
-use Prim.Native.Nat.{◌+◌, ◌-◌, ◌^◌, ◌≤◌, ◌<◌}
+use Prim.Native.Nat.{◌+◌, ◌^◌, ◌≤◌, ◌<◌}
 use Rattle.neighbours.specs.Steps.{sparseOf}
 use Rattle.sweeps.proofs.Lowering.{Lowering}
 use Rattle.sweeps.proofs.Standing.{Standing}

@@ -1,7 +1,7 @@
 -- `sweeps::lower_subspace` meets its contract: each turn of the loop is one step down, at a point that is accepted, and the loop stops at a point that is
 -- not.
 -- Assumes nothing.
-use Prim.Native.Nat.{◌-◌, ◌≤◌}
+use Prim.Native.Nat.{◌≤◌}
 use Rattle.neighbours.specs.Steps.{sparseOf}
 use Rattle.sweeps.proofs.Lowering.{Lowering}
 use Rattle.sweeps.proofs.lower_subspace.Given as goal

@@ -31,11 +31,12 @@ none c zero q from to b =
 
 pub returns-then-v-eq0 : goal.returns-then-v-eq0
 returns-then-v-eq0 c =
+    let seen = goal.at.returns-then-v-eq0 c in
     let v = c.subspace_on-v.ensures in
     let pre = c.requires in
     lowered-flat _ _ _ _ _ pre.0.long
-    (λ q from to. none (goal.at.returns-then-v-eq0 c).After-subspace_on-v c.if-v-eq0.true q from (omega (arith, v.3, pre.4)))
-    pre.3 (omega (arith, v.3, pre.4, inside (goal.at.returns-then-v-eq0 c).After-subspace_on-v)) pre.1
+    (λ q from to. none seen.After-subspace_on-v c.if-v-eq0.true q from (omega (arith, v.3, pre.4)))
+    pre.3 (omega (arith, v.3, pre.4, inside seen.After-subspace_on-v)) pre.1
 
 pub coarser-coarser-requires : goal.coarser-coarser-requires
 coarser-coarser-requires c = c.subspace_on-v.ensures.0

@@ -1,6 +1,6 @@
 use mathlib.Core.Path.{◌≡◌, refl, sym}
 use mathlib.Core.Logic.{inl}
-use Prim.Native.Nat.{ℕ, suc, ◌+◌, ◌-◌, ◌^◌, ◌≤◌, ◌<◌}
+use Prim.Native.Nat.{ℕ, suc, ◌+◌, ◌^◌, ◌≤◌, ◌<◌}
 use native.Mathlib.Omega.{arith}
 use lib.Pow.{pow_pos}
 use Rattle.naturals.proofs.Shifts.{one_shifted}
@@ -45,12 +45,13 @@ overflow_sub-start c =
 
 pub loop-p-init : goal.loop-p-init
 loop-p-init c =
+    let seen = goal.at.loop-p-init c in
     let got = c.vector_at-first.ensures in
     let pre = c.requires in (
       rising-starts _ _ _ _ pre.0 pre.1 pre.2,
-      stands _ _ _ pre.0.few (first-inside (goal.at.loop-p-init c).After-vector_at-first) _ _ _ got.0 got.1 got.2,
+      stands _ _ _ pre.0.few (first-inside seen.After-vector_at-first) _ _ _ got.0 got.1 got.2,
       omega arith,
-      inside _ _ _ pre.0.few (first-inside (goal.at.loop-p-init c).After-vector_at-first) _ _ _ got.0 got.1 got.2,
+      inside _ _ _ pre.0.few (first-inside seen.After-vector_at-first) _ _ _ got.0 got.1 got.2,
     )
 
 -- The level vector is one of the shape.
@@ -112,31 +113,35 @@ before c q from to b =
 
 pub returns-then-raised-end : goal.returns-then-raised-end
 returns-then-raised-end c =
+    let seen = goal.at.returns-then-raised-end c in
     let s = c.loop-p.invariant.0 in
     let done = c.raise_vector-raised.ensures in
     record {
-      up = (rising-block _ _ _ _ _ _ s _ (ends (goal.at.returns-then-raised-end c).In-loop-p) (before (goal.at.returns-then-raised-end c).In-loop-p) _ _ done).up;
-      stopped = λ more. block-stops _ _ _ _ _ _ s _ (ends (goal.at.returns-then-raised-end c).In-loop-p) (before (goal.at.returns-then-raised-end c).In-loop-p) _ _ done (omega (arith, c.if-raised-end.true, one_shifted 64 c.loop-p.sum (omega (arith, sum-small (goal.at.returns-then-raised-end c).In-loop-p))));
+      up = (rising-block _ _ _ _ _ _ s _ (ends seen.In-loop-p) (before seen.In-loop-p) _ _ done).up;
+      stopped = λ more. block-stops _ _ _ _ _ _ s _ (ends seen.In-loop-p) (before seen.In-loop-p) _ _ done (omega (arith, c.if-raised-end.true, one_shifted 64 c.loop-p.sum (omega (arith, sum-small seen.In-loop-p))));
     }
 
 pub next_vector-next-requires : goal.next_vector-next-requires
 next_vector-next-requires c =
+    let seen = goal.at.next_vector-next-requires c in
     let on = c.loop-p.invariant.0.axis in
-    (omega (arith, on.place), on.few, sum-small (goal.at.next_vector-next-requires c).In-loop-p, (vector-of (goal.at.next_vector-next-requires c).In-loop-p).vector)
+    (omega (arith, on.place), on.few, sum-small seen.In-loop-p, (vector-of seen.In-loop-p).vector)
 
 pub loop-p-smaller : goal.loop-p-smaller
 loop-p-smaller c =
+    let seen = goal.at.loop-p-smaller c in
     let s = c.loop-p.invariant in
-    omega (arith, s.3, ends (goal.at.loop-p-smaller c).In-loop-p, s.0.axis.long, s.0.up.long, c.loop-p-test.true, one_shifted 64 c.loop-p.sum (omega (arith, sum-small (goal.at.loop-p-smaller c).In-loop-p)))
+    omega (arith, s.3, ends seen.In-loop-p, s.0.axis.long, s.0.up.long, c.loop-p-test.true, one_shifted 64 c.loop-p.sum (omega (arith, sum-small seen.In-loop-p)))
 
 pub loop-p-preserved : goal.loop-p-preserved
 loop-p-preserved c =
+    let seen = goal.at.loop-p-preserved c in
     let s = c.loop-p.invariant in
     let done = c.raise_vector-raised.ensures in
-    let shift = one_shifted 64 c.loop-p.sum (omega (arith, sum-small (goal.at.loop-p-preserved c).In-loop-p)) in
+    let shift = one_shifted 64 c.loop-p.sum (omega (arith, sum-small seen.In-loop-p)) in
     let all : c.raise_vector-raised.result ≡ c.loop-p.start + 2 ^ c.loop-p.sum
     = omega (arith, done.to, shift, c.if-raised-end.false) in (
-      rw (shift, sym all) (rising-block _ _ _ _ _ _ s.0 _ (ends (goal.at.loop-p-preserved c).In-loop-p) (before (goal.at.loop-p-preserved c).In-loop-p) _ _ done),
+      rw (shift, sym all) (rising-block _ _ _ _ _ _ s.0 _ (ends seen.In-loop-p) (before seen.In-loop-p) _ _ done),
       stands-next _ _ _ _ s.1 _ _ c.next_vector-next.ensures _ (omega (arith, shift)),
       omega arith,
       omega (arith, pow_pos c.next_vector-next.result.sum),

@@ -1,7 +1,7 @@
 -- `tables::adopt` meets its contract: the checks that refuse answer in their order, and where all pass every axis is forward.
 -- Assumes nothing.
 use Rattle.std.proofs.Common.{◌≡◌, ℕ, sym, ap, ◌∙◌, arith, rules}
-use borrow.Author.Tests.{not-true, not-false}
+use borrow.Author.Tests.{not-true}
 use Rattle.refusals.specs.declared.Verdict.TheVariants.{Passed}
 use Rattle.states.specs.declared.Answer.TheVariants.{Done}
 use Rattle.tables.specs.Tables.{checkTable}
@@ -36,4 +36,4 @@ returns c =
     let a = c.args in
     ap (λ (n : ℕ). Done (record { shape = a.shape; forward = n })) c.all_forward.ensures
     ∙ sym
-    (adopt-done a.shape a.table.now (opened (goal.at.returns c).In_default) (sym c.all_in_limit.ensures ∙ not-false _ c.if-not-all_in_limit.false))
+    (adopt-done a.shape a.table.now (opened (goal.at.returns c).In_default) (sym c.all_in_limit.ensures ∙ c.if-not-all_in_limit.false))

@@ -1,4 +1,4 @@
-use Rattle.std.proofs.Common.{◌≡◌, ℕ, ◌-◌, ◌/◌, ◌^◌, ◌<◌, true, get_or, pos, sym, ap, ◌∙◌, arith, w64, rules, below_more, eqb-true}
+use Rattle.std.proofs.Common.{◌≡◌, ℕ, ◌/◌, ◌^◌, ◌<◌, true, get_or, pos, sym, ap, ◌∙◌, arith, w64, rules, below_more, eqb-true}
 use lib.Bits.{or_add_and, and_le_l, and_le_r}
 use mir.ValLaws.{to_z-of_z}
 use Rattle.integers.specs.Half.{isRate}
@@ -15,7 +15,6 @@ rate : (c : After-raised-bits) → c.raised-bits.result < 2 ^ 32 →
     rateAt c.args.table.now c.loop-p.p ≡ true
 unfolding rateAt
 rate c small =
-    let c.before.before.before = c.before.before.before in
     let xs = c.args.table.now in
     let v = get_or xs c.loop-p.p (pos 0) in
     ap isRate (value-suc xs c.loop-p.p ∙ sym (to_z-of_z w64 v (record { sfits = c.raised-arg-1.given }))) ∙ c.raised-bits.ensures small

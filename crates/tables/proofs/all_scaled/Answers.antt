@@ -1,5 +1,4 @@
-use Rattle.std.proofs.Common.{◌≡◌, ◌-◌, length, get_or, pos, sym, ap, ◌∙◌, arith, w64, rules, below_more}
-use borrow.Author.Tests.{not-true, not-false}
+use Rattle.std.proofs.Common.{◌≡◌, length, get_or, pos, sym, ap, ◌∙◌, arith, w64, rules, below_more}
 use mir.ValLaws.{to_z-of_z}
 use Rattle.naturals.proofs.Tests.{all_from, all-fails}
 use Rattle.hierarchy.proofs.Values.{value-suc}
@@ -24,15 +23,16 @@ loop-p-init c = (search rules, λ p h. absurd (omega arith))
 
 pub returns-then-not-is_scaled : goal.returns-then-not-is_scaled
 returns-then-not-is_scaled c =
+    let seen = goal.at.returns-then-not-is_scaled c in
     let xs = c.args.table.now in
     let axes = c.args.axes in
     let p = c.loop-p.p in
-    sym (all-fails (scaledAt axes xs) (length xs) p (omega arith) (sym (tested (goal.at.returns-then-not-is_scaled c).After-is_scaled) ∙ not-true _ c.if-not-is_scaled.true))
+    sym (all-fails (scaledAt axes xs) (length xs) p (omega arith) (sym (tested seen.After-is_scaled) ∙ c.if-not-is_scaled.true))
 
 pub loop-p-preserved : goal.loop-p-preserved
 loop-p-preserved c = (
   search rules,
-  below_more _ _ c.loop-p.invariant.1 (sym (tested (goal.at.loop-p-preserved c).After-is_scaled) ∙ not-false _ c.if-not-is_scaled.false),
+  below_more _ _ c.loop-p.invariant.1 (sym (tested (goal.at.loop-p-preserved c).After-is_scaled) ∙ c.if-not-is_scaled.false),
 )
 
 pub returns : goal.returns

@@ -6,6 +6,3 @@ use Rattle.tables.proofs.check_rates.Goals as goal
 
 pub returns-then-all_rates : goal.returns-then-all_rates
 returns-then-all_rates c = sym (rates-pass c.args.table.now (c.all_rates.ensures c.if-all_rates.true))
-
-pub returns : goal.returns
-returns c = c.first_rate.ensures

@@ -15,9 +15,6 @@ pub returns-in-Refused : goal.returns-in-Refused
 unfolding checkTable
 returns-in-Refused c = rw (← c.check_shape.ensures, c.in-Refused.is)
 
-pub check_length-requires : goal.check_length-requires
-check_length-requires c = passed (goal.at.check_length-requires c).In_default
-
 pub returns : goal.returns
 unfolding checkTable
 returns c = rw (passed (goal.at.returns c).In_default) c.check_length.ensures

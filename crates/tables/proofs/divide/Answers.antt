@@ -1,4 +1,4 @@
-use Rattle.std.proofs.Common.{◌-◌, get_or, pos, arith}
+use Rattle.std.proofs.Common.{get_or, pos, arith}
 use Rattle.tables.specs.Tables.{quotient}
 use Rattle.tables.proofs.Mapping.{mapped-starts, mapped-steps, mapped-ends}
 use Rattle.tables.proofs.Quotients.{shifted-bits}

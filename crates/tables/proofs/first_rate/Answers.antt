@@ -1,5 +1,5 @@
-use Rattle.std.proofs.Common.{◌≡◌, ◌-◌, length, get_or, pos, sym, ap, ◌∙◌, arith, w64, rules, below_more, le-leb}
-use borrow.Author.Tests.{not-true, not-false, lt-leb}
+use Rattle.std.proofs.Common.{◌≡◌, length, get_or, pos, sym, ap, ◌∙◌, arith, w64, rules, below_more, le-leb}
+use borrow.Author.Tests.{lt-leb}
 use mir.ValLaws.{to_z-of_z}
 use Rattle.naturals.specs.FirstFailing.{firstFailing}
 use Rattle.naturals.proofs.FirstFailing.{first-none, first-at}
@@ -25,16 +25,17 @@ loop-p-init c = (search rules, λ p h. absurd (omega arith))
 pub returns-then-not-is_rate : goal.returns-then-not-is_rate
 unfolding checkRates
 returns-then-not-is_rate c =
+    let seen = goal.at.returns-then-not-is_rate c in
     let xs = c.args.table.now in
     let loop = c.loop-p in
     let first : firstFailing (rateAt xs) (length xs) ≡ loop.p =
-    first-at (rateAt xs) (length xs) loop.p loop.invariant.1 (sym (tested (goal.at.returns-then-not-is_rate c).After-is_rate) ∙ not-true _ c.if-not-is_rate.true) (omega arith) in
+    first-at (rateAt xs) (length xs) loop.p loop.invariant.1 (sym (tested seen.After-is_rate) ∙ c.if-not-is_rate.true) (omega arith) in
     rw (first, lt-leb (length xs) loop.p (omega arith))
 
 pub loop-p-preserved : goal.loop-p-preserved
 loop-p-preserved c = (
   search rules,
-  below_more _ _ c.loop-p.invariant.1 (sym (tested (goal.at.loop-p-preserved c).After-is_rate) ∙ not-false _ c.if-not-is_rate.false),
+  below_more _ _ c.loop-p.invariant.1 (sym (tested (goal.at.loop-p-preserved c).After-is_rate) ∙ c.if-not-is_rate.false),
 )
 
 pub returns : goal.returns

@@ -1,7 +1,6 @@
 -- `tables::is_scaled` meets its contract: the shift by d is the division by 2^d rounded down, and its rate times 2^d is the value exactly where 2^d divides it.
 -- Assumes nothing.
 use Rattle.std.proofs.Common.{◌≡◌, sym, ap, ◌∙◌}
-use borrow.Author.Tests.{not-true, not-false}
 use Rattle.integers.specs.Half.{isRate}
 use Rattle.tables.specs.Tables.{quotient}
 use Rattle.tables.proofs.Quotients.{shifted-bits, not-scaled, scaled-test}
@@ -15,13 +14,13 @@ tested c = c.is_rate.ensures ∙ ap isRate (shifted-bits c.args.axes c.args.v c.
 pub returns-then-not-is_rate : goal.returns-then-not-is_rate
 returns-then-not-is_rate c =
     let a = c.args in
-    sym (not-scaled a.axes a.v (sym (tested (goal.at.returns-then-not-is_rate c).After-is_rate) ∙ not-true _ c.if-not-is_rate.true))
+    sym (not-scaled a.axes a.v (sym (tested (goal.at.returns-then-not-is_rate c).After-is_rate) ∙ c.if-not-is_rate.true))
 
 pub scaled-requires : goal.scaled-requires
 scaled-requires c =
-    (c.requires, sym c.is_rate.ensures ∙ not-false _ c.if-not-is_rate.false)
+    (c.requires, sym c.is_rate.ensures ∙ c.if-not-is_rate.false)
 
 pub returns : goal.returns
 returns c =
     rw (c.scaled.ensures, shifted-bits c.args.axes c.args.v c.ranges.v)
-    (scaled-test c.args.axes c.args.v c.requires c.ranges.v (sym (tested (goal.at.returns c).After-is_rate) ∙ not-false _ c.if-not-is_rate.false))
+    (scaled-test c.args.axes c.args.v c.requires c.ranges.v (sym (tested (goal.at.returns c).After-is_rate) ∙ c.if-not-is_rate.false))

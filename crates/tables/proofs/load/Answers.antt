@@ -21,8 +21,9 @@ returns-in-Refused c =
 
 pub scale-requires : goal.scale-requires
 scale-requires c =
+    let seen = goal.at.scale-requires c in
     let a = c.args in
-    (omega (arith, rated-opens a.shape a.table.now (passed (goal.at.scale-requires c).In_default)), rated-passes a.shape a.table.now (passed (goal.at.scale-requires c).In_default))
+    (omega (arith, rated-opens a.shape a.table.now (passed seen.In_default)), rated-passes a.shape a.table.now (passed seen.In_default))
 
 pub returns : goal.returns
 returns c =

@@ -28,10 +28,11 @@ overflow_cast-v c =
 
 pub returns-then-v-lt0 : goal.returns-then-v-lt0
 returns-then-v-lt0 c h =
+    let seen = goal.at.returns-then-v-lt0 c in
     let v = c.args.v in
     let fits = c.ranges.v in
     let small = under-small v fits in
-    let operand = ap nat_abs (ap (λ (z : ℤ). to_z w64 (of_z w64 z)) (less (goal.at.returns-then-v-lt0 c).Then-v-lt0) ∙ to_z_pos w64 (under v) small) in
+    let operand = ap nat_abs (ap (λ (z : ℤ). to_z w64 (of_z w64 z)) (less seen.Then-v-lt0) ∙ to_z_pos w64 (under v) small) in
     rate-below v (test v true fits c.if-v-lt0.true) (omega (arith, small, operand, c.wrapping_sub_u64.ensures))
 
 pub overflow_cast-result : goal.overflow_cast-result

@@ -1,4 +1,4 @@
-use Rattle.std.proofs.Common.{◌≡◌, ◌-◌, true, get_or, pos, sym, ap, ◌∙◌, arith, w64, to_z, of_z}
+use Rattle.std.proofs.Common.{◌≡◌, true, get_or, pos, sym, ap, ◌∙◌, arith, w64, to_z, of_z}
 use mir.ValLaws.{to_z-of_z}
 use Rattle.integers.specs.Half.{isRate}
 use Rattle.hierarchy.proofs.Values.{value-suc}
@@ -28,15 +28,18 @@ pub loop-p-init : goal.loop-p-init
 loop-p-init c = mapped-starts (times c.args.axes) c.args.table.now
 
 pub scaled-requires : goal.scaled-requires
-scaled-requires c = (omega arith, ap isRate (read (goal.at.scaled-requires c).After-scaled-arg-1) ∙ rate (goal.at.scaled-requires c).After-scaled-arg-1)
+scaled-requires c =
+    let seen = goal.at.scaled-requires c in
+    (omega arith, ap isRate (read seen.After-scaled-arg-1) ∙ rate seen.After-scaled-arg-1)
 
 pub loop-p-preserved : goal.loop-p-preserved
 loop-p-preserved c =
+    let seen = goal.at.loop-p-preserved c in
     let loop = c.loop-p in
     let a = c.args in
     mapped-steps (times a.axes) a.table.now loop.table loop.p loop.invariant (omega arith)
     (to_z w64 (of_z w64 c.scaled.result))
-    (to_z-of_z w64 c.scaled.result (record { sfits = c.scaled.type-inv }) ∙ c.scaled.ensures ∙ ap (times a.axes) (read (goal.at.loop-p-preserved c).After-scaled-arg-1))
+    (to_z-of_z w64 c.scaled.result (record { sfits = c.scaled.type_inv }) ∙ c.scaled.ensures ∙ ap (times a.axes) (read seen.After-scaled-arg-1))
 
 pub returns : goal.returns
 returns c =

@@ -1,7 +1,6 @@
 -- `tables::unload` meets its contract: the checks that refuse answer in their order, and where all pass every value is divided.
 -- Assumes nothing.
 use Rattle.std.proofs.Common.{◌≡◌, ◌≤◌, List, length, ℤ, sym, ap, ◌∙◌}
-use borrow.Author.Tests.{not-true, not-false}
 use Rattle.refusals.specs.declared.Verdict.TheVariants.{Passed}
 use Rattle.states.specs.After.{left}
 use Rattle.states.specs.States.{checkState}
@@ -39,22 +38,24 @@ returns-in-Refused-check_sampled c =
     (sym c.check_sampled.ensures ∙ c.in-Refused-check_sampled.is))
 
 pub all_scaled-requires : goal.all_scaled-requires
-all_scaled-requires c = few (goal.at.all_scaled-requires c).In_default-1
+all_scaled-requires c = few (goal.at.all_scaled-requires c).In_default
 
 pub returns-then-not-all_scaled : goal.returns-then-not-all_scaled
 returns-then-not-all_scaled c =
+    let seen = goal.at.returns-then-not-all_scaled c in
     let a = c.args in
     sym
-    (unload-refused a.state a.table.now (checked (goal.at.returns-then-not-all_scaled c).In_default-1) (sampled (goal.at.returns-then-not-all_scaled c).In_default-check_sampled-1)
-    (sym c.all_scaled.ensures ∙ not-true _ c.if-not-all_scaled.true))
+    (unload-refused a.state a.table.now (checked seen.In_default) (sampled seen.In_default-check_sampled)
+    (sym c.all_scaled.ensures ∙ c.if-not-all_scaled.true))
 
 pub divide-requires : goal.divide-requires
-divide-requires c = few (goal.at.divide-requires c).In_default-1
+divide-requires c = few (goal.at.divide-requires c).In_default
 
 pub returns : goal.returns
 returns c =
+    let seen = goal.at.returns c in
     let a = c.args in
     ap (λ (ys : List ℤ). left Passed ys) c.divide.ensures
     ∙ sym
-    (unload-done a.state a.table.now (checked (goal.at.returns c).In_default-1) (sampled (goal.at.returns c).In_default-check_sampled-1)
-    (sym c.all_scaled.ensures ∙ not-false _ c.if-not-all_scaled.false))
+    (unload-done a.state a.table.now (checked seen.In_default) (sampled seen.In_default-check_sampled)
+    (sym c.all_scaled.ensures ∙ c.if-not-all_scaled.false))

@@ -6,7 +6,6 @@ use mathlib.Core.Bool.{false}
 use Prim.Native.Nat.{◌-◌}
 use native.Mathlib.Omega.{arith}
 use lib.ListN.{length}
-use borrow.Author.Tests.{not-true, not-false}
 use Rattle.refusals.specs.declared.Refusal.TheVariants.{Contents}
 use Rattle.refusals.specs.declared.Verdict.TheVariants.{Passed}
 use Rattle.shapes.specs.Shapes.{pointsOf}
@@ -19,7 +18,7 @@ use Rattle.sweeps.proofs.Accepting.{passed-limited, limit-refuses}
 use Rattle.turns.proofs.Answering.{on-axis, forward-unchecked, forward-already, forward-refused, forward-done}
 use Rattle.turns.proofs.Checking.{MayTurn, place_of, turn-passed}
 use Rattle.turns.proofs.Turned.{lowered-length, turned-whole, turned-accepted, stopped-refuses, lowered-limited, given_back}
-use Rattle.turns.proofs.hierarchize.Goals.{After-raise, After-table-1, Else-has_axis, Else-left-gt0, Else-not-all_in_limit, In_default}
+use Rattle.turns.proofs.hierarchize.Goals.{After-table-1, Else-has_axis, Else-left-gt0, Else-not-all_in_limit, In_default}
 use Rattle.turns.proofs.hierarchize.Goals as goal
 
 -- the checks passed
@@ -40,22 +39,14 @@ axis c = on-axis (may c)
 
 -- all values are within the limit
 limited : (c : Else-not-all_in_limit) → let a = c.args in Limited a.table.now (length a.table.now)
-limited c = passed-limited _ (sym c.all_in_limit.ensures ∙ not-false _ c.if-not-all_in_limit.false)
+limited c = passed-limited _ (sym c.all_in_limit.ensures ∙ c.if-not-all_in_limit.false)
 
 -- what the steps down left
-abbrev told_at : After-table-1 → In_default
-told_at c = c.before.before.before.before.before.before.before.before.before
-
 way : (c : After-table-1) →
-    let a = (told_at c).args in
+    let a = c.args in
     let s = a.state.shape in
     LoweredBetween s (a.axis - 1) 0 (pointsOf s) a.table.now c.lower-left.result c.lower-left.new.table
-way c = rw (sym (may (told_at c)).long) c.lower-left.ensures
-
--- the steps back gave back the table
-kept_table : (c : After-raise) → let a = (told_at c.before.before.before).args in c.raise.new.table ≡ a.table.now
-kept_table c =
-    given_back _ _ _ (axis (told_at c.before.before.before)).long (limited c.before.before.before.before.before.before) _ _ (way c.before.before.before) _ _ c.raise.ensures
+way c = let own = turn-passed _ _ _ (sym c.check_turn.ensures ∙ c.in_default.is) in rw (sym own.long) c.lower-left.ensures
 
 pub returns-in-Refused : goal.returns-in-Refused
 returns-in-Refused c =
@@ -68,45 +59,54 @@ pub overflow_sub-place : goal.overflow_sub-place
 overflow_sub-place c = (may (goal.at.overflow_sub-place c).In_default).first
 
 pub has_axis-requires : goal.has_axis-requires
-has_axis-requires c = omega (arith, place_of (may (goal.at.has_axis-requires c).In_default), (may (goal.at.has_axis-requires c).In_default).range)
+has_axis-requires c =
+    let seen = goal.at.has_axis-requires c in
+    omega (arith, place_of (may seen.In_default), (may seen.In_default).range)
 
 pub returns-then-has_axis : goal.returns-then-has_axis
 returns-then-has_axis c =
+    let seen = goal.at.returns-then-has_axis c in
     let a = c.args in
-    rw (forward-already a.state a.table.now a.axis (passed (goal.at.returns-then-has_axis c).In_default) (sym c.has_axis.ensures ∙ c.if-has_axis.true))
+    rw (forward-already a.state a.table.now a.axis (passed seen.In_default) (sym c.has_axis.ensures ∙ c.if-has_axis.true))
 
 pub returns-then-not-all_in_limit : goal.returns-then-not-all_in_limit
 unfolding isAccepted
 returns-then-not-all_in_limit c =
+    let seen = goal.at.returns-then-not-all_in_limit c in
     let a = c.args in
     rw
-    (forward-refused a.state a.table.now a.axis (passed (goal.at.returns-then-not-all_in_limit c).In_default-1) (clear (goal.at.returns-then-not-all_in_limit c).After-has_axis)
-    (limit-refuses _ _ _ (axis (goal.at.returns-then-not-all_in_limit c).In_default-1).long (sym c.all_in_limit.ensures ∙ not-true _ c.if-not-all_in_limit.true)))
+    (forward-refused a.state a.table.now a.axis (passed seen.In_default) (clear seen.Else-has_axis)
+    (limit-refuses _ _ _ (axis seen.In_default).long (sym c.all_in_limit.ensures ∙ c.if-not-all_in_limit.true)))
 
 pub lower-left-requires : goal.lower-left-requires
 lower-left-requires c =
-    (axis (goal.at.lower-left-requires c).In_default-1, limited (goal.at.lower-left-requires c).Else-not-all_in_limit, omega (arith, (axis (goal.at.lower-left-requires c).In_default-1).long))
+    let seen = goal.at.lower-left-requires c in
+    (axis seen.In_default, limited seen.Else-not-all_in_limit, omega (arith, (axis seen.In_default).long))
 
 pub raise-requires : goal.raise-requires
 raise-requires c =
-    let on = axis (told_at (goal.at.raise-requires c).After-table-1) in (
-      record { few = on.few; low = on.low; place = on.place; long = lowered-length _ _ _ on.long (limited (goal.at.raise-requires c).Else-not-all_in_limit) _ _ (way (goal.at.raise-requires c).After-table-1) },
-      lowered-limited _ _ _ on.long (limited (goal.at.raise-requires c).Else-not-all_in_limit) _ _ (way (goal.at.raise-requires c).After-table-1),
-      (way (goal.at.raise-requires c).After-table-1).to,
+    let seen = goal.at.raise-requires c in
+    let on = axis seen.In_default in (
+      record { few = on.few; low = on.low; place = on.place; long = lowered-length _ _ _ on.long (limited seen.Else-not-all_in_limit) _ _ (way seen.After-table-1) },
+      lowered-limited _ _ _ on.long (limited seen.Else-not-all_in_limit) _ _ (way seen.After-table-1),
+      (way seen.After-table-1).to,
     )
 
 pub returns-then-left-gt0 : goal.returns-then-left-gt0
 unfolding isAccepted
 returns-then-left-gt0 c =
+    let seen = goal.at.returns-then-left-gt0 c in
     let a = c.args in
     rw
-    (forward-refused a.state a.table.now a.axis (passed (goal.at.returns-then-left-gt0 c).In_default-1) (clear (goal.at.returns-then-left-gt0 c).After-has_axis)
-    (stopped-refuses _ _ _ (axis (goal.at.returns-then-left-gt0 c).In_default-1).long (limited (goal.at.returns-then-left-gt0 c).Else-not-all_in_limit) _ _ (way (goal.at.returns-then-left-gt0 c).After-table-1) c.if-left-gt0.true))
-    (ap (after (Refused Contents)) (kept_table (goal.at.returns-then-left-gt0 c).After-raise))
+    (forward-refused a.state a.table.now a.axis (passed seen.In_default) (clear seen.Else-has_axis)
+    (stopped-refuses _ _ _ (axis seen.In_default).long (limited seen.Else-not-all_in_limit) _ _ (way seen.After-table-1) c.if-left-gt0.true))
+    (ap (after (Refused Contents))
+    (given_back _ _ _ (axis seen.In_default).long (limited seen.Else-not-all_in_limit) _ _ (way seen.After-table-1) _ _ c.raise.ensures))
 
 pub with_axis-requires : goal.with_axis-requires
 with_axis-requires c =
-    (omega (arith, place_of (may (goal.at.with_axis-requires c).In_default-1), (may (goal.at.with_axis-requires c).In_default-1).range), clear (goal.at.with_axis-requires c).After-has_axis)
+    let seen = goal.at.with_axis-requires c in
+    (omega (arith, place_of (may seen.In_default), (may seen.In_default).range), clear seen.Else-has_axis)
 
 -- the steps came to the first point
 at_first : (c : Else-left-gt0) → c.lower-left.result ≡ 0
@@ -115,9 +115,10 @@ at_first c = omega (arith, c.if-left-gt0.false)
 pub returns : goal.returns
 unfolding isAccepted turnedTable
 returns c =
+    let seen = goal.at.returns c in
     let a = c.args in
     rw
-    (forward-done a.state a.table.now a.axis (passed (goal.at.returns c).In_default-1) (clear (goal.at.returns c).After-has_axis)
-    (turned-accepted _ _ _ (axis (goal.at.returns c).In_default-1).long (limited (goal.at.returns c).Else-not-all_in_limit) _ _ (way (goal.at.returns c).After-table-1) (at_first (goal.at.returns c).Else-left-gt0)))
+    (forward-done a.state a.table.now a.axis (passed seen.In_default) (clear seen.Else-has_axis)
+    (turned-accepted _ _ _ (axis seen.In_default).long (limited seen.Else-not-all_in_limit) _ _ (way seen.After-table-1) (at_first seen.Else-left-gt0)))
     (ap₂ after (ap Done c.with_axis.ensures)
-    (turned-whole _ _ _ (axis (goal.at.returns c).In_default-1).long (limited (goal.at.returns c).Else-not-all_in_limit) _ _ (way (goal.at.returns c).After-table-1) (at_first (goal.at.returns c).Else-left-gt0)))
+    (turned-whole _ _ _ (axis seen.In_default).long (limited seen.Else-not-all_in_limit) _ _ (way seen.After-table-1) (at_first seen.Else-left-gt0)))

@@ -1,4 +1,3 @@
-use Prim.Native.Nat.{◌-◌}
 use native.Mathlib.Omega.{arith}
 use Rattle.naturals.proofs.Summed.{summed-starts, summed-steps, summed-fits, summed-ends}
 use Rattle.vectors.proofs.level_sum.Goals as goal

@@ -1,4 +1,3 @@
-use Prim.Native.Nat.{◌-◌}
 use native.Mathlib.Numerals.{add-one}
 use native.Mathlib.Omega.{arith}
 use Rattle.vectors.proofs.Following.{bare-starts, bare-steps, raised-fits, next-of-sum, first-of-next}

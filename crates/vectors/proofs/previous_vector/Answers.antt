@@ -1,4 +1,3 @@
-use Prim.Native.Nat.{◌-◌}
 use native.Mathlib.Numerals.{add-one}
 use native.Mathlib.Omega.{arith}
 use Rattle.vectors.proofs.Preceding.{flat-starts, flat-steps, can-lower, first_small, before-of-sum, some_level, last-below}

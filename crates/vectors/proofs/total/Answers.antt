@@ -1,4 +1,4 @@
-use Prim.Native.Nat.{ℕ, ◌-◌}
+use Prim.Native.Nat.{ℕ}
 use native.Mathlib.Omega.{arith}
 use borrow.Author.Rules.{rules}
 use mir.Syntax.{w32}
@@ -12,7 +12,7 @@ pub loop-t-init : goal.loop-t-init
 loop-t-init c = summed-starts _ _
 
 -- a level has 32 bits
-small : (c : In-loop-t) (t : ℕ) → Fits w32 (at c.args.t1 t)
+small : (c : In-loop-t) (t : ℕ) → Fits w32 (at c.args.levels t)
 small c t = search rules
 
 pub overflow_add-sum : goal.overflow_add-sum
@@ -20,7 +20,7 @@ overflow_add-sum c =
     omega (
       arith,
       summed-fits c.loop-t.invariant c.loop-t-test.true,
-      sum_bound (at c.args.t1) 4294967296 8 (λ t. (small (goal.at.overflow_add-sum c).In-loop-t t).fits),
+      sum_bound (at c.args.levels) 4294967296 8 (λ t. (small (goal.at.overflow_add-sum c).In-loop-t t).fits),
     )
 
 pub loop-t-preserved : goal.loop-t-preserved

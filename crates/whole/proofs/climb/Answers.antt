@@ -1,5 +1,4 @@
 use mathlib.Core.Path.{sym, ap, ◌∙◌}
-use Prim.Native.Nat.{◌-◌}
 use Rattle.states.specs.declared.Answer.{Answer}
 use Rattle.states.specs.After.{after}
 use Rattle.whole.proofs.Folding.{up_done, up-refused, up_ends}
@@ -19,7 +18,7 @@ loop-k-preserved c =
     let loop = c.loop-k in
     let axes = c.args.state.shape.axes in
     let next = c.in-Done.next in (
-      c.hierarchize.auto.1.0 ∙ loop.invariant.0,
+      c.hierarchize.auto.table ∙ loop.invariant.0,
       up_done loop.k loop.at next loop.table c.hierarchize.new.table axes c.loop-k-test.true
           (sym c.hierarchize.ensures ∙ ap (λ (x : Answer). after x c.hierarchize.new.table) c.in-Done.is)
           ∙ loop.invariant.1,

@@ -17,7 +17,7 @@ pub loop-k-preserved : goal.loop-k-preserved
 loop-k-preserved c =
     let loop = c.loop-k in
     let next = c.in-Done.next in (
-      c.dehierarchize.auto.1.0 ∙ loop.invariant.0,
+      c.dehierarchize.auto.table ∙ loop.invariant.0,
       down-done loop.k loop.at next loop.table c.dehierarchize.new.table (omega arith)
           (sym c.dehierarchize.ensures ∙ ap (λ (x : Answer). after x c.dehierarchize.new.table) c.in-Done.is)
           ∙ loop.invariant.1,

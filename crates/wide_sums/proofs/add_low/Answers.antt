@@ -1,16 +1,8 @@
 -- `wide_sums::add_low` meets its contract: the mask is the remainder, and product and sum fit 64 bits.
 -- Assumes nothing.
 use native.Mathlib.Omega.{arith}
-use Rattle.integers.proofs.Floors.{remainder-lt}
-use Rattle.surfaces.specs.Weights.{unit}
-use Rattle.surfaces.proofs.Unit.{unit-is}
 use Rattle.wide_sums.proofs.Parts.{low_value, low-size}
 use Rattle.wide_sums.proofs.add_low.Goals as goal
-
-pub overflow_cast-result-2 : goal.overflow_cast-result-2
-overflow_cast-result-2 c =
-    rw (low_value c.args.c c.ranges.c)
-    (tt, record { fits = omega (arith, remainder-lt unit c.args.c (omega (arith, unit-is)), unit-is) })
 
 pub overflow_mul-result : goal.overflow_mul-result
 overflow_mul-result c =

@@ -1,21 +1,12 @@
 -- `wide_sums::divided` meets its contract: the shift is the division by the unit, and the sum fits 64 bits.
 -- Assumes nothing.
 use Prim.Native.Nat.{◌/◌}
-use native.Mathlib.Omega.{arith}
 use lib.IntN.{pos, ◌+ℤ◌}
 use mir.Syntax.{w64}
 use mir.ValLaws.{to_z-of_z}
 use Rattle.surfaces.specs.Weights.{unit}
 use Rattle.wide_sums.proofs.Parts.{low-quotient, divided-fits}
 use Rattle.wide_sums.proofs.divided.Goals as goal
-
-pub overflow_cast-result-2 : goal.overflow_cast-result-2
-overflow_cast-result-2 c = record { sfits = omega arith }
-
-pub overflow_add-result : goal.overflow_add-result
-overflow_add-result c =
-    rw (to_z-of_z w64 c.args.high c.ranges.high, low-quotient c.args.low c.requires.1)
-    (divided-fits c.args.high c.args.low c.requires.0 c.requires.1)
 
 pub returns : goal.returns
 returns c =

@@ -18,20 +18,20 @@ high_read c = to_z-of_z w64 c.args.high c.ranges.high
 
 down-read : (c : After-divided) → let a = c.args in to_z w64 (of_z w64 c.divided.result) ≡ a.high +ℤ pos (a.low / unit)
 down-read c =
-    to_z-of_z w64 c.divided.result (record { sfits = c.divided.type-inv })
+    to_z-of_z w64 c.divided.result (record { sfits = c.divided.type_inv })
     ∙ c.divided.ensures
     ∙ ap (λ (z : ℤ). z +ℤ pos (c.args.low / unit)) (high_read c)
 
 pub returns-then-divided-lt0 : goal.returns-then-divided-lt0
 returns-then-divided-lt0 c =
     let a = c.args in
-    to_z-of_z w64 c.divided-then-divided-lt0.result (record { sfits = c.divided-then-divided-lt0.type-inv })
+    to_z-of_z w64 c.divided-then-divided-lt0.result (record { sfits = c.divided-then-divided-lt0.type_inv })
     ∙ c.divided-then-divided-lt0.ensures
     ∙ rw (high_read (goal.at.returns-then-divided-lt0 c).After-divided) (joined-below a.high a.low (rw (sym (down-read (goal.at.returns-then-divided-lt0 c).After-divided)) c.if-divided-lt0.true))
 
 pub returns : goal.returns
 returns c =
     let a = c.args in
-    to_z-of_z w64 c.divided-2.result (record { sfits = c.divided-2.type-inv })
+    to_z-of_z w64 c.divided-2.result (record { sfits = c.divided-2.type_inv })
     ∙ c.divided-2.ensures
     ∙ rw (high_read (goal.at.returns c).After-divided) (joined-above a.high a.low (rw (sym (down-read (goal.at.returns c).After-divided)) c.if-divided-lt0.false))

@@ -10,12 +10,6 @@ use Rattle.written_numbers.proofs.put_number.Goals as goal
 pub loop-left-init : goal.loop-left-init
 loop-left-init c = grouped-starts _ _ _ (omega arith)
 
-pub overflow_add-out : goal.overflow_add-out
-overflow_add-out c = omega (arith, and_mask c.loop-left.left 7)
-
-pub overflow_cast-out : goal.overflow_cast-out
-overflow_cast-out c = omega (arith, and_mask c.loop-left.left 7)
-
 pub bounds-out-at : goal.bounds-out-at
 bounds-out-at c = grouped-room c.loop-left.invariant c.requires
 

@@ -1,7 +1,9 @@
 -- `numolefays_estimate` meets its contract: the call decides, an estimate goes out and a refusal leaves the output.
 -- Assumes nothing.
 use mir.Syntax.{w64}
+use mir.Val.{SFits}
 use mir.ValLaws.{to_z-of_z}
+use Rattle.std.proofs.Common.{rules}
 use Rattle.answers.proofs.Handing.{beside}
 use Rattle.numolefays.proofs.surface_calls.numolefays_estimate.Goals as goal
 
@@ -17,10 +19,12 @@ returns-in-Refused c =
 
 pub returns-in-Value : goal.returns-in-Value
 returns-in-Value c =
+    let value = c.in-Value.value in
+    let fits : SFits w64 value = search rules in
     rw (
       ← c.state_of.ensures,
       ← c.estimate.ensures,
       c.in-Value.is,
-      to_z-of_z w64 c.in-Value.value (record { sfits = c.known_told-in-Value-1.given.0.1 }),
+      to_z-of_z w64 value fits,
     )
-    (beside c.in-Value.value c.succeed.ensures)
+    (beside value c.succeed.ensures)

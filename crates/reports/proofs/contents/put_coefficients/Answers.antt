@@ -1,11 +1,9 @@
 -- `reports::contents::put_coefficients` meets its contract: the refused line, or the first line and the lines of the coefficients, which have room.
 -- Assumes nothing.
-use mathlib.Core.Path.{sym, ap, ◌∙◌}
+use mathlib.Core.Path.{ap, ◌∙◌}
 use mathlib.Core.List.{◌++◌}
 use Prim.Native.Nat.{ℕ}
 use native.Mathlib.Omega.{arith}
-use Rattle.refusals.specs.declared.Verdict.{Verdict}
-use Rattle.states.specs.After.{left}
 use Rattle.texts.specs.Text.{headingOf, pointLines}
 use Rattle.reports.specs.Report.{tableText}
 use Rattle.buffers.proofs.Puts.{put_then, put_as, put-length}
@@ -21,21 +19,15 @@ put_points-requires c =
 
 pub returns-in-Refused : goal.returns-in-Refused
 returns-in-Refused c =
-    let a = c.args in
-    let turned = c.rates_to_coefficients in
-    let why = c.why-1.given in
-    put_as
-    (refused-text a.shape why.0.0 turned.new.1.0 _
-    (ap (λ (v : Verdict). left v turned.new.1.0) (sym why.1) ∙ turned.ensures))
-    c.put_refused.ensures
+    let xs = c.rates_to_coefficients.new.table in
+    put_as (refused-text c.args.shape c.in-Refused.why xs _ c.in-Refused.ensures) c.put_refused.ensures
 
 pub returns-in-Passed : goal.returns-in-Passed
 unfolding tableText
 returns-in-Passed c =
     let a = c.args in
-    let turned = c.rates_to_coefficients in
-    let xs = turned.new.1.0 in
+    let xs = c.rates_to_coefficients.new.table in
     put_as
     (ap (λ (n : ℕ). headingOf a.shape.axes a.shape.level n ++ pointLines 0 xs) (counted-points a.shape a.count c.requires.0)
-    ∙ passed-text a.shape xs _ (ap (λ (v : Verdict). left v xs) (sym c.in-Passed.is) ∙ turned.ensures))
+    ∙ passed-text a.shape xs _ c.in-Passed.ensures)
     (put_then c.put_heading-next.ensures c.put_points.ensures)

@@ -13,12 +13,6 @@ returns-then-table-places c =
     (short-refused a.shape a.table.now (counted-passed a.shape a.count c.requires.0) (omega (arith, counted-points a.shape a.count c.requires.0, c.if-table-places.true)))
     c.put_refused.ensures
 
-pub slice_bounds-put_coefficients-end-2 : goal.slice_bounds-put_coefficients-end-2
-slice_bounds-put_coefficients-end-2 c = simp length-take (omega arith)
-
-pub put_coefficients-requires : goal.put_coefficients-requires
-put_coefficients-requires c = (c.requires.0, simp length-take (omega arith))
-
 pub returns : goal.returns
 returns c =
     let a = c.args in

@@ -1,6 +1,6 @@
 use mathlib.Core.Path.{ap}
-use Prim.Native.Nat.{◌-◌}
 use native.Mathlib.Omega.{arith}
+use borrow.Author.Rules.{rules}
 use lib.IntN.{pos}
 use lib.ListN.{get_or}
 use mir.Syntax.{w64}
@@ -23,7 +23,7 @@ loop-p-preserved c =
     listed-steps
     c.loop-p.invariant
     (omega arith)
-    (put_as (ap (pointLine p) (to_z-of_z w64 (get_or table p (pos 0)) (record { sfits = c.put_point-arg-1.given }))) c.put_point-next.ensures)
+    (put_as (ap (pointLine p) (to_z-of_z w64 (get_or table p (pos 0)) (search rules))) c.put_point-next.ensures)
 
 pub returns : goal.returns
 returns c = listed-ends c.loop-p.invariant (omega arith)

@@ -60,9 +60,3 @@ returns-then-v-lt0 c =
     let fits = c.ranges.v in
     let below = test v true fits c.if-v-lt0.true in
     rw (cast v fits c.if-v-lt0.true) (distance v below)
-
-pub returns-else-v-lt0 : goal.returns-else-v-lt0
-returns-else-v-lt0 c =
-    let v = c.args.v in
-    let fits = c.ranges.v in
-    ap nat_abs (to_z-of_z w64 v fits)

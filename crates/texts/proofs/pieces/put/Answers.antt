@@ -1,4 +1,3 @@
-use Prim.Native.Nat.{◌-◌}
 use native.Mathlib.Omega.{arith}
 use Rattle.buffers.proofs.Puts.{put-length}
 use Rattle.texts.proofs.Puts.{copied-starts, copied_steps, copied-ends}

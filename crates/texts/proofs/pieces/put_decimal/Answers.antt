@@ -9,11 +9,11 @@ use Rattle.texts.proofs.pieces.put_decimal.Goals as goal
 pub put-requires : goal.put-requires
 put-requires c =
     let written = c.decimal-count in
-    omega (arith, written.ensures.0.1, few-digits written.result c.args.n written.ensures.1.0 c.ranges.n.fits)
+    omega (arith, written.ensures.in_bounds.1, few-digits written.result c.args.n written.ensures.len c.ranges.n.fits)
 
 pub returns : goal.returns
 returns c =
     let written = c.decimal-count in
     put_as
-    (written.ensures.1.1 ∙ decimal-digits written.result c.args.n written.ensures.1.0 c.ranges.n.fits)
+    (written.ensures.digits ∙ decimal-digits written.result c.args.n written.ensures.len c.ranges.n.fits)
     c.put.ensures
