@@ -21,9 +21,6 @@ tested c =
     c.in_limit.ensures
     ∙ ap inLimit (to_z-of_z w64 (get_or xs p (pos 0)) (search rules))
 
-pub loop-p-init : goal.loop-p-init
-loop-p-init c = (search rules, λ p h. absurd (omega arith))
-
 pub returns-then-not-in_limit : goal.returns-then-not-in_limit
 returns-then-not-in_limit c =
     let xs = c.args.table.now in

@@ -4,14 +4,6 @@ use Rattle.neighbours.proofs.Coarsening.{coarsened-starts, coarsened-ends, level
 use Rattle.neighbours.proofs.coarser.Goals.{After-first_of}
 use Rattle.neighbours.proofs.coarser.Goals as goal
 
-pub loop-m-init : goal.loop-m-init
-loop-m-init c = coarsened-starts c.requires
-
-pub bounds-levels-place : goal.bounds-levels-place
-bounds-levels-place c =
-    let pre = c.requires in
-    omega (arith, pre.axis, pre.few)
-
 pub first_of-requires : goal.first_of-requires
 first_of-requires c =
     let loop = c.loop-m in
@@ -27,25 +19,10 @@ small c =
     level-small c.requires _ _ _ c.loop-m.invariant
     c.loop-m-test.true
 
-pub overflow_cast-starts : goal.overflow_cast-starts
-overflow_cast-starts c = omega (arith, small (goal.at.overflow_cast-starts c).After-first_of)
-
-pub offset_bounds-starts-m : goal.offset_bounds-starts-m
-offset_bounds-starts-m c = omega (arith, small (goal.at.offset_bounds-starts-m c).After-first_of)
-
 pub bounds-starts-m : goal.bounds-starts-m
 bounds-starts-m c = small (goal.at.bounds-starts-m c).After-first_of
-
-pub overflow_add-m : goal.overflow_add-m
-overflow_add-m c = omega (arith, small (goal.at.overflow_add-m c).After-first_of)
-
-pub loop-m-smaller : goal.loop-m-smaller
-loop-m-smaller c = omega (arith, c.loop-m-test.true)
 
 pub loop-m-preserved : goal.loop-m-preserved
 loop-m-preserved c =
     coarsened-steps c.requires _ _ _ c.loop-m.invariant
     c.loop-m-test.true _ c.first_of.ensures
-
-pub returns : goal.returns
-returns c = coarsened-ends _ _ _ c.loop-m.invariant c.loop-m-test.false

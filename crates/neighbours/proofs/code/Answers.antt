@@ -10,9 +10,6 @@ use Rattle.neighbours.proofs.Coding.{at-border, between, falls, total-small, com
 use Rattle.neighbours.proofs.code.Goals.{After-reduce-up, Else-is_border}
 use Rattle.neighbours.proofs.code.Goals as goal
 
-pub is_border-requires : goal.is_border-requires
-is_border-requires c = omega (arith, c.requires.0.bits)
-
 pub returns-then-is_border : goal.returns-then-is_border
 returns-then-is_border c = at-border c.requires.0 _ _ _ (sym c.is_border.ensures ∙ c.if-is_border.true)
 

@@ -10,9 +10,6 @@ use Rattle.neighbours.proofs.Beside.{sized, before_small, beyond-small, digit-sm
 use Rattle.neighbours.proofs.codes.Goals.{After-low_bits-digit}
 use Rattle.neighbours.proofs.codes.Goals as goal
 
-pub overflow_sub-position : goal.overflow_sub-position
-overflow_sub-position c = c.requires.2
-
 pub low_bits-before-requires : goal.low_bits-before-requires
 low_bits-before-requires c = omega (arith, (sized c.requires.0 c.requires.1).bits)
 
@@ -32,14 +29,8 @@ digit-fits c = (
   pow_mono {i = v-own c} {j = 8} (omega (arith, (sized c.requires.0 c.requires.1).bits)),
 )
 
-pub overflow_cast-digit : goal.overflow_cast-digit
-overflow_cast-digit c = omega (arith, digit-fits (goal.at.overflow_cast-digit c).After-low_bits-digit)
-
 pub overflow_shr-beyond : goal.overflow_shr-beyond
 overflow_shr-beyond c = omega (arith, (sized c.requires.0 c.requires.1).bits)
-
-pub overflow_mul-digit : goal.overflow_mul-digit
-overflow_mul-digit c = omega (arith, digit-fits (goal.at.overflow_mul-digit c).After-low_bits-digit)
 
 pub code-left-requires : goal.code-left-requires
 code-left-requires c =
@@ -50,12 +41,6 @@ code-left-requires c =
       omega arith,
       omega (arith, digit-fits (goal.at.code-left-requires c).After-low_bits-digit, pow-suc 2 (v-own (goal.at.code-left-requires c).After-low_bits-digit)),
     )
-
-pub overflow_mul-digit-2 : goal.overflow_mul-digit-2
-overflow_mul-digit-2 c = omega (arith, digit-fits (goal.at.overflow_mul-digit-2 c).After-low_bits-digit)
-
-pub overflow_add-digit : goal.overflow_add-digit
-overflow_add-digit c = omega (arith, digit-fits (goal.at.overflow_add-digit c).After-low_bits-digit)
 
 pub code-right-requires : goal.code-right-requires
 code-right-requires c =

@@ -16,12 +16,3 @@ pub level_sum-requires : goal.level_sum-requires
 level_sum-requires c =
     let pre = c.requires in
     (omega (arith, pre.0, pre.2), before_small _ _ _ _ _ _ pre.0 pre.1 pre.2 pre.3 pre.4 pre.5)
-
-pub returns : goal.returns
-returns c =
-    let pre = c.requires in (
-      seen _ _ _ _ _ _ pre.0 pre.1 pre.2 pre.3 pre.4 pre.5 _ c.level_sum.ensures,
-      refl,
-      refl,
-      ap (λ (x : ℕ). c.args.start + x) (one_shifted 64 _ (omega (arith, pre.1, pre.4))),
-    )

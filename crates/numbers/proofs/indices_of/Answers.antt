@@ -4,7 +4,7 @@ use borrow.Author.Rules.{rules}
 use Rattle.naturals.proofs.Sums.{term-le}
 use Rattle.numbering.specs.Point.{at}
 use Rattle.numbers.proofs.Widths.{digit-small}
-use Rattle.numbers.proofs.Unpacked.{unpacked-starts, unpacked-steps, unpacked-ends}
+use Rattle.numbers.proofs.Unpacked.{unpacked-starts, unpacked-steps}
 use Rattle.numbers.proofs.indices_of.Goals.{After-low_bits-digit, In-loop-t}
 use Rattle.numbers.proofs.indices_of.Goals as goal
 
@@ -36,14 +36,8 @@ overflow_add-indices c = omega (arith, small (goal.at.overflow_add-indices c).Af
 pub overflow_cast-indices : goal.overflow_cast-indices
 overflow_cast-indices c = omega (arith, small (goal.at.overflow_cast-indices c).After-low_bits-digit)
 
-pub overflow_cast-rest : goal.overflow_cast-rest
-overflow_cast-rest c = omega (arith, few (goal.at.overflow_cast-rest c).In-loop-t)
-
 pub overflow_shr-rest : goal.overflow_shr-rest
 overflow_shr-rest c = omega (arith, few (goal.at.overflow_shr-rest c).In-loop-t)
 
 pub loop-t-preserved : goal.loop-t-preserved
 loop-t-preserved c = unpacked-steps c.loop-t.invariant c.low_bits-digit.result c.loop-t-test.true (search rules) c.low_bits-digit.ensures
-
-pub returns : goal.returns
-returns c = unpacked-ends c.loop-t.invariant c.loop-t-test.false

@@ -19,9 +19,6 @@ size c = c.vector_count-size.ensures ∙ sym (ending-is _ _ _)
 pub returns-then-rest-size : goal.returns-then-rest-size
 returns-then-rest-size c = searched-ends c.loop-rest.invariant (size (goal.at.returns-then-rest-size c).After-vector_count-size) c.if-rest-size.true
 
-pub overflow_add-level : goal.overflow_add-level
-overflow_add-level c = omega (arith, searched-before c.loop-rest.invariant (size (goal.at.overflow_add-level c).After-vector_count-size) c.if-rest-size.false)
-
 pub loop-rest-smaller : goal.loop-rest-smaller
 loop-rest-smaller c = omega (arith, searched-before c.loop-rest.invariant (size (goal.at.loop-rest-smaller c).After-vector_count-size) c.if-rest-size.false)
 

@@ -1,15 +1,10 @@
-use native.Mathlib.Omega.{arith}
 use borrow.Author.Rules.{rules}
 use Rattle.numbers.proofs.Searched.{lies-le}
-use Rattle.numbers.proofs.Unranked.{unranked-starts, unranked-below, unranked-steps, unranked-ends}
+use Rattle.numbers.proofs.Unranked.{unranked-starts, unranked-steps, unranked-ends}
 use Rattle.numbers.proofs.levels_of.Goals as goal
 
 pub loop-k-init : goal.loop-k-init
 loop-k-init c = unranked-starts _ _ _ (search rules) (search rules)
-
-pub last_level-place-requires : goal.last_level-place-requires
-last_level-place-requires c =
-    (search rules, omega arith, omega arith, omega arith, unranked-below c.loop-k.invariant c.loop-k-test.true)
 
 pub overflow_sub-left : goal.overflow_sub-left
 overflow_sub-left c = lies-le c.last_level-place.ensures

@@ -20,9 +20,6 @@ returns-in-Refused c =
 passed : (c : In_default) → checkShape c.args.shape ≡ Passed
 passed c = sym c.check_shape.ensures ∙ c.in_default.is
 
-pub points_of-requires : goal.points_of-requires
-points_of-requires c = passed (goal.at.points_of-requires c).In_default
-
 pub returns-then-points_of-number : goal.returns-then-points_of-number
 returns-then-points_of-number c =
     c.nowhere-then-points_of-number.ensures

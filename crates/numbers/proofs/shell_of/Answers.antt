@@ -22,9 +22,6 @@ size c =
 pub returns-then-rest-size : goal.returns-then-rest-size
 returns-then-rest-size c = searched-ends c.loop-rest.invariant (size (goal.at.returns-then-rest-size c).After-vector_count) c.if-rest-size.true
 
-pub overflow_add-sum : goal.overflow_add-sum
-overflow_add-sum c = omega (arith, searched-before c.loop-rest.invariant (size (goal.at.overflow_add-sum c).After-vector_count) c.if-rest-size.false)
-
 pub loop-rest-smaller : goal.loop-rest-smaller
 loop-rest-smaller c = omega (arith, searched-before c.loop-rest.invariant (size (goal.at.loop-rest-smaller c).After-vector_count) c.if-rest-size.false)
 

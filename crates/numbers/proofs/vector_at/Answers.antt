@@ -14,9 +14,6 @@ use Rattle.numbers.proofs.vector_at.Goals as goal
 few : (c : After-shell_of-place) → c.shell_of-place.result.block ≤ 8
 few c = omega (arith, lies-le c.shell_of-place.ensures)
 
-pub overflow_cast-sum : goal.overflow_cast-sum
-overflow_cast-sum c = omega (arith, few (goal.at.overflow_cast-sum c).After-shell_of-place)
-
 pub overflow_shr-rest : goal.overflow_shr-rest
 overflow_shr-rest c = omega (arith, few (goal.at.overflow_shr-rest c).After-shell_of-place)
 

@@ -1,7 +1,7 @@
 use native.Mathlib.Omega.{arith}
 use borrow.Author.Rules.{rules}
 use Rattle.naturals.proofs.Summed.{summed-so-far, summed-fits}
-use Rattle.numbers.proofs.Ranked.{ranked-starts, ranked-fits, ranked-sub, ranked-steps, ranked-ends}
+use Rattle.numbers.proofs.Ranked.{ranked-starts, ranked-fits, ranked-sub, ranked-steps}
 use Rattle.numbers.proofs.vector_rank.Goals as goal
 
 pub loop-t-init : goal.loop-t-init
@@ -38,6 +38,3 @@ loop-t-preserved c =
     ranked-steps c.loop-t.invariant c.loop-t-test.true _ _
     c.vector_count.ensures
     c.vector_count-in-loop-t.ensures
-
-pub returns : goal.returns
-returns c = ranked-ends c.loop-t.invariant c.loop-t-test.false

@@ -23,11 +23,6 @@ between c =
     (inside a.side (at a.p.levels a.t) (at a.p.indices a.t) c.requires.2 c.requires.3
     (rw numerator at (sym c.is_border.ensures ∙ c.if-is_border.false)))
 
-pub neighbour-numerator-requires : goal.neighbour-numerator-requires
-neighbour-numerator-requires c =
-    let l = at c.args.p.levels c.args.t in
-    omega (arith, c.requires, pow_mono {i = suc l} {j = 9} (omega (arith, c.requires)))
-
 pub returns-then-is_border : goal.returns-then-is_border
 unfolding located
 returns-then-is_border c =

@@ -12,8 +12,5 @@ between c = record { even = c.requires.1; pos = c.requires.2; below = c.requires
 pub overflow_sub-result : goal.overflow_sub-result
 overflow_sub-result c = zeros-le _ _ c.requires.0 (between (goal.at.overflow_sub-result c).Start)
 
-pub overflow_shr-result : goal.overflow_shr-result
-overflow_shr-result c = omega (arith, zeros-le _ _ c.requires.0 (between (goal.at.overflow_shr-result c).Start), c.requires.0)
-
 pub returns : goal.returns
 returns c = (level-is _ _ c.requires.0 (between (goal.at.returns c).Start), index_is _ _ c.requires.0 (between (goal.at.returns c).Start))

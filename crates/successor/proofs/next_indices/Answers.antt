@@ -1,10 +1,7 @@
 use native.Mathlib.Omega.{arith}
-use Rattle.successor.proofs.Indices.{turned-starts, turned-steps, turned-raised, turned-past, level-small, index-small, bound}
+use Rattle.successor.proofs.Indices.{turned-steps, turned-raised, turned-past, level-small, index-small, bound}
 use native.Mathlib.Numerals.{add-one}
 use Rattle.successor.proofs.next_indices.Goals as goal
-
-pub loop-t-init : goal.loop-t-init
-loop-t-init c = turned-starts _ _ _ c.requires.1
 
 pub overflow_add-raised : goal.overflow_add-raised
 overflow_add-raised c =

@@ -98,22 +98,19 @@ previous_vector-before-requires c =
     )
 
 -- The level vector before it.
-abbrev at-loop : After-previous_vector-before → At-loop-start
-at-loop c = c.before.before.before.before.before.before.before
-
 before-it : (c : After-previous_vector-before) →
-    let line = (at-loop c).args.line in
+    let line = c.args.line in
     Standing line.axes c.previous_vector-before.result.sum c.previous_vector-before.result.levels
-    ((at-loop c).loop-start.start - 2 ^ c.previous_vector-before.result.sum)
-before-it c = stands-before _ _ _ _ (at-loop c).loop-start.invariant.1 _ _ c.previous_vector-before.ensures
+    (c.loop-start.start - 2 ^ c.previous_vector-before.result.sum)
+before-it c = stands-before _ _ _ _ c.loop-start.invariant.1 _ _ c.previous_vector-before.ensures
 
-has_room : (c : After-previous_vector-before) → 2 ^ c.previous_vector-before.result.sum ≤ (at-loop c).loop-start.start
-has_room c = room _ _ _ _ (at-loop c).loop-start.invariant.1 _ _ c.previous_vector-before.ensures
+has_room : (c : After-previous_vector-before) → 2 ^ c.previous_vector-before.result.sum ≤ c.loop-start.start
+has_room c = room _ _ _ _ c.loop-start.invariant.1 _ _ c.previous_vector-before.ensures
 
 sum-small : (c : After-previous_vector-before) → c.previous_vector-before.result.sum ≤ 8
 sum-small c =
-    let s = (at-loop c).loop-start.invariant in
-    let line = (at-loop c).args.line in
+    let s = c.loop-start.invariant in
+    let line = c.args.line in
     let low = sum_inside line.axes line.level _ _ _ (before-it c) (omega (arith, s.2, s.0.below, s.0.inside)) in
     omega (arith, low, s.0.axis.low)
 
@@ -123,7 +120,7 @@ overflow_shl-start c = omega (arith, sum-small (goal.at.overflow_shl-start c).Af
 pub loop-start-preserved : goal.loop-start-preserved
 loop-start-preserved c =
     let seen = goal.at.loop-start-preserved c in
-    let s = (at-loop seen.After-previous_vector-before).loop-start.invariant in
+    let s = c.loop-start.invariant in
     let shift = one_shifted 64 c.previous_vector-before.result.sum (omega (arith, sum-small seen.After-previous_vector-before)) in (
       rw (sym (all-of-it seen.Else-start-lowered)) (lowering-block _ _ _ _ _ _ s.0 _ _ _ c.lower_vector-lowered.ensures),
       rw shift (before-it seen.After-previous_vector-before),

@@ -1,5 +1,5 @@
 use native.Mathlib.Omega.{arith}
-use Rattle.naturals.proofs.Summed.{summed-starts, summed-steps, summed-fits, summed-ends}
+use Rattle.naturals.proofs.Summed.{summed-starts, summed-steps, summed-fits}
 use Rattle.vectors.proofs.level_sum.Goals as goal
 
 pub loop-t-init : goal.loop-t-init
@@ -10,6 +10,3 @@ overflow_add-sum c = omega (arith, summed-fits c.loop-t.invariant c.loop-t-test.
 
 pub loop-t-preserved : goal.loop-t-preserved
 loop-t-preserved c = summed-steps c.loop-t.invariant c.loop-t-test.true
-
-pub returns : goal.returns
-returns c = summed-ends c.loop-t.invariant c.loop-t-test.false

@@ -1,10 +1,7 @@
 use native.Mathlib.Numerals.{add-one}
 use native.Mathlib.Omega.{arith}
-use Rattle.vectors.proofs.Following.{bare-starts, bare-steps, raised-fits, next-of-sum, first-of-next}
+use Rattle.vectors.proofs.Following.{raised-fits, next-of-sum, first-of-next}
 use Rattle.vectors.proofs.next_vector.Goals as goal
-
-pub loop-k-init : goal.loop-k-init
-loop-k-init c = bare-starts _ _ c.requires.0
 
 pub overflow_add-next-then-v-gt0 : goal.overflow_add-next-then-v-gt0
 overflow_add-next-then-v-gt0 c =
@@ -19,10 +16,6 @@ returns-then-v-gt0 c =
     let loop = c.loop-k in
     rw (add-one loop.k)
     (next-of-sum pre.1 pre.3 loop.invariant (omega (arith, c.loop-k-test.true)) c.if-v-gt0.true)
-
-pub loop-k-preserved : goal.loop-k-preserved
-loop-k-preserved c =
-    rw add-one (bare-steps c.loop-k.invariant (omega (arith, c.loop-k-test.true)) c.if-v-gt0.false)
 
 pub returns : goal.returns
 returns c = first-of-next c.requires.3 c.loop-k.invariant (omega (arith, c.loop-k-test.false))

@@ -3,7 +3,7 @@ use native.Mathlib.Omega.{arith}
 use borrow.Author.Rules.{rules}
 use mir.Syntax.{w32}
 use mir.Val.{Fits}
-use Rattle.naturals.proofs.Summed.{summed-starts, summed-steps, summed-fits, summed-ends, sum_bound}
+use Rattle.naturals.proofs.Summed.{summed-starts, summed-steps, summed-fits, sum_bound}
 use Rattle.numbering.specs.Point.{at}
 use Rattle.vectors.proofs.total.Goals.{In-loop-t}
 use Rattle.vectors.proofs.total.Goals as goal
@@ -25,6 +25,3 @@ overflow_add-sum c =
 
 pub loop-t-preserved : goal.loop-t-preserved
 loop-t-preserved c = summed-steps c.loop-t.invariant c.loop-t-test.true
-
-pub returns : goal.returns
-returns c = summed-ends c.loop-t.invariant c.loop-t-test.false

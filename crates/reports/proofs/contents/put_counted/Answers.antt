@@ -1,7 +1,6 @@
 -- `reports::contents::put_counted` meets its contract: too few places are refused, and else as many are lent as there are points.
 -- Assumes nothing.
 use native.Mathlib.Omega.{arith}
-use lib.ListN.{length-take}
 use Rattle.buffers.proofs.Puts.{put_as}
 use Rattle.reports.proofs.Texts.{counted-passed, counted-points, short-refused, prefix-text}
 use Rattle.reports.proofs.contents.put_counted.Goals as goal

@@ -1,7 +1,6 @@
 -- `reports::contents::put_table` meets its contract: a shape that is refused, or the table of its points.
 -- Assumes nothing.
 use mathlib.Core.Path.{sym}
-use native.Mathlib.Omega.{arith}
 use Rattle.buffers.proofs.Puts.{put_as}
 use Rattle.reports.proofs.Texts.{shape-refused}
 use Rattle.reports.proofs.contents.put_table.Goals as goal

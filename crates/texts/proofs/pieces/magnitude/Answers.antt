@@ -1,6 +1,6 @@
 -- `texts::pieces::magnitude` meets its contract: below zero one more is negated, which fits 64 bits, and 1 is added again.
 -- Assumes nothing.
-use mathlib.Core.Path.{◌≡◌, ap}
+use mathlib.Core.Path.{◌≡◌}
 use mathlib.Core.Bool.{Bool, true, false}
 use Prim.Native.Nat.{◌-◌}
 use native.Mathlib.Omega.{arith}
