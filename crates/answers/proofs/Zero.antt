@@ -6,7 +6,7 @@ use mathlib.Core.Path.{◌≡◌, refl}
 use Prim.Native.Nat.{ℕ, suc, ◌<◌}
 use native.Mathlib.Omega.{arith}
 use lib.Dec.{ltb}
-use Rattle.naturals.specs.Test.{if◌then◌else◌}
+use Rattle.std.specs.Prelude.{if◌then◌else◌}
 use Rattle.refusals.specs.declared.Refusal.{Refusal}
 use Rattle.refusals.specs.declared.Refusal.TheVariants.{Axes, Level, TableLength, Rate, Axis, PointNumber, ListLength, Coordinate, NoPoint, Contents, FileEnds, FiledNumber, BytesLeft, StrayBit, AlreadyForward, NotForward, StillSampled, StillForward, TooManyPoints}
 use Rattle.refusals.specs.declared.Verdict.{Verdict}

@@ -1,7 +1,6 @@
 -- The one point of a level that can have a weight above 0 on an axis.
 -- Assumes nothing.
-use Rattle.std.specs.Prelude.{ℕ, ◌+◌, ◌*◌, ◌/◌, ◌^◌, ltb}
-use Rattle.naturals.specs.Test.{if◌then◌else◌}
+use Rattle.std.specs.Prelude.{ℕ, ◌+◌, ◌*◌, ◌/◌, ◌^◌, ltb, if◌then◌else◌}
 use Rattle.surfaces.specs.Weights.{unit}
 
 -- On one axis, the cell of level l in which x lies, counted from 0. The point in the middle of it alone can have a weight above 0 at x. At the unit itself no

@@ -1,8 +1,7 @@
 -- The order of work on a component grid (document 02, c): the interval is split at its middle point into two halves and a middle, along the axis with most
 -- points left, and the parts are split again. Axes count from 0, so the axes s to t − 1 here are axes s + 1 to t of the papers; `tops` are the top levels of the grid.
 -- Assumes nothing.
-use Rattle.std.specs.Prelude.{List, ◌++◌, ℕ, zero, suc, ◌+◌, ◌-◌, ◌*◌, ◌^◌, leb, ltb}
-use Rattle.naturals.specs.Test.{if◌then◌else◌}
+use Rattle.std.specs.Prelude.{List, ◌++◌, ℕ, zero, suc, ◌+◌, ◌-◌, ◌*◌, ◌^◌, leb, ltb, if◌then◌else◌}
 use Rattle.numbering.specs.Parent.{update}
 use Rattle.hierarchy.specs.Work.{Item}
 use Rattle.splits.specs.Splits.{stepsAt, cut}

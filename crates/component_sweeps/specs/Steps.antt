@@ -1,7 +1,6 @@
 -- What a turn of one axis in a box asks and leaves.
 -- Assumes nothing.
-use Rattle.std.specs.Prelude.{Bool, true, List, ◌≡◌, ℕ, suc, ◌+◌, ◌-◌, ◌*◌, ◌^◌, ◌≤◌, ◌<◌, ℤ, ◌+ℤ◌, ◌-ℤ◌, length}
-use Rattle.naturals.specs.Test.{if◌then◌else◌}
+use Rattle.std.specs.Prelude.{Bool, true, List, ◌≡◌, ℕ, suc, ◌+◌, ◌-◌, ◌*◌, ◌^◌, ◌≤◌, ◌<◌, ℤ, ◌+ℤ◌, ◌-ℤ◌, length, if◌then◌else◌}
 use Rattle.integers.specs.Half.{half, inLimit}
 use Rattle.numbering.specs.Point.{at}
 use Rattle.numbering.specs.Parent.{twos}

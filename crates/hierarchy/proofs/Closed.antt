@@ -7,7 +7,7 @@ use Prim.Native.Nat.{ℕ, zero, suc, ◌+◌, ◌^◌, ◌<◌, ◌-◌}
 use native.Mathlib.Nat.{two-pow-succ, add-zero}
 use native.Mathlib.Omega.{arith}
 use lib.IntN.{ℤ, pos, ◌+ℤ◌, ◌*ℤ◌, zero-*ℤ}
-use Rattle.naturals.specs.Test.{if◌then◌else◌}
+use Rattle.std.specs.Prelude.{if◌then◌else◌}
 use Rattle.naturals.proofs.Cases.{eq-or-not, true-or-false}
 use Rattle.integers.proofs.Products.{times-plus, times-one}
 use Rattle.integers.specs.Half.{isEven}

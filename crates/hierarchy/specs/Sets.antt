@@ -1,7 +1,6 @@
 -- The table of a set of axes (document 01, "A run of turns").
 -- Assumes nothing.
-use Rattle.std.specs.Prelude.{Bool, true, false, ℕ, zero, suc, ◌^◌, ℤ, pos, ◌*ℤ◌}
-use Rattle.naturals.specs.Test.{if◌then◌else◌}
+use Rattle.std.specs.Prelude.{Bool, true, false, ℕ, zero, suc, ◌^◌, ℤ, pos, ◌*ℤ◌, if◌then◌else◌}
 use Rattle.hierarchy.specs.Grid.{Neighbours}
 use Rattle.hierarchy.specs.Turns.{forward}
 

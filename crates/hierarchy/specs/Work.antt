@@ -1,7 +1,6 @@
 -- Single steps of work in one table, in some order: what a sweep, a walk by level vector or a list of work items is made of.
 -- Assumes nothing.
-use Rattle.std.specs.Prelude.{◌≡◌, ◌⊎◌, List, [], ◌∷◌, ℕ, suc, leb, eqb, ℤ, ◌-ℤ◌}
-use Rattle.naturals.specs.Test.{if◌then◌else◌}
+use Rattle.std.specs.Prelude.{◌≡◌, ◌⊎◌, List, [], ◌∷◌, ℕ, suc, leb, eqb, ℤ, ◌-ℤ◌, if◌then◌else◌}
 use Rattle.integers.specs.Half.{half}
 use Rattle.numbering.specs.declared.Side.{Side}
 use Rattle.hierarchy.specs.Grid.{Neighbours, Still}

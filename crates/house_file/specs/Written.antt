@@ -1,7 +1,6 @@
 -- Numbers and files as they are written: each number in the fewest groups of seven bits (document 01, "House file"; document 02, a).
 -- Assumes nothing.
-use Rattle.std.specs.Prelude.{List, [], ◌∷◌, ◌++◌, ℕ, zero, suc, ◌+◌, ◌/◌, ◌%◌, ltb, ℤ}
-use Rattle.naturals.specs.Test.{if◌then◌else◌}
+use Rattle.std.specs.Prelude.{List, [], ◌∷◌, ◌++◌, ℕ, zero, suc, ◌+◌, ◌/◌, ◌%◌, ltb, ℤ, if◌then◌else◌}
 use Rattle.shapes.specs.declared.Shape.{Shape}
 use Rattle.house_numbers.specs.Numbers.{filed}
 

@@ -13,7 +13,7 @@ use lib.ListN.{length, get_or, drop, drop_of_length-le}
 use lib.Pow.{pow-add, pow_mono}
 use lib.Seq.{drop-cons}
 use borrow.Author.Tests.{lt-ltb, le-ltb}
-use Rattle.naturals.specs.Test.{if◌then◌else◌}
+use Rattle.std.specs.Prelude.{if◌then◌else◌}
 use Rattle.refusals.specs.declared.Refusal.TheVariants.{FileEnds, FiledNumber}
 use Rattle.refusals.specs.Checks.{unless}
 use Rattle.house_numbers.specs.declared.Number.TheVariants as number

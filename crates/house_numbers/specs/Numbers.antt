@@ -1,7 +1,6 @@
 -- Numbers and rates of a house file (document 01, "House file"). A byte is a number below 256.
 -- Assumes nothing.
-use Rattle.std.specs.Prelude.{List, [], ◌∷◌, ℕ, zero, suc, ◌+◌, ◌-◌, ◌*◌, ◌/◌, ◌%◌, leb, ltb, eqb, ℤ, pos, negsuc}
-use Rattle.naturals.specs.Test.{if◌then◌else◌}
+use Rattle.std.specs.Prelude.{List, [], ◌∷◌, ℕ, zero, suc, ◌+◌, ◌-◌, ◌*◌, ◌/◌, ◌%◌, leb, ltb, eqb, ℤ, pos, negsuc, if◌then◌else◌}
 use Rattle.refusals.specs.declared.Refusal.TheVariants.{FileEnds, FiledNumber}
 use Rattle.refusals.specs.Checks.{unless}
 use Rattle.house_numbers.specs.Reading.{Read, got, refused, ◌next◌, ◌thenRead◌}

@@ -1,7 +1,6 @@
 -- What the reader of numbers answers, in terms of the definitions. A place in a file is an index of its bytes: from there on stands what `drop` leaves.
 -- Assumes nothing.
-use Rattle.std.specs.Prelude.{◌≡◌, List, ℕ, leb, drop}
-use Rattle.naturals.specs.Test.{if◌then◌else◌}
+use Rattle.std.specs.Prelude.{◌≡◌, List, ℕ, leb, drop, if◌then◌else◌}
 use Rattle.refusals.specs.declared.Refusal.TheVariants.{FiledNumber}
 use Rattle.house_numbers.specs.declared.Number.{Number}
 use Rattle.house_numbers.specs.declared.Number.TheVariants as number

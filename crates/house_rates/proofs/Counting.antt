@@ -11,7 +11,7 @@ use lib.ListN.{length, get_or, drop, drop_of_length-le}
 use lib.Seq.{drop-cons}
 use borrow.Author.Tests.{lt-ltb, le-ltb}
 use mir.Val.{bool_byte}
-use Rattle.naturals.specs.Test.{if◌then◌else◌}
+use Rattle.std.specs.Prelude.{if◌then◌else◌}
 use Rattle.naturals.proofs.Cases.{le-or-lt}
 use Rattle.house_rates.specs.Steps.{isEnd, ends, Counted}
 

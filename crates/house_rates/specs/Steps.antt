@@ -1,7 +1,6 @@
 -- What the check of the rates and the pass that fills a buffer keep.
 -- Assumes nothing.
-use Rattle.std.specs.Prelude.{◌≡◌, List, [], ◌∷◌, ◌++◌, ℕ, ◌+◌, ◌≤◌, ◌<◌, ltb, eqb, ℤ, length, get_or, drop}
-use Rattle.naturals.specs.Test.{if◌then◌else◌}
+use Rattle.std.specs.Prelude.{◌≡◌, List, [], ◌∷◌, ◌++◌, ℕ, ◌+◌, ◌≤◌, ◌<◌, ltb, eqb, ℤ, length, get_or, drop, if◌then◌else◌}
 use Rattle.refusals.specs.declared.Refusal.TheVariants.{BytesLeft}
 use Rattle.refusals.specs.declared.Verdict.{Verdict}
 use Rattle.refusals.specs.declared.Verdict.TheVariants as verdict

@@ -1,7 +1,6 @@
 -- Division of whole numbers, rounded to the nearest (document 02, b).
 -- Assumes nothing.
-use Rattle.std.specs.Prelude.{◌≡◌, ℕ, suc, ◌*◌, ◌/◌, ◌%◌, ◌≤◌, leb, ltb, ℤ, pos, negsuc, neg_ℤ, nat_abs, ◌-ℤ◌, ◌*ℤ◌}
-use Rattle.naturals.specs.Test.{if◌then◌else◌}
+use Rattle.std.specs.Prelude.{◌≡◌, ℕ, suc, ◌*◌, ◌/◌, ◌%◌, ◌≤◌, leb, ltb, ℤ, pos, negsuc, neg_ℤ, nat_abs, ◌-ℤ◌, ◌*ℤ◌, if◌then◌else◌}
 
 -- A natural number divided by m, rounded to the nearest; a half goes up.
 unfoldable pub nearestUp : ℕ → ℕ → ℕ

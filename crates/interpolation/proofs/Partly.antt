@@ -9,7 +9,8 @@ use native.Mathlib.Nat.{zero-mul}
 use native.Mathlib.Omega.{arith}
 use lib.IntN.{ℤ, pos, ◌+ℤ◌, ◌*ℤ◌}
 use Rattle.naturals.specs.Sum.{prodTo}
-use Rattle.naturals.specs.Test.{if◌then◌else◌, all}
+use Rattle.std.specs.Prelude.{if◌then◌else◌}
+use Rattle.naturals.specs.Test.{all}
 use Rattle.naturals.proofs.Cases.{eq-or-not, true-or-false}
 use Rattle.naturals.proofs.Tests.{all-zero, all-suc, all-at, all_from}
 use Rattle.integers.proofs.Linear.{leaf, ◌⊕◌, ⊖◌, equal, known}

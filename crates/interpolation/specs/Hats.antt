@@ -1,8 +1,7 @@
 -- What interpolation needs of the weights of a grid of neighbours, its hat functions: on each axis the weight of a point at another, and
 -- whether the two are the same there.
 -- Assumes nothing.
-use Rattle.std.specs.Prelude.{Bool, true, ◌≡◌, ℕ, suc, ◌+◌, ◌*◌, ◌<◌}
-use Rattle.naturals.specs.Test.{if◌then◌else◌}
+use Rattle.std.specs.Prelude.{Bool, true, ◌≡◌, ℕ, suc, ◌+◌, ◌*◌, ◌<◌, if◌then◌else◌}
 use Rattle.numbering.specs.declared.Side.{Side}
 use Rattle.numbering.specs.declared.Side.TheVariants.{Left, Right}
 use Rattle.hierarchy.specs.Grid.{Neighbours}

@@ -7,7 +7,7 @@ use Prim.Native.Nat.{ℕ, zero, suc, ◌≤◌, ◌<◌}
 use native.Mathlib.Omega.{arith}
 use lib.Dec.{ltb}
 use borrow.Author.Tests.{lt-ltb, le-ltb}
-use Rattle.naturals.specs.Test.{if◌then◌else◌}
+use Rattle.std.specs.Prelude.{if◌then◌else◌}
 use Rattle.naturals.proofs.Cases.{le-or-lt, true-or-false}
 use Rattle.naturals.specs.FirstFailing.{Passes, firstFailing}
 

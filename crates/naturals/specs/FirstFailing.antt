@@ -1,7 +1,6 @@
 -- The first place that fails a test: where several axes or values would be refused, the place of the refusal is the first.
 -- Assumes nothing.
-use Rattle.std.specs.Prelude.{Bool, true, ◌≡◌, ℕ, zero, suc, ◌<◌, ltb}
-use Rattle.naturals.specs.Test.{if◌then◌else◌}
+use Rattle.std.specs.Prelude.{Bool, true, ◌≡◌, ℕ, zero, suc, ◌<◌, ltb, if◌then◌else◌}
 
 -- A test passes at every place below a bound.
 abbrev pub Passes : (ℕ → Bool) → ℕ → Type 0

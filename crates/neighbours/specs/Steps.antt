@@ -1,8 +1,7 @@
 -- A level vector as a turn on an axis meets it, and the code of a parent of its points.
 -- Assumes nothing.
-use Rattle.std.specs.Prelude.{List, ◌≡◌, ℕ, suc, ◌+◌, ◌-◌, ◌*◌, ◌/◌, ◌^◌, ◌≤◌, ◌<◌, length}
+use Rattle.std.specs.Prelude.{List, ◌≡◌, ℕ, suc, ◌+◌, ◌-◌, ◌*◌, ◌/◌, ◌^◌, ◌≤◌, ◌<◌, length, if◌then◌else◌}
 use Rattle.naturals.specs.Sum.{sumTo}
-use Rattle.naturals.specs.Test.{if◌then◌else◌}
 use Rattle.numbering.specs.Point.{at}
 use Rattle.numbering.specs.Number.{firstOf}
 use Rattle.numbering.specs.Parent.{isBorder, parentLevel, parentIndex, update}

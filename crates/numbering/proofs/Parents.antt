@@ -12,7 +12,7 @@ use lib.Dec.{eqb}
 use lib.Pow.{pow_mono, pow-add}
 use borrow.Author.Tests.{eq-eqb, ne_eqb, eqb-true, eqb-false}
 use Rattle.naturals.specs.Sum.{sumTo}
-use Rattle.naturals.specs.Test.{if◌then◌else◌}
+use Rattle.std.specs.Prelude.{if◌then◌else◌}
 use Rattle.naturals.proofs.Cases.{eq-or-not, le-or-lt, true-or-false}
 use Rattle.naturals.proofs.Sums.{sumTo-suc, sumTo-cong}
 use Rattle.numbering.specs.declared.Side.{Side}

@@ -6,7 +6,7 @@ use Prim.Native.Nat.{ℕ, ◌+◌, ◌*◌, ◌%◌, ◌^◌, ◌≤◌, ◌<◌
 use lib.Dec.{ltb}
 use borrow.Author.Tests.{lt-ltb, le-ltb}
 use Rattle.naturals.specs.Sum.{sumTo}
-use Rattle.naturals.specs.Test.{if◌then◌else◌}
+use Rattle.std.specs.Prelude.{if◌then◌else◌}
 use Rattle.numbering.specs.Count.{start, points}
 use Rattle.numbering.specs.Number.{rank, position, firstOf, number}
 use Rattle.numbering.specs.Inverse.{sumAt, within, levelAt, indexOf, indexAt}

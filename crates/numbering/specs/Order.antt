@@ -1,8 +1,7 @@
 -- The order of points (document 01, "Numbering the points"): by level sum, then by level vector from the last axis down, then by position.
 -- Assumes nothing.
-use Rattle.std.specs.Prelude.{ℕ, zero, suc, ltb}
+use Rattle.std.specs.Prelude.{ℕ, zero, suc, ltb, if◌then◌else◌}
 use Rattle.naturals.specs.Sum.{sumTo}
-use Rattle.naturals.specs.Test.{if◌then◌else◌}
 use Rattle.numbering.specs.Number.{position}
 use Rattle.numbering.specs.declared.Order.{Order}
 use Rattle.numbering.specs.declared.Order.TheVariants.{Before, Same, After}

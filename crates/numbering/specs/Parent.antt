@@ -1,8 +1,7 @@
 -- Hierarchical parents: the neighbours of a point on an axis (document 01, "Parents and turns").
 -- Assumes nothing.
-use Rattle.std.specs.Prelude.{Bool, ◌||◌, ℕ, suc, ◌+◌, ◌-◌, ◌/◌, ◌^◌, eqb}
+use Rattle.std.specs.Prelude.{Bool, ◌||◌, ℕ, suc, ◌+◌, ◌-◌, ◌/◌, ◌^◌, eqb, if◌then◌else◌}
 use Rattle.std.specs.Int.Count.{count_trailing_zeros}
-use Rattle.naturals.specs.Test.{if◌then◌else◌}
 use Rattle.numbering.specs.declared.Side.{Side}
 use Rattle.numbering.specs.declared.Side.TheVariants.{Left, Right}
 

@@ -1,8 +1,7 @@
 -- What the steps of the two calls answer: a search along blocks, and the indices of a position.
 -- Assumes nothing.
-use Rattle.std.specs.Prelude.{◌≡◌, ℕ, zero, ◌+◌, ltb}
+use Rattle.std.specs.Prelude.{◌≡◌, ℕ, zero, ◌+◌, ltb, if◌then◌else◌}
 use Rattle.naturals.specs.Sum.{sumTo}
-use Rattle.naturals.specs.Test.{if◌then◌else◌}
 use Rattle.numbering.specs.Inverse.{block, indexOf}
 
 -- Place r lies in block j of those up to m, where block 0 has the first f 0 places and so on, and `left` places of the block come before it.

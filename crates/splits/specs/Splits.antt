@@ -1,8 +1,7 @@
 -- The order of work by splitting (source document 003, section 4). Axes count from 0: a set of points on which the axes s to t − 1 are still to be done is cut along an axis into a
 -- middle and two halves; the middle is done for the axes before the cut, then the halves for all, then the middle for the rest.
 -- Assumes nothing.
-use Rattle.std.specs.Prelude.{List, [], ◌∷◌, ◌⊎◌, ◌&&◌, ◌≡◌, ℕ, zero, suc, ◌+◌, ◌≤◌, ◌<◌, min, max, eqb}
-use Rattle.naturals.specs.Test.{if◌then◌else◌}
+use Rattle.std.specs.Prelude.{List, [], ◌∷◌, ◌⊎◌, ◌&&◌, ◌≡◌, ℕ, zero, suc, ◌+◌, ◌≤◌, ◌<◌, min, max, eqb, if◌then◌else◌}
 use Rattle.numbering.specs.declared.Side.{Side}
 use Rattle.hierarchy.specs.Grid.{Neighbours}
 use Rattle.hierarchy.specs.Work.{Item}

@@ -1,7 +1,6 @@
 -- What the call for the successor of a point answers (document 01, "Numbering the points").
 -- Assumes nothing.
-use Rattle.std.specs.Prelude.{List, ℕ, suc, ltb}
-use Rattle.naturals.specs.Test.{if◌then◌else◌}
+use Rattle.std.specs.Prelude.{List, ℕ, suc, ltb, if◌then◌else◌}
 use Rattle.refusals.specs.Checks.{answer}
 use Rattle.numbering.specs.Point.{at}
 use Rattle.shapes.specs.declared.Shape.{Shape}

@@ -8,7 +8,8 @@ use native.Mathlib.Nat.{pow-zero, pow-suc, one-le-pow, mul_comm}
 use native.Mathlib.Omega.{arith}
 use lib.IntN.{ℤ, pos, ◌*ℤ◌}
 use borrow.Author.Tests.{eq-eqb, ne_eqb}
-use Rattle.naturals.specs.Test.{if◌then◌else◌, all}
+use Rattle.std.specs.Prelude.{if◌then◌else◌}
+use Rattle.naturals.specs.Test.{all}
 use Rattle.naturals.proofs.Cases.{eq-or-not}
 use Rattle.integers.specs.Half.{isEven}
 use Rattle.integers.proofs.Products.{times-times, times-cancel}

@@ -1,7 +1,7 @@
 -- Lines of points along an axis, and the one-axis sums on them.
 -- Assumes nothing.
-use Rattle.std.specs.Prelude.{Bool, ◌&&◌, ◌||◌, ℕ, eqb, ℤ}
-use Rattle.naturals.specs.Test.{if◌then◌else◌, all}
+use Rattle.std.specs.Prelude.{Bool, ◌&&◌, ◌||◌, ℕ, eqb, ℤ, if◌then◌else◌}
+use Rattle.naturals.specs.Test.{all}
 use Rattle.zero_border.specs.Numbered.{Numbered}
 use Rattle.shapes.specs.declared.Shape.{Shape}
 use Rattle.shapes.specs.Shapes.{pointsOf}

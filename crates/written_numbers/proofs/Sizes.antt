@@ -9,7 +9,7 @@ use lib.Dec.{leb}
 use lib.ListN.{length}
 use borrow.Author.Tests.{le-leb, lt-leb}
 use mir.Val.{bool_byte}
-use Rattle.naturals.specs.Test.{if◌then◌else◌}
+use Rattle.std.specs.Prelude.{if◌then◌else◌}
 use Rattle.naturals.proofs.Cases.{le-or-lt}
 use Rattle.house_file.specs.Written.{fewest, written}
 use Rattle.house_file.proofs.Undone.{last-group, more-groups}

@@ -1,7 +1,6 @@
 -- How a number's bytes are counted: by the bounds that it reaches.
 -- Assumes nothing.
-use Rattle.std.specs.Prelude.{ℕ, leb}
-use Rattle.naturals.specs.Test.{if◌then◌else◌}
+use Rattle.std.specs.Prelude.{ℕ, leb, if◌then◌else◌}
 
 -- 1 where a number reaches a bound, else 0.
 unfoldable pub reached : ℕ → ℕ → ℕ

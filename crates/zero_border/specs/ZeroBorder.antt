@@ -1,7 +1,6 @@
 -- Neighbours by number on a grid with a zero border: code 0 is the border, code p + 1 is point number p.
 -- Assumes nothing.
-use Rattle.std.specs.Prelude.{◌&&◌, ℕ, zero, suc, ltb}
-use Rattle.naturals.specs.Test.{if◌then◌else◌}
+use Rattle.std.specs.Prelude.{◌&&◌, ℕ, zero, suc, ltb, if◌then◌else◌}
 use Rattle.numbering.specs.declared.Side.{Side}
 use Rattle.numbering.specs.Parent.{Neighbour, border, inner, parent}
 use Rattle.zero_border.specs.Numbered.{Numbered}

@@ -1,6 +1,6 @@
 use Prim.Native.Nat.{◌<◌}
 use native.Mathlib.Omega.{arith}
-use Rattle.neighbours.proofs.Coarsening.{coarsened-starts, coarsened-ends, level-small, changed-sum, coarsened-steps}
+use Rattle.neighbours.proofs.Coarsening.{level-small, changed-sum, coarsened-steps}
 use Rattle.neighbours.proofs.coarser.Goals.{After-first_of}
 use Rattle.neighbours.proofs.coarser.Goals as goal
 

@@ -1,10 +1,7 @@
 -- `neighbours::subspace_on` meets its contract: what it puts together is a level vector for a turn, by `Seeing`.
 -- Assumes nothing.
-use mathlib.Core.Path.{refl, ap}
-use Prim.Native.Nat.{ℕ, ◌+◌}
 use native.Mathlib.Omega.{arith}
-use Rattle.naturals.proofs.Shifts.{one_shifted}
-use Rattle.neighbours.proofs.Seeing.{before_small, end-small, seen}
+use Rattle.neighbours.proofs.Seeing.{before_small, end-small}
 use Rattle.neighbours.proofs.subspace_on.Goals as goal
 
 pub overflow_add-result : goal.overflow_add-result

@@ -2,10 +2,7 @@
 -- of `Stepped` along one axis. That the lists have eight places, their type says.
 -- Assumes nothing.
 use mathlib.Core.Path.{sym, ◌∙◌}
-use Prim.Native.Nat.{suc}
-use native.Mathlib.Omega.{arith}
 use borrow.Author.Rules.{rules}
-use lib.Pow.{pow_mono}
 use Rattle.numbering.specs.Point.{at}
 use Rattle.numbering.proofs.Parents.{Inside, inside}
 use Rattle.parents.specs.Parents.{located}

@@ -1,6 +1,5 @@
 -- `parents::reduce` meets its contract: the trailing zeros are the factors of two of the numerator.
 -- Assumes nothing.
-use native.Mathlib.Omega.{arith}
 use Rattle.numbering.proofs.Parents.{Inside}
 use Rattle.parents.proofs.Reducing.{zeros-le, level-is, index_is}
 use Rattle.parents.proofs.reduce.Goals.{Start}
