@@ -2,11 +2,11 @@
 -- entry written is that of the axis and level at hand, and no other entry changes.
 -- Assumes nothing.
 use mathlib.Core.List.{List}
-use mathlib.Core.Path.{◌≡◌, refl, ap, ◌∙◌}
+use mathlib.Core.Path.{◌≡◌, ap, ◌∙◌}
 use Prim.Native.Nat.{ℕ, suc, ◌+◌, ◌*◌, ◌≤◌, ◌<◌}
 use native.Mathlib.Numerals.{add-one}
 use native.Mathlib.Omega.{arith}
-use lib.ListN.{set, replicate, length-set}
+use lib.ListN.{set, length-set}
 use lib.Seq.{get_or-set_same, get_or-set_other}
 use Rattle.naturals.proofs.Cases.{eq-or-not}
 use Rattle.surfaces.specs.Weights.{weight}
@@ -20,21 +20,6 @@ pub record Tabulating (x : ℕ → ℕ) (d : ℕ) (ws cells : List ℕ) (k t lev
   pub low : level < 9
   pub entered : k ≡ entry t level
   pub done : Tabulated x k ws cells
-
-pub tabulating-starts : (x : ℕ → ℕ) (d : ℕ) → Tabulating x d (replicate 72 0) (replicate 72 0) 0 0 0
-tabulating-starts x d =
-    record {
-      within = omega arith;
-      low = omega arith;
-      entered = refl;
-      done =
-          record {
-            long-weights = refl;
-            long-cells = refl;
-            cell = λ t l small h. absurd (omega arith);
-            weight = λ t l small h. absurd (omega arith);
-          };
-    }
 
 module _ {x : ℕ → ℕ} {d : ℕ} {ws cells : List ℕ} {k t level : ℕ} (few : d ≤ 8) (state : Tabulating x d ws cells k t level) (h : t < d) where
   pub entry_lt : k < 72
@@ -84,11 +69,6 @@ module _ {x : ℕ → ℕ} {d : ℕ} {ws cells : List ℕ} {k t level : ℕ} (fe
           entered = omega arith;
           done = rw add-one written;
         }
-
-pub tabulating-ends : {x : ℕ → ℕ} {d : ℕ} {ws cells : List ℕ} {k t level : ℕ} → Tabulating x d ws cells k t level → d ≤ t → Tabulated x (9 * d) ws cells
-tabulating-ends {x} {d} {ws} {cells} {k} state h =
-    let last : k ≡ 9 * d = omega arith in
-    rw last at state.done
 
 -- Full tables are bounded.
 pub tabulated-bounded : {x : ℕ → ℕ} {d : ℕ} {ws cells : List ℕ} → d ≤ 8 → Tabulated x (9 * d) ws cells → Bounded d ws cells

@@ -109,9 +109,3 @@ module _ {d : ℕ} {ws cells : List ℕ} {l : ℕ → ℕ} {t position joint sum
         weighed =
             rw (add-one, joint-suc (read ws l) t, ← state.weighed) (ap (λ (u : ℕ). joint * at ws (entry t (l t)) / u) (sym unit-is));
       }
-
-pub taken-ends : {ws cells : List ℕ} {l : ℕ → ℕ} {d t position joint sum : ℕ} → Taken ws cells l d t position joint sum → d ≤ t →
-    (position ≡ positionOf cells l d) × (joint ≡ jointOf ws l d)
-taken-ends {ws} {cells} {l} {d} {t} state h =
-    let last : t ≡ d = omega arith in
-    (state.packed ∙ ap (positionOf cells l) last, state.weighed ∙ ap (jointOf ws l) last)

@@ -21,9 +21,6 @@ pub record Coarsened (v : Subspace) (starts levels : List ℕ) (m : ℕ) : Type 
   pub long : length levels ≡ 8
   pub same : (u : ℕ) → (u ≡ v.line.place → ⊥) → at levels u ≡ at v.levels u
 
-pub coarsened-ends : {v : Subspace} (starts levels : List ℕ) (m : ℕ) → Coarsened v starts levels m → v.own ≤ m → Coarser v v.own starts
-coarsened-ends starts levels m s done = record { long = s.filled.long; first = λ k h. s.filled.first k (omega arith) }
-
 module _ {v : Subspace} (seen : Seen v) where
   pub coarsened-starts : Coarsened v (replicate 8 0) v.levels 0
   coarsened-starts =

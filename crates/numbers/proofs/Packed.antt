@@ -1,8 +1,8 @@
 -- The walk that packs the indices of a point: after t axes it has the position of the first t indices, and the sum of their levels.
 -- True since each axis adds its halved index, shifted by the levels before it, and no shift loses a bit.
 -- Assumes nothing.
-use mathlib.Core.Path.{◌≡◌, sym, ap, ◌∙◌}
-use Prim.Native.Nat.{ℕ, suc, ◌+◌, ◌*◌, ◌%◌, ◌^◌, ◌≤◌, ◌<◌}
+use mathlib.Core.Path.{◌≡◌, sym, ap}
+use Prim.Native.Nat.{ℕ, suc, ◌+◌, ◌*◌, ◌%◌, ◌^◌, ◌<◌}
 use native.Mathlib.Numerals.{add-one}
 use native.Mathlib.Omega.{arith}
 use lib.Pow.{pow_mono, shl_exact}
@@ -42,8 +42,3 @@ module _ {l i : ℕ → ℕ} {d t p sum : ℕ} (point : IsPoint d 8 l i) (packed
 
   pub packed-steps : Packed l i d (t + 1) (p + half i t * 2 ^ sum % 2 ^ 64) (sum + l t)
   packed-steps = record { sums = summed-steps packed.sums h; packs = rw add-one turned }
-
-pub packed_ends : {l i : ℕ → ℕ} {d t p sum : ℕ} → Packed l i d t p sum → d ≤ t → p ≡ position l i d
-packed_ends {l} {i} {d} {t} packed h =
-    let last : t ≡ d = omega (arith, packed.sums.place) in
-    packed.packs ∙ ap (position l i) last

@@ -1,7 +1,7 @@
 -- The walk that ranks a level vector: after t axes it has the rank of the first t levels, and their sum.
 -- True since the rank rises at each axis by the difference of two counts of level vectors.
 -- Assumes nothing.
-use mathlib.Core.Path.{◌≡◌, sym, ap, ap₂, ◌∙◌}
+use mathlib.Core.Path.{◌≡◌, sym, ap₂, ◌∙◌}
 use Prim.Native.Nat.{ℕ, suc, ◌+◌, ◌-◌, ◌≤◌, ◌<◌}
 use native.Mathlib.Numerals.{add-one}
 use native.Mathlib.Omega.{arith}
@@ -58,8 +58,3 @@ ranked-fits {l} {d} {t} {r} {sum} ranked h high small a next =
       next,
       vectors-small (t + 1) (omega arith) (omega arith) (sum + l t) (omega (arith, summed-fits ranked.sums h)),
     )
-
-pub ranked-ends : {l : ℕ → ℕ} {d t r sum : ℕ} → Ranked l d t r sum → d ≤ t → r ≡ rank l d
-ranked-ends {l} {d} {t} ranked h =
-    let last : t ≡ d = omega (arith, ranked.sums.place) in
-    ranked.ranks ∙ ap (rank l) last

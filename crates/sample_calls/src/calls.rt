@@ -169,7 +169,10 @@ fn call_on_point(
 ) -> io::Result<()> {
     match letter {
         b'N' => numbered(out, numbers::number_of_point(shape, levels, indices)),
-        b'O' => ordered(out, compare_levels(points::padded(levels), points::padded(indices))),
+        b'O' => ordered(
+            out,
+            compare_levels(points::padded(levels), points::padded(indices)),
+        ),
         b'S' => located(out, successor::successor(shape, levels, indices)),
         _ => located(out, parent(shape, letter, levels, indices, word(x))),
     }

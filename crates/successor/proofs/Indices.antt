@@ -4,7 +4,7 @@
 -- Assumes nothing.
 use mathlib.Core.Bool.{true, false}
 use mathlib.Core.List.{List}
-use mathlib.Core.Path.{◌≡◌, refl, ◌∙◌}
+use mathlib.Core.Path.{◌≡◌, ◌∙◌}
 use Prim.Native.Nat.{ℕ, suc, ◌+◌, ◌*◌, ◌%◌, ◌^◌, ◌≤◌, ◌<◌}
 use native.Mathlib.Nat.{pow-suc}
 use native.Mathlib.Omega.{arith}
@@ -25,16 +25,6 @@ pub record Turned (d : ℕ) (ls is next : List ℕ) (t : ℕ) : Type 0 where
   pub full : (u : ℕ) → u < t → suc (half (at is) u) ≡ 2 ^ at ls u
   pub ones : (u : ℕ) → u < t → at next u ≡ 1
   pub kept : (u : ℕ) → t ≤ u → at next u ≡ at is u
-
-pub turned-starts : (d : ℕ) (ls is : List ℕ) → length is ≡ 8 → Turned d ls is is 0
-turned-starts d ls is long =
-    record {
-      place = omega arith;
-      long = long;
-      full = λ u h. absurd (omega arith);
-      ones = λ u h. absurd (omega arith);
-      kept = λ u h. refl;
-    }
 
 module _ {d : ℕ} {ls is next : List ℕ} {t : ℕ} (fits : d ≤ 8) (p : IsPoint d 8 (at ls) (at is)) (turned : Turned d ls is next t) where
   same : t < d → (v : ℕ) → at (set next t v) t ≡ v

@@ -11,7 +11,7 @@ use native.Mathlib.Omega.{arith}
 use lib.Pow.{pow_pos}
 use Rattle.naturals.specs.Sum.{sumTo}
 use Rattle.numbering.specs.Count.{start}
-use Rattle.numbering.specs.Point.{at, IsPoint}
+use Rattle.numbering.specs.Point.{at}
 use Rattle.numbering.specs.Number.{number, firstOf}
 use Rattle.numbering.proofs.Numbering.{points-is, start-mono}
 use Rattle.numbering.proofs.Subspaces.{first-is, number-from-first}
@@ -22,9 +22,6 @@ use Rattle.points.specs.Points.{nowhere}
 use Rattle.points.specs.Steps.{PointIn}
 use Rattle.successor.specs.Steps.{StepsIndices}
 use Rattle.successor.proofs.Reached.{reached, following, reaches, ended}
-
-pub small-point : {d n : ℕ} {ls is : List ℕ} → PointIn d n ls is → n ≤ 8 → IsPoint d 8 (at ls) (at is)
-small-point p small = record { sum = omega (arith, p.point.sum); odd = p.point.odd; below = p.point.below }
 
 pub vector-of : {d n : ℕ} {ls is : List ℕ} → PointIn d n ls is → (sum : ℕ) → sum ≡ sumTo (at ls) d → VectorIn d sum ls
 vector-of p sum e = record { long = p.long-levels; total = sym e; rest = p.no-level }

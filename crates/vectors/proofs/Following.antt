@@ -43,13 +43,6 @@ pub record Bare (d : ℕ) (ls : List ℕ) (k : ℕ) : Type 0 where
   pub place : suc k ≤ d
   pub zeros : (t : ℕ) → t < k → at ls t ≡ 0
 
-pub bare-starts : (d : ℕ) (ls : List ℕ) → 1 ≤ d → Bare d ls 0
-bare-starts d ls h = record { place = h; zeros = λ t lt. absurd (omega arith) }
-
-pub bare-steps : {d : ℕ} {ls : List ℕ} {k : ℕ} → Bare d ls k → suc k < d → at ls k ≤ 0 → Bare d ls (suc k)
-bare-steps {k = k} bare h none =
-    record { place = h; zeros = λ t lt. eq-or-not t k (λ e. rw e (omega arith)) (λ ne. bare.zeros t (omega arith)) }
-
 -- The levels with axis k cleared, and then with its level less one on axis 1: what the code has before it raises the level of axis k + 1.
 abbrev pub cleared : List ℕ → ℕ → List ℕ
 cleared ls k = set (set ls k 0) 0 (at ls k - 1)

@@ -25,17 +25,6 @@ pub record Flat (d : ℕ) (ls : List ℕ) (k : ℕ) : Type 0 where
   pub place : k ≤ d
   pub zeros : (t : ℕ) → 0 < t → t < k → at ls t ≡ 0
 
-pub flat-starts : (d : ℕ) (ls : List ℕ) → 1 ≤ d → Flat d ls 1
-flat-starts d ls h = record { some = omega arith; place = h; zeros = λ t pos lt. absurd (omega arith) }
-
-pub flat-steps : {d : ℕ} {ls : List ℕ} {k : ℕ} → Flat d ls k → k < d → at ls k ≤ 0 → Flat d ls (suc k)
-flat-steps {k = k} flat h none =
-    record {
-      some = omega arith;
-      place = h;
-      zeros = λ t pos lt. eq-or-not t k (λ e. rw e (omega arith)) (λ ne. flat.zeros t pos (omega arith));
-    }
-
 -- ---- the vector before of the same sum
 
 -- The levels with axis 1 cleared, then with one less at place k, and then with that one and the level of axis 1 on the axis before.
