@@ -1,6 +1,6 @@
 -- A test of every place below a bound.
 -- Assumes nothing.
-use Rattle.std.specs.Prelude.{Bool, true, false, ◌&&◌, ℕ, zero, suc}
+use Rattle.std.specs.Prelude.{Bool, true, ◌&&◌, ℕ, zero, suc}
 
 -- f 0, f 1, …, f (m − 1) all pass
 unfoldable pub all : (ℕ → Bool) → ℕ → Bool

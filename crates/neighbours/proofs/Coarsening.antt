@@ -1,10 +1,10 @@
 -- The first numbers of the coarser level vectors, as the loop of `coarser` fills them in: a place that is written in the list of levels is one axis changed.
 -- Assumes nothing.
 use mathlib.Core.List.{List}
-use mathlib.Core.Path.{◌≡◌, refl, ap, sym, ◌∙◌, fun_ext}
+use mathlib.Core.Path.{◌≡◌, ap, sym, ◌∙◌, fun_ext}
 use Prim.Native.Nat.{ℕ, ◌+◌, ◌≤◌, ◌<◌}
 use native.Mathlib.Omega.{arith}
-use lib.ListN.{length, set, length-set, replicate}
+use lib.ListN.{length, set, length-set}
 use lib.Seq.{get_or-set_same, get_or-set_other}
 use Rattle.naturals.specs.Sum.{sumTo}
 use Rattle.naturals.proofs.Cases.{eq-or-not}
@@ -22,14 +22,6 @@ pub record Coarsened (v : Subspace) (starts levels : List ℕ) (m : ℕ) : Type 
   pub same : (u : ℕ) → (u ≡ v.line.place → ⊥) → at levels u ≡ at v.levels u
 
 module _ {v : Subspace} (seen : Seen v) where
-  pub coarsened-starts : Coarsened v (replicate 8 0) v.levels 0
-  coarsened-starts =
-      record {
-        filled = record { long = refl; first = λ m h. absurd (omega arith) };
-        long = seen.long;
-        same = λ u other. refl;
-      }
-
   module _ (starts levels : List ℕ) (m : ℕ) (s : Coarsened v starts levels m) (more : m < v.own) where
     pub level-small : m < 8
     level-small = omega (arith, seen.own, seen.sum, seen.top, term-le (at v.levels) v.line.axes v.line.place seen.axis)

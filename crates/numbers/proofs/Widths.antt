@@ -2,10 +2,10 @@
 -- True since the largest count of points is below 2^32.
 -- Assumes nothing.
 use mathlib.Core.Path.{◌≡◌, sym, ◌∙◌}
-use Prim.Native.Nat.{ℕ, suc, ◌-◌, ◌*◌, ◌/◌, ◌%◌, ◌^◌, ◌≤◌, ◌<◌}
+use Prim.Native.Nat.{ℕ, suc, ◌-◌, ◌*◌, ◌%◌, ◌^◌, ◌≤◌, ◌<◌}
 use native.Mathlib.Nat.{mul_comm, mod-eq_of_lt, mod-lt}
 use native.Mathlib.Omega.{arith}
-use lib.Pow.{pow_pos, pow_mono, split}
+use lib.Pow.{pow_pos, pow_mono}
 use Rattle.numbering.specs.Count.{vectors, shell}
 use Rattle.numbering.proofs.Numbering.{shell-is, start-suc}
 use Rattle.shapes.proofs.Totals.{start_small}
@@ -20,17 +20,6 @@ module _ (d j : ℕ) (low : 1 ≤ d) (high : d ≤ 8) (short : j ≤ 8) where
   shell-shifted =
       let is : vectors d j * 2 ^ j ≡ shell d j = mul_comm (vectors d j) (2 ^ j) ∙ sym (shell-is d j) in
       rw is (mod-eq_of_lt (omega (arith, shell-small)))
-
--- The high part of a number, shifted back: nothing is lost, and what is left is the low part.
-module _ (x b : ℕ) (fits : x < 2 ^ 64) where
-  back : x / 2 ^ b * 2 ^ b % 2 ^ 64 ≡ x / 2 ^ b * 2 ^ b
-  back = mod-eq_of_lt (omega (arith, split x b))
-
-  pub high_le : x / 2 ^ b * 2 ^ b % 2 ^ 64 ≤ x
-  high_le = omega (arith, back, split x b)
-
-  pub low-is : x - x / 2 ^ b * 2 ^ b % 2 ^ 64 ≡ x % 2 ^ b
-  low-is = omega (arith, back, split x b)
 
 -- A digit of up to 8 bits is below 256.
 pub digit-small : (x b : ℕ) → b ≤ 8 → x % 2 ^ b < 256

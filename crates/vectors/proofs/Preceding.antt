@@ -39,10 +39,6 @@ module _ {d sum : ℕ} {ls : List ℕ} {k : ℕ} (fits : d ≤ 8) (here : Vector
   kept_here : (v : ℕ) → at (set ls 0 v) k ≡ at ls k
   kept_here v = get_or-set_other ls 0 k v 0 (λ e. omega (arith, flat.some))
 
-  -- So one can be taken from it.
-  pub can-lower : (v one : ℕ) → one ≤ 1 → 0 < at ls k → one ≤ at (set ls 0 v) k
-  can-lower v one small pos = omega (arith, kept_here v)
-
   -- The level of axis 1 is small.
   pub first_small : at ls 0 ≤ sum
   first_small = omega (arith, term-le (at ls) d 0 (omega arith), here.total)
