@@ -26,7 +26,8 @@ use Rattle.states.specs.declared.Answer.TheVariants as answered
 use Rattle.states.specs.After.{After, after, kept, Left, leftBy}
 use Rattle.states.specs.States.{has, checkState}
 use Rattle.tables.specs.Tables.{checkTable, checkRated, load, scaledAt, checkSampled, unload}
-use Rattle.turns.specs.Turns.{formerTable, isAccepted, checkTurn, forwardTurn, backTurn}
+use Rattle.grids.specs.Turned.{formerTable}
+use Rattle.turns.specs.Turns.{isAccepted, checkTurn, forwardTurn, backTurn}
 use Rattle.runs.specs.Runs.{Ran, run}
 use Rattle.runs.specs.Calls.{Report, callsOf, reportOf, unrun, checkLengths, runCalls}
 use Rattle.whole.specs.Whole.{ratesToCoefficients, hasRates, coefficientsToRates}

@@ -1,9 +1,9 @@
-// Exact signed arithmetic of the turns: the content limit of a value and of a table, the rates, evenness of a sum, and a value less or plus half a sum.
+// Exact signed arithmetic of the turns: the content limit of a value and of a table, the rates, a step of a turn, whether a sum is odd, and a value less half a sum.
 #![tactic(auto)]
 
-ghost use Rattle.std.specs.Prelude.{◌≡◌, true, ◌+ℤ◌, ◌-ℤ◌, length};
+ghost use Rattle.std.specs.Prelude.{◌≡◌, true, ◌^◌, ◌≤◌, ◌<◌, nat_abs, ◌+ℤ◌, ◌-ℤ◌, length};
 ghost use Rattle.naturals.specs.Test.{all};
-ghost use Rattle.integers.specs.Half.{half, isEven, inLimit, contentAt, isRate};
+ghost use Rattle.integers.specs.Half.{half, oddOf, stepped, inLimit, contentAt, isRate};
 
 // The content limit, 2^47 on either side of zero.
 const LIMIT: i64 = 140737488355328;
@@ -18,10 +18,36 @@ pub fn in_limit(v: i64) -> bool
     v <= LIMIT
 }
 
-// All values of a table are within the content limit.
+// How far a value lies above the lower end of the limit, in 64 bits: below 2^48 within the limit but for its upper end, which it takes for outside.
+fn above(v: i64) -> u64
+    ensures { result < 2 ^ 48 → inLimit v ≡ true }
+{
+    if v < 0 {
+        return std::num::wrapping_sub_u64(140737488355327, (-1 - v) as u64);
+    }
+    v as u64 + 140737488355328
+}
+
+// All values of a table lie within the limit and below its upper end; seen for all of them together.
+fn seen_in_limit(table: &[i64]) -> bool
+    ensures { result ≡ true → all (contentAt table.now) (length table.now) ≡ true }
+{
+    let mut all: u64 = 0;
+    let mut p: usize = 0;
+    while p < table.len() {
+        all = all | above(table[p]);
+        p += 1;
+    }
+    all >> 48 == 0
+}
+
+// All values of a table are within the content limit. Where that is not seen for all together, they are looked at one by one.
 pub fn all_in_limit(table: &[i64]) -> bool
     ensures { result ≡ all (contentAt table.now) (length table.now) }
 {
+    if seen_in_limit(table) {
+        return true;
+    }
     let mut p: usize = 0;
     while p < table.len() {
         if !in_limit(table[p]) {
@@ -47,12 +73,22 @@ pub fn is_rate(v: i64) -> bool
     v <= LARGEST
 }
 
-// The sum of two values within the limit is even.
-pub fn even_sum(a: i64, b: i64) -> bool
-    requires { (inLimit a ≡ true) × (inLimit b ≡ true) }
-    ensures { result ≡ isEven (a +ℤ b) }
+// A value after a step of a turn.
+pub fn step(forward: bool, v: i64, sum: i64) -> i64
+    requires { (nat_abs v ≤ 2 ^ 62) × (nat_abs sum ≤ 2 ^ 62) }
+    ensures { result ≡ stepped forward v sum }
 {
-    (a + b) & 1 == 0
+    if forward {
+        return v - (sum >> 1);
+    }
+    v + (sum >> 1)
+}
+
+// 1 for an odd number, else 0.
+pub fn odd(sum: i64) -> u64
+    ensures { result ≡ oddOf sum }
+{
+    (sum & 1) as u64
 }
 
 // A value less half the sum of two, all within the limit.
@@ -61,12 +97,4 @@ pub fn less_half(v: i64, a: i64, b: i64) -> i64
     ensures { result ≡ v -ℤ half (a +ℤ b) }
 {
     v - ((a + b) >> 1)
-}
-
-// A value plus half the sum of two, all within the limit.
-pub fn plus_half(v: i64, a: i64, b: i64) -> i64
-    requires { (inLimit v ≡ true) × (inLimit a ≡ true) × (inLimit b ≡ true) }
-    ensures { result ≡ v +ℤ half (a +ℤ b) }
-{
-    v + ((a + b) >> 1)
 }

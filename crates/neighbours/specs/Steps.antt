@@ -1,10 +1,10 @@
--- A level vector as a turn on an axis meets it, and the code of a parent of its points.
+-- A level vector as a turn on an axis meets it, the numbers of its points, and the codes of their parents.
 -- Assumes nothing.
 use Rattle.std.specs.Prelude.{List, ◌≡◌, ℕ, suc, ◌+◌, ◌-◌, ◌*◌, ◌/◌, ◌^◌, ◌≤◌, ◌<◌, length, if◌then◌else◌}
 use Rattle.naturals.specs.Sum.{sumTo}
 use Rattle.numbering.specs.Point.{at}
 use Rattle.numbering.specs.Number.{firstOf}
-use Rattle.numbering.specs.Parent.{isBorder, parentLevel, parentIndex, update}
+use Rattle.numbering.specs.Parent.{isBorder, twos, parentLevel, parentIndex, update}
 use Rattle.shapes.specs.declared.Shape.{Shape}
 use Rattle.shapes.specs.Shapes.{sparse}
 use Rattle.neighbours.specs.declared.Line.{Line}
@@ -28,21 +28,19 @@ pub record Seen (v : Subspace) : Type 0 where
   pub low : v.low ≡ sumTo (at v.levels) v.line.place
   pub own : v.own ≡ at v.levels v.line.place
 
--- A list with, for each level m below k, the first number of the level vector that has m on the axis and elsewhere the same levels.
-pub record Coarser (v : Subspace) (k : ℕ) (starts : List ℕ) : Type 0 where
-  pub long : length starts ≡ 8
-  pub first : (m : ℕ) → m < k → at starts m ≡ firstOf v.line.axes (update (at v.levels) v.line.place m)
-
--- The numbers are small.
-pub record Sized (v : Subspace) (starts : List ℕ) : Type 0 where
-  pub bits : v.low + v.own ≤ 8
-  pub long : length starts ≡ 8
-  pub small : (m : ℕ) → m < v.own → at starts m < 2 ^ 32
+-- A list with, for each j from 1 to the level on the axis, the first number of the level vector that is lower by j there and elsewhere has the same levels.
+pub record Below (v : Subspace) (starts : List ℕ) : Type 0 where
+  pub long : length starts ≡ 9
+  pub first : (j : ℕ) → 1 ≤ j → j ≤ v.own → at starts j ≡ firstOf v.line.axes (update (at v.levels) v.line.place (v.own - j))
 
 -- The code of the parent at numerator m of a point, to whose position the axes before this one add `before`, those beyond it `beyond` in units of
--- 2^(sum of the levels up to this axis): the parent's level vector has the parent's level on this axis, and so many bits for its index there.
+-- 2^(sum of the levels up to this axis): the parent's level vector is lower by the factors of two that were dropped, and has so many bits for its index there.
 unfoldable pub codeFrom : Subspace → List ℕ → ℕ → ℕ → ℕ → ℕ
 codeFrom v starts before beyond m =
     if isBorder v.own m
     then 0
-    else suc (at starts (parentLevel v.own m) + before + (parentIndex m - 1) / 2 * 2 ^ v.low + beyond * 2 ^ (v.low + parentLevel v.own m))
+    else suc (at starts (twos m) + before + (parentIndex m - 1) / 2 * 2 ^ v.low + beyond * 2 ^ (v.low + parentLevel v.own m))
+
+-- The number of the point of a level vector to whose position the axes before this one add `before`, this one the digit e, those beyond it `beyond`.
+abbrev pub numberIn : Subspace → ℕ → ℕ → ℕ → ℕ
+numberIn v before e beyond = v.start + before + e * 2 ^ v.low + beyond * 2 ^ (v.low + v.own)

@@ -36,7 +36,8 @@ use Rattle.states.proofs.Bits.{has-marked-same, has-marked-other, has-cleared-sa
 use Rattle.states.proofs.Checked.{state-passes}
 use Rattle.states.specs.declared.Answer.TheVariants.{Done}
 use Rattle.states.specs.After.{After, after, kept}
-use Rattle.turns.specs.Turns.{turnedTable, formerTable, isAccepted, checkTurn, forwardTurn, backTurn}
+use Rattle.grids.specs.Turned.{turnedTable, formerTable}
+use Rattle.turns.specs.Turns.{isAccepted, checkTurn, forwardTurn, backTurn}
 use Rattle.runs.specs.Model.{Axes, modelAnswer, changed, modelSet}
 use Rattle.runs.specs.Runs.{carriedOut, handedOn, verdictOf}
 use Rattle.runs.proofs.Model.{model-refused, model-passed}

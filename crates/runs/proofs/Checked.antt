@@ -19,7 +19,8 @@ use Rattle.states.specs.declared.State.{State}
 use Rattle.states.specs.declared.Answer.TheVariants.{Done}
 use Rattle.states.specs.After.{After, after, kept}
 use Rattle.states.specs.States.{has, checkState}
-use Rattle.turns.specs.Turns.{formerTable, isAccepted, checkTurn, forwardTurn, backTurn}
+use Rattle.grids.specs.Turned.{formerTable}
+use Rattle.turns.specs.Turns.{isAccepted, checkTurn, forwardTurn, backTurn}
 use Rattle.turns.proofs.Checking.{MayTurn, may-turn}
 use Rattle.turns.proofs.BothWays.{went-forward, went_back, forward-then-back, back-then-forward}
 use Rattle.runs.specs.Runs.{carriedOut, handedOn, run}

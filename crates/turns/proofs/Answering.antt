@@ -15,7 +15,8 @@ use Rattle.states.specs.States.{has, marked, cleared}
 use Rattle.states.specs.declared.Answer.TheVariants.{Done}
 use Rattle.states.specs.After.{after, kept}
 use Rattle.sweeps.specs.Steps.{OnAxis}
-use Rattle.turns.specs.Turns.{turnedTable, formerTable, isAccepted, checkTurn, forwardTurn, backTurn}
+use Rattle.grids.specs.Turned.{turnedTable, formerTable}
+use Rattle.turns.specs.Turns.{isAccepted, checkTurn, forwardTurn, backTurn}
 use Rattle.turns.proofs.Checking.{MayTurn, place_of}
 
 module _ (s : State) (xs : List ℤ) (axis : ℕ) where

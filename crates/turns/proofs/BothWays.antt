@@ -22,7 +22,8 @@ use Rattle.states.specs.States.{has, marked, cleared}
 use Rattle.states.proofs.Bits.{has-marked-same, has-cleared-same, marked-small, cleared-small, bit_le}
 use Rattle.states.specs.declared.Answer.TheVariants.{Done, Refused}
 use Rattle.states.specs.After.{After, after, kept}
-use Rattle.turns.specs.Turns.{turnedTable, formerTable, isAccepted, checkTurn, forwardTurn, backTurn}
+use Rattle.grids.specs.Turned.{turnedTable, formerTable}
+use Rattle.turns.specs.Turns.{isAccepted, checkTurn, forwardTurn, backTurn}
 use Rattle.turns.proofs.Checking.{MayTurn, place_of, turn-passed, may-turn}
 use Rattle.turns.proofs.Undoing.{turned-length, former-length, turned-of-former, former-of-turned, LeadsTo, only-former, leads-former, none-leads, refused-where-none}
 use Rattle.turns.proofs.Answering.{back_done, back-refused}

@@ -24,7 +24,7 @@ use Rattle.shapes.specs.Shapes.{pointsOf}
 use Rattle.shapes.specs.declared.Shape.{Shape}
 use Rattle.grids.specs.Grids.{neighbour, depth, height}
 use Rattle.grids.proofs.Instance.{grid, shallow}
-use Rattle.turns.specs.Turns.{formerTable}
+use Rattle.grids.specs.Turned.{formerTable}
 use Rattle.sweeps.specs.Steps.{Limited, movesOn, between, LoweredBetween, raised, raisesOn, RaisedFrom}
 use Rattle.sweeps.proofs.Accepting.{limited-passes}
 use Rattle.sweeps.proofs.Between.{between-inside, between-high}

@@ -22,7 +22,7 @@ use Rattle.grids.specs.Grids.{numberOf, levelOn, indexOn, neighbour, depth, heig
 use Rattle.grids.proofs.Points.{number_lt, levels-again, indices-again}
 use Rattle.grids.proofs.Beside.{numeratorOn, parentLevels, parentIndices, to-border, to-parent, parent-there}
 use Rattle.grids.proofs.Instance.{grid}
-use Rattle.turns.specs.Turns.{turnedTable, formerTable}
+use Rattle.grids.specs.Turned.{turnedTable, formerTable}
 
 -- Two points on a line along place t: they differ on that axis at most.
 pub record OnLine (s : Shape) (t p q : ℕ) : Type 0 where

@@ -16,7 +16,8 @@ use Rattle.shapes.specs.Shapes.{pointsOf}
 use Rattle.shapes.specs.declared.Shape.{Shape}
 use Rattle.grids.specs.Grids.{neighbour, depth, height}
 use Rattle.grids.proofs.Instance.{grid, shallow}
-use Rattle.turns.specs.Turns.{turnedTable, formerTable, isAccepted}
+use Rattle.grids.specs.Turned.{turnedTable, formerTable}
+use Rattle.turns.specs.Turns.{isAccepted}
 
 module _ (s : Shape) (t : ℕ) where
   -- What the lists of the turned and of the former table hold.

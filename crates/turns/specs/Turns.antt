@@ -4,22 +4,15 @@ use Rattle.std.specs.Prelude.{Bool, not, List, ℕ, ◌-◌, ℤ, length}
 use Rattle.refusals.specs.declared.Refusal.TheVariants.{Contents, AlreadyForward, NotForward}
 use Rattle.refusals.specs.declared.Verdict.{Verdict}
 use Rattle.refusals.specs.Checks.{unless, ◌andThen◌, answer}
-use Rattle.hierarchy.specs.Turns.{valueAt, valuesOf, forward, accepted, backward}
+use Rattle.hierarchy.specs.Turns.{valueAt, accepted}
 use Rattle.shapes.specs.Shapes.{pointsOf, checkAxis}
 use Rattle.shapes.specs.declared.Shape.{Shape}
-use Rattle.grids.specs.Grids.{neighbour, height}
+use Rattle.grids.specs.Grids.{neighbour}
+use Rattle.grids.specs.Turned.{turnedTable, formerTable}
 use Rattle.states.specs.declared.State.{State}
 use Rattle.states.specs.declared.Answer.TheVariants.{Done}
 use Rattle.states.specs.After.{After, after, kept}
 use Rattle.states.specs.States.{has, marked, cleared, checkState}
-
--- The table of a shape after the forward turn on place t (axis t + 1), and the one that a forward turn takes to it.
-unfoldable pub turnedTable : Shape → ℕ → List ℤ → List ℤ
-turnedTable s t xs = valuesOf (pointsOf s) (forward (neighbour s) t (valueAt xs))
-
-unfoldable pub formerTable : Shape → ℕ → List ℤ → List ℤ
-formerTable s t xs =
-    valuesOf (pointsOf s) (backward (neighbour s) (height s) t (valueAt xs))
 
 -- The forward turn on place t is accepted: every sum is even, and all values before and after are within the content limit.
 unfoldable pub isAccepted : Shape → ℕ → List ℤ → Bool

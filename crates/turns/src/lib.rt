@@ -1,9 +1,14 @@
 // Forward and back on one axis of a table, in the one lent buffer.
 #![tactic(auto)]
 
-ghost use Rattle.std.specs.Prelude.{◌≡◌};
+ghost use Rattle.std.specs.Prelude.{true, ◌≡◌, length};
+ghost use Rattle.naturals.specs.Test.{all};
+ghost use Rattle.integers.specs.Half.{contentAt};
 ghost use Rattle.states.specs.After.{after};
+ghost use Rattle.neighbours.specs.Steps.{sparseOf};
+ghost use Rattle.lists.specs.Steps.{OnAxis};
 ghost use Rattle.turns.specs.Turns.{checkTurn, forwardTurn, backTurn};
+ghost use Rattle.turns.specs.Steps.{tried, forwardTried, backTried};
 
 use neighbours::Line;
 use refusals::{Refusal, Verdict};
@@ -19,8 +24,36 @@ fn check_turn(state: State, places: usize, axis: u32) -> Verdict
     }
 }
 
-// Forward on an axis (hierarchization): each value becomes itself minus half the sum of its two parents' values as they were. Where a step is not
-// accepted, those that were made are taken back. No sum is formed of values that were not tested.
+// Forward on a line's axis where the turn is accepted; else the table is as it was. All values are within the content limit before.
+pub fn forward_on(line: Line, table: &mut [i64]) -> bool
+    requires { OnAxis (sparseOf line) line.place table.old × (all (contentAt table.old) (length table.old) ≡ true) }
+    ensures { tried result table.new ≡ forwardTried (sparseOf line) line.place table.old }
+{
+    if sweeps::lower(line, table) == 0 {
+        if integers::all_in_limit(table) {
+            return true;
+        }
+    }
+    sweeps::raise(line, table);
+    false
+}
+
+// Back on a line's axis where the forward turn that leads here is accepted; else the table is as it was.
+pub fn back_on(line: Line, table: &mut [i64]) -> bool
+    requires { OnAxis (sparseOf line) line.place table.old × (all (contentAt table.old) (length table.old) ≡ true) }
+    ensures { tried result table.new ≡ backTried (sparseOf line) line.place table.old }
+{
+    if sweeps::raise(line, table) == 0 {
+        if integers::all_in_limit(table) {
+            return true;
+        }
+    }
+    sweeps::lower(line, table);
+    false
+}
+
+// Forward on an axis (hierarchization): each value becomes itself minus half the sum of its two parents' values as they were. Where that is not accepted,
+// the table is turned back. No sum is formed of values that were not tested.
 pub fn hierarchize(state: State, table: &mut [i64], axis: u32) -> Answer
     ensures { after result table.new ≡ forwardTurn state table.old axis }
 {
@@ -40,10 +73,7 @@ pub fn hierarchize(state: State, table: &mut [i64], axis: u32) -> Answer
     if !integers::all_in_limit(table) {
         return Answer::Refused(Refusal::Contents);
     }
-    let count = table.len() as u64;
-    let left = sweeps::lower(line, table, count);
-    if 0 < left {
-        sweeps::raise(line, table, left);
+    if !forward_on(line, table) {
         return Answer::Refused(Refusal::Contents);
     }
     Answer::Done(states::with_axis(state, place))
@@ -69,9 +99,7 @@ pub fn dehierarchize(state: State, table: &mut [i64], axis: u32) -> Answer
     if !integers::all_in_limit(table) {
         return Answer::Refused(Refusal::Contents);
     }
-    let raised = sweeps::raise(line, table, 0);
-    if raised < table.len() as u64 {
-        sweeps::lower(line, table, raised);
+    if !back_on(line, table) {
         return Answer::Refused(Refusal::Contents);
     }
     Answer::Done(states::without_axis(state, place))

@@ -21,7 +21,8 @@ use Rattle.states.specs.declared.Answer.{Answer}
 use Rattle.states.specs.declared.Answer.TheVariants.{Done, Refused}
 use Rattle.states.specs.After.{after, kept}
 use Rattle.states.specs.States.{has, cleared}
-use Rattle.turns.specs.Turns.{formerTable, isAccepted, checkTurn, backTurn}
+use Rattle.grids.specs.Turned.{formerTable}
+use Rattle.turns.specs.Turns.{isAccepted, checkTurn, backTurn}
 use Rattle.runs.proofs.Calls.{stateOf}
 use Rattle.whole.specs.Whole.{hasRates}
 use Rattle.whole.specs.Steps.{Gone, descent}

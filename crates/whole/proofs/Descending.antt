@@ -20,7 +20,8 @@ use Rattle.states.specs.declared.Answer.TheVariants.{Done, Refused}
 use Rattle.states.specs.After.{After, after, kept}
 use Rattle.states.specs.States.{has}
 use Rattle.states.proofs.Bits.{has-cleared-same, has-cleared-other, cleared-small}
-use Rattle.turns.specs.Turns.{formerTable, forwardTurn, backTurn}
+use Rattle.grids.specs.Turned.{formerTable}
+use Rattle.turns.specs.Turns.{forwardTurn, backTurn}
 use Rattle.turns.proofs.Undoing.{former-holds, former-length}
 use Rattle.turns.proofs.BothWays.{went_back, back-then-forward}
 use Rattle.runs.proofs.Calls.{stateOf, Agrees}

@@ -1,32 +1,31 @@
 // The whole calls: rates to coefficients, and coefficients to rates, in the one lent buffer.
 #![tactic(auto)]
 
-ghost use Rattle.std.specs.Prelude.{◌≡◌, ◌-◌};
+ghost use Rattle.std.specs.Prelude.{◌≡◌, ◌-◌, ◌≤◌};
 ghost use Rattle.states.specs.After.{left};
 ghost use Rattle.whole.specs.Whole.{ratesToCoefficients, coefficientsToRates};
-ghost use Rattle.whole.specs.Steps.{ascent, gone, descent};
+ghost use Rattle.whole.specs.Steps.{InTable, ascent, gone, descent};
 
+use neighbours::Line;
 use refusals::{Refusal, Verdict};
 use shapes::Shape;
 use states::{Answer, State};
 
-// Forward on axis `from` + 1 and every later one, until one is refused.
-fn climb(state: State, from: u32, table: &mut [i64])
-    ensures { table.new ≡ ascent (state.shape.axes - from) from state table.old }
+// Forward on axis `from` + 1 and every later one, untested: of a loaded table no turn is refused, nor is one that undoes a turn back.
+fn climb(shape: Shape, from: u32, table: &mut [i64])
+    requires { InTable shape table.old × (from ≤ shape.axes) }
+    ensures { table.new ≡ ascent (shape.axes - from) from shape table.old }
 {
-    let shape = state.shape;
     let axes = shape.axes;
-    let mut at = state;
+    let level = shape.level;
     let mut k = from;
     while k < axes {
-        match turns::hierarchize(at, table, k + 1) {
-            Answer::Done(next) => {
-                at = next;
-            }
-            Answer::Refused(_) => {
-                return;
-            }
-        }
+        let line = Line {
+            axes: axes,
+            level: level,
+            place: k,
+        };
+        sweeps::lower(line, table);
         k += 1;
     }
 }
@@ -37,45 +36,33 @@ pub fn rates_to_coefficients(shape: Shape, table: &mut [i64]) -> Verdict
 {
     match tables::load(shape, table) {
         Answer::Refused(r) => Verdict::Refused(r),
-        Answer::Done(state) => {
-            climb(state, 0, table);
+        Answer::Done(_) => {
+            climb(shape, 0, table);
             Verdict::Passed
         }
     }
 }
 
-// How far the turns back went: the state, and how many axes are still forward.
-#[derive(Clone, Copy)]
-struct Descent {
-    state: State,
-    forward: u32,
-}
-
-// Back on every axis, the last first, until one is refused.
-fn descend(state: State, table: &mut [i64]) -> Descent
-    ensures { gone result table.new ≡ descent state.shape.axes state table.old }
+// Back on every axis, the last first, until one is refused; answers how many axes are still forward.
+fn descend(shape: Shape, table: &mut [i64]) -> u32
+    requires { InTable shape table.old }
+    ensures { gone result table.new ≡ descent shape.axes shape table.old }
 {
-    let shape = state.shape;
-    let mut at = state;
-    let mut k = shape.axes;
+    let axes = shape.axes;
+    let level = shape.level;
+    let mut k = axes;
     while 0 < k {
-        match turns::dehierarchize(at, table, k) {
-            Answer::Done(next) => {
-                at = next;
-            }
-            Answer::Refused(_) => {
-                return Descent {
-                    state: at,
-                    forward: k,
-                };
-            }
+        let line = Line {
+            axes: axes,
+            level: level,
+            place: k - 1,
+        };
+        if !turns::back_on(line, table) {
+            return k;
         }
         k -= 1;
     }
-    Descent {
-        state: at,
-        forward: 0,
-    }
+    0
 }
 
 // Coefficients to rates: back on every axis, then each value divided by 2^d. Where that cannot be, the axes turned back go forward again.
@@ -84,18 +71,20 @@ pub fn coefficients_to_rates(shape: Shape, table: &mut [i64]) -> Verdict
 {
     match tables::adopt(shape, table) {
         Answer::Refused(r) => Verdict::Refused(r),
-        Answer::Done(state) => {
-            let descent = descend(state, table);
-            let back = descent.state;
-            let forward = descent.forward;
+        Answer::Done(_) => {
+            let forward = descend(shape, table);
             if 0 < forward {
-                climb(back, forward, table);
+                climb(shape, forward, table);
                 return Verdict::Refused(Refusal::Contents);
             }
+            let back = State {
+                shape: shape,
+                forward: 0,
+            };
             match tables::unload(back, table) {
                 Verdict::Passed => Verdict::Passed,
                 Verdict::Refused(_) => {
-                    climb(back, 0, table);
+                    climb(shape, 0, table);
                     Verdict::Refused(Refusal::Contents)
                 }
             }

@@ -13,7 +13,8 @@ use Rattle.states.specs.States.{has}
 use Rattle.states.specs.declared.Answer.TheVariants.{Done, Refused}
 use Rattle.states.specs.After.{after}
 use Rattle.sweeps.specs.Steps.{OnAxis, Limited, RaisedFrom}
-use Rattle.turns.specs.Turns.{formerTable, isAccepted, checkTurn}
+use Rattle.grids.specs.Turned.{formerTable}
+use Rattle.turns.specs.Turns.{isAccepted, checkTurn}
 use Rattle.sweeps.proofs.Accepting.{passed-limited}
 use Rattle.turns.proofs.Answering.{on-axis, back-unchecked, back-not-forward, back-refused, back_done}
 use Rattle.turns.proofs.Checking.{MayTurn, place_of, turn-passed}

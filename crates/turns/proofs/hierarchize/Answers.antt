@@ -13,7 +13,8 @@ use Rattle.states.specs.States.{has}
 use Rattle.states.specs.declared.Answer.TheVariants.{Done, Refused}
 use Rattle.states.specs.After.{after}
 use Rattle.sweeps.specs.Steps.{OnAxis, Limited, LoweredBetween}
-use Rattle.turns.specs.Turns.{turnedTable, isAccepted, checkTurn}
+use Rattle.grids.specs.Turned.{turnedTable}
+use Rattle.turns.specs.Turns.{isAccepted, checkTurn}
 use Rattle.sweeps.proofs.Accepting.{passed-limited, limit-refuses}
 use Rattle.turns.proofs.Answering.{on-axis, forward-unchecked, forward-already, forward-refused, forward-done}
 use Rattle.turns.proofs.Checking.{MayTurn, place_of, turn-passed}

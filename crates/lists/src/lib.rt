@@ -1,0 +1,151 @@
+// The work of a turn on one level list, all its points together, in the one lent buffer. Points with the same digit on the axis that follow each other
+// (a run) have parents that follow each other, and so have those of the next run: no search and no test for each point.
+#![tactic(auto)]
+
+ghost use Rattle.std.specs.Prelude.{◌≡◌, ◌+◌, ◌^◌, ◌≤◌, ◌<◌, ◌+ℤ◌, List, ℤ, length};
+ghost use Rattle.numbering.specs.Point.{at};
+ghost use Rattle.neighbours.specs.Steps.{sparseOf, Seen, Below};
+ghost use Rattle.lists.specs.Lists.{oddSums, listWorked, cameTo, ListTurned};
+ghost use Rattle.lists.specs.Steps.{OnAxis, Within, RunStepped, valueIn, Stepped, Workable, BlockAt};
+
+use neighbours::Subspace;
+
+// ---- runs
+
+// A run from number x on whose points have the border on one side; their other parents are the points from number a on.
+fn run_by_border(forward: bool, table: &mut [i64], x: usize, a: usize, width: usize) -> u64
+    requires { (a + width ≤ x) × (x + width ≤ length table.old) × (length table.old < 2 ^ 32) × Within (2 ^ 61) table.old }
+    ensures { RunStepped forward x width (valueIn table.old a) table.old result table.new }
+{
+    let mut odd: u64 = 0;
+    let mut i: usize = 0;
+    while i < width {
+        let sum = table[a + i];
+        odd += integers::odd(sum);
+        table[x + i] = integers::step(forward, table[x + i], sum);
+        i += 1;
+    }
+    odd
+}
+
+// A run whose points have parents on both sides: the points from number a on, and those from number b on.
+fn run_between(
+    forward: bool,
+    table: &mut [i64],
+    x: usize,
+    a: usize,
+    b: usize,
+    width: usize,
+) -> u64
+    requires { (a + width ≤ x) × (b + width ≤ x) × (x + width ≤ length table.old) × (length table.old < 2 ^ 32) × Within (2 ^ 61) table.old }
+    ensures { RunStepped forward x width (λ i. valueIn table.old a i +ℤ valueIn table.old b i) table.old result table.new }
+{
+    let mut odd: u64 = 0;
+    let mut i: usize = 0;
+    while i < width {
+        let sum = table[a + i] + table[b + i];
+        odd += integers::odd(sum);
+        table[x + i] = integers::step(forward, table[x + i], sum);
+        i += 1;
+    }
+    odd
+}
+
+// ---- blocks
+
+// The points to which the axes beyond add `beyond`, from number `first` on: run after run. Every second numerator has its parent one level up, so these
+// parents follow each other too; the others are found by `parent_run`, and each serves the runs on both its sides.
+fn block(
+    forward: bool,
+    v: Subspace,
+    starts: &[u64; 9],
+    table: &mut [i64],
+    first: u64,
+    beyond: u64,
+) -> u64
+    requires { Workable v starts.now table.old × BlockAt v first beyond }
+    ensures { Stepped forward (sparseOf v.line) v.line.place first (first + 2 ^ (v.low + v.own)) table.old result table.new }
+{
+    let width: usize = 1 << v.low;
+    let pairs: u32 = 1 << (v.own - 1);
+    let mut x = first as usize;
+    let mut near = (starts[1] + (beyond << (v.low + v.own - 1))) as usize;
+    let mut odd = run_by_border(forward, table, x, near, width);
+    let mut j: u32 = 1;
+    while j < pairs {
+        let far = neighbours::parent_run(v, starts, beyond, 4 * j) as usize;
+        x += width;
+        odd += run_between(forward, table, x, near, far, width);
+        x += width;
+        near += width;
+        odd += run_between(forward, table, x, far, near, width);
+        j += 1;
+    }
+    x += width;
+    odd + run_by_border(forward, table, x, near, width)
+}
+
+// The same where a run is one point: the parent that serves two runs is kept as a value.
+fn line(
+    forward: bool,
+    v: Subspace,
+    starts: &[u64; 9],
+    table: &mut [i64],
+    first: u64,
+    beyond: u64,
+) -> u64
+    requires { Workable v starts.now table.old × BlockAt v first beyond × (v.low ≡ 0) }
+    ensures { Stepped forward (sparseOf v.line) v.line.place first (first + 2 ^ (v.low + v.own)) table.old result table.new }
+{
+    let pairs: u32 = 1 << (v.own - 1);
+    let mut x = first as usize;
+    let mut near = (starts[1] + (beyond << (v.own - 1))) as usize;
+    let mut beside = table[near];
+    let mut odd = integers::odd(beside);
+    table[x] = integers::step(forward, table[x], beside);
+    let mut j: u32 = 1;
+    while j < pairs {
+        let far = table[neighbours::parent_run(v, starts, beyond, 4 * j) as usize];
+        x += 1;
+        odd += integers::odd(beside + far);
+        table[x] = integers::step(forward, table[x], beside + far);
+        x += 1;
+        near += 1;
+        beside = table[near];
+        odd += integers::odd(far + beside);
+        table[x] = integers::step(forward, table[x], far + beside);
+        j += 1;
+    }
+    x += 1;
+    table[x] = integers::step(forward, table[x], beside);
+    odd + integers::odd(beside)
+}
+
+// ---- a level list
+
+// A step at each point of a level list, forward or back; answers how many of the sums are odd. Where the list has level 0 on the axis nothing moves. In a turn
+// that has come so far, the list's points then hold what the whole turn leaves them, and no other place changes.
+pub fn work(forward: bool, v: Subspace, starts: &[u64; 9], table: &mut [i64]) -> u64
+    requires { Seen v × Below v starts.now × OnAxis (sparseOf v.line) v.line.place table.old × Within (2 ^ 60) table.old }
+    ensures worked { table.new ≡ listWorked forward (sparseOf v.line) v.line.place (at v.levels) table.old }
+    ensures odds { oddSums (sparseOf v.line) v.line.place table.old v.start + result ≡ oddSums (sparseOf v.line) v.line.place table.old v.end }
+    ensures turned { (xs : List ℤ) → length xs ≡ length table.old → table.old ≡ cameTo forward (sparseOf v.line) v.line.place (at v.levels) xs → ListTurned forward (sparseOf v.line) v.line.place (at v.levels) xs table.old table.new }
+{
+    if v.own == 0 {
+        return 0;
+    }
+    let size: u64 = 1 << (v.low + v.own);
+    let mut odd: u64 = 0;
+    let mut first = v.start;
+    let mut beyond: u64 = 0;
+    while first < v.end {
+        if v.low == 0 {
+            odd += line(forward, v, starts, table, first, beyond);
+        } else {
+            odd += block(forward, v, starts, table, first, beyond);
+        }
+        first += size;
+        beyond += 1;
+    }
+    odd
+}
