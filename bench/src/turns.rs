@@ -2,6 +2,7 @@
 
 use crate::input;
 use crate::plain::hashed::Hashed;
+use crate::plain::lists::Lists;
 use crate::plain::walk::Walk;
 use crate::plain::{algorithm6, whole};
 use crate::table::{head, row};
@@ -10,7 +11,7 @@ use numolefays::{Shape, State};
 use std::cell::RefCell;
 use std::hint::black_box;
 
-pub const COLUMNS: [&str; 5] = ["library", "hash map", "algorithm 6", "walk by level vector", "one pass"];
+pub const COLUMNS: [&str; 6] = ["library", "hash map", "algorithm 6", "walk by level vector", "list by list", "one pass"];
 
 struct Tables {
     axes: usize,
@@ -73,6 +74,14 @@ fn prepare((axes, level): (u32, u32)) -> Tables {
     assert!(whole::rates_to_coefficients(&walk, d, &mut table).is_ok() && table == t.coefficients, "walk: whole");
     assert!(whole::coefficients_to_rates(&walk, d, &mut table) && table == t.rates, "walk: whole back");
 
+    let lists = Lists::new(d, level);
+    let mut table = t.loaded.clone();
+    assert!((0..d).all(|a| lists.forward(&mut table, a)) && table == t.coefficients, "lists: forward");
+    assert!((0..d).all(|a| lists.back(&mut table, a)) && table == t.loaded, "lists: back");
+    let mut table = t.rates.clone();
+    assert!(lists.rates_to_coefficients(&mut table).is_ok() && table == t.coefficients, "lists: whole");
+    assert!(lists.coefficients_to_rates(&mut table) && table == t.rates, "lists: whole back");
+
     let mut table = t.loaded.clone();
     (0..d).for_each(|a| algorithm6::forward(d, &mut table, a));
     assert!(table == t.coefficients, "algorithm 6: forward");
@@ -116,11 +125,12 @@ pub fn passes(axes: usize, table: &mut [i64]) {
 fn forward(t: &Tables, seconds: f64) -> Vec<f64> {
     let d = t.axes;
     let map = RefCell::new(Hashed::new(d, t.level, &t.loaded));
-    let mut all: [Contestant; 5] = [
+    let mut all: [Contestant; 6] = [
         in_buffer(&t.loaded, |b| library_forward(t, b)),
         in_map(&map, &t.loaded, |m| (0..d).for_each(|a| m.forward(a))),
         in_buffer(&t.loaded, |b| (0..d).for_each(|a| algorithm6::forward(d, b, a))),
         in_buffer(&t.loaded, |b| assert!((0..d).all(|a| Walk::new(d, t.level).forward(b, a)))),
+        in_buffer(&t.loaded, |b| assert!((0..d).all(|a| Lists::new(d, t.level).forward(b, a)))),
         in_buffer(&t.loaded, |b| passes(d, b)),
     ];
     contest(&mut all, seconds, 15)
@@ -129,11 +139,12 @@ fn forward(t: &Tables, seconds: f64) -> Vec<f64> {
 fn back(t: &Tables, seconds: f64) -> Vec<f64> {
     let d = t.axes;
     let map = RefCell::new(Hashed::new(d, t.level, &t.coefficients));
-    let mut all: [Contestant; 5] = [
+    let mut all: [Contestant; 6] = [
         in_buffer(&t.coefficients, |b| library_back(t, b)),
         in_map(&map, &t.coefficients, |m| (0..d).for_each(|a| m.back(a))),
         in_buffer(&t.coefficients, |b| (0..d).for_each(|a| algorithm6::back(d, b, a))),
         in_buffer(&t.coefficients, |b| assert!((0..d).all(|a| Walk::new(d, t.level).back(b, a)))),
+        in_buffer(&t.coefficients, |b| assert!((0..d).all(|a| Lists::new(d, t.level).back(b, a)))),
         in_buffer(&t.coefficients, |b| passes(d, b)),
     ];
     contest(&mut all, seconds, 15)
@@ -143,7 +154,7 @@ fn there(t: &Tables, seconds: f64) -> Vec<f64> {
     let d = t.axes;
     let shape = Shape::new(d as u32, t.level);
     let map = RefCell::new(Hashed::new(d, t.level, &t.rates));
-    let mut all: [Contestant; 5] = [
+    let mut all: [Contestant; 6] = [
         in_buffer(&t.rates, |b| shape.rates_to_coefficients(b).expect("rates")),
         in_map(&map, &t.rates, |m| {
             m.each(|v| v << d);
@@ -156,6 +167,7 @@ fn there(t: &Tables, seconds: f64) -> Vec<f64> {
         in_buffer(&t.rates, |b| {
             assert!(whole::rates_to_coefficients(&Walk::new(d, t.level), d, b).is_ok());
         }),
+        in_buffer(&t.rates, |b| assert!(Lists::new(d, t.level).rates_to_coefficients(b).is_ok())),
         in_buffer(&t.rates, |b| passes(d, b)),
     ];
     contest(&mut all, seconds, 15)
@@ -165,7 +177,7 @@ fn home(t: &Tables, seconds: f64) -> Vec<f64> {
     let d = t.axes;
     let shape = Shape::new(d as u32, t.level);
     let map = RefCell::new(Hashed::new(d, t.level, &t.coefficients));
-    let mut all: [Contestant; 5] = [
+    let mut all: [Contestant; 6] = [
         in_buffer(&t.coefficients, |b| shape.coefficients_to_rates(b).expect("coefficients")),
         in_map(&map, &t.coefficients, |m| {
             (0..d).for_each(|a| m.back(a));
@@ -178,6 +190,7 @@ fn home(t: &Tables, seconds: f64) -> Vec<f64> {
         in_buffer(&t.coefficients, |b| {
             assert!(whole::coefficients_to_rates(&Walk::new(d, t.level), d, b));
         }),
+        in_buffer(&t.coefficients, |b| assert!(Lists::new(d, t.level).coefficients_to_rates(b))),
         in_buffer(&t.coefficients, |b| passes(d, b)),
     ];
     contest(&mut all, seconds, 15)

@@ -1,17 +1,15 @@
--- Values within the content limit leave room in 64 bits for their sums, and halves are no larger; the lowest bit says whether a sum is even.
+-- Values within the content limit leave room in 64 bits for their sums, and halves are no larger.
 -- Assumes nothing.
-use mathlib.Core.Path.{◌≡◌, refl, ap, sym, ◌∙◌}
+use mathlib.Core.Path.{◌≡◌, refl, sym}
 use mathlib.Core.Bool.{true, false, false≢true}
-use Prim.Native.Nat.{ℕ, suc, ◌+◌, ◌-◌, ◌%◌, ◌^◌, ◌≤◌, ◌<◌}
+use Prim.Native.Nat.{suc, ◌+◌, ◌^◌, ◌≤◌}
 use native.Mathlib.Omega.{arith}
-use lib.Bits.{bit_and, and_mask}
-use lib.Dec.{eqb}
 use lib.IntN.{ℤ, pos, negsuc, nat_abs, ◌+ℤ◌, ◌-ℤ◌}
 use lib.Signed.{shr_z, le_z, lt_z}
 use mir.Syntax.{w64}
-use mir.Val.{SFits, of_z}
+use mir.Val.{SFits}
 use borrow.Author.Tests.{leb-true, lt-leb, le-leb, ltb-true, ltb-false}
-use Rattle.integers.specs.Half.{half, isEven, limit, inLimit, isRate}
+use Rattle.integers.specs.Half.{half, limit, inLimit, isRate}
 use Rattle.integers.proofs.Linear.{leaf, ◌⊕◌, ⊖◌, size, size_of}
 
 pub limit-size : (z : ℤ) → inLimit z ≡ true → nat_abs z ≤ 2 ^ 47
@@ -38,14 +36,6 @@ pub shift-half : (z : ℤ) → shr_z z 2 ≡ half z
 unfolding half
 shift-half (pos n) = refl
 shift-half (negsuc n) = refl
-
-pub lowest-bit : (z : ℤ) → SFits w64 z → eqb (bit_and (of_z w64 z) 1) 0 ≡ isEven z
-unfolding isEven
-lowest-bit (pos n) f = ap (λ (x : ℕ). eqb x 0) (and_mask n 1)
-lowest-bit (negsuc n) f =
-    let h : n < 2 ^ 63 = f.sfits in
-    let e : (2 ^ 64 - suc n) % 2 ≡ suc n % 2 = omega arith in
-    ap (λ (x : ℕ). eqb x 0) (and_mask (2 ^ 64 - suc n) 1 ∙ e)
 
 -- The two ends of the limit.
 pub below-limit : (z : ℤ) → lt_z z (negsuc 140737488355327) ≡ true → inLimit z ≡ false
@@ -91,8 +81,3 @@ module _ (a b : ℤ) (ha : inLimit a ≡ true) (hb : inLimit b ≡ true) where
   less-fits v hv =
       small-fits (v -ℤ half (a +ℤ b))
       (omega (arith, difference-size v (half (a +ℤ b)), half-size (a +ℤ b), sum-small, limit-size v hv))
-
-  pub plus-fits : (v : ℤ) → inLimit v ≡ true → SFits w64 (v +ℤ half (a +ℤ b))
-  plus-fits v hv =
-      small-fits (v +ℤ half (a +ℤ b))
-      (omega (arith, sum-size v (half (a +ℤ b)), half-size (a +ℤ b), sum-small, limit-size v hv))

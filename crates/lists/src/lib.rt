@@ -2,11 +2,11 @@
 // (a run) have parents that follow each other, and so have those of the next run: no search and no test for each point.
 #![tactic(auto)]
 
-ghost use Rattle.std.specs.Prelude.{◌≡◌, ◌+◌, ◌^◌, ◌≤◌, ◌<◌, ◌+ℤ◌, List, ℤ, length};
+ghost use Rattle.std.specs.Prelude.{◌≡◌, ◌+◌, ◌^◌, ◌≤◌, ◌<◌, ◌+ℤ◌, List, ℤ, nat_abs, length};
 ghost use Rattle.numbering.specs.Point.{at};
 ghost use Rattle.neighbours.specs.Steps.{sparseOf, Seen, Below};
 ghost use Rattle.lists.specs.Lists.{oddSums, listWorked, cameTo, ListTurned};
-ghost use Rattle.lists.specs.Steps.{OnAxis, Within, RunStepped, valueIn, Stepped, Workable, BlockAt};
+ghost use Rattle.lists.specs.Steps.{OnAxis, Within, valueIn, RoomIn, RunStepped, Stepped, Workable, BlockAt};
 
 use neighbours::Subspace;
 
@@ -14,7 +14,7 @@ use neighbours::Subspace;
 
 // A run from number x on whose points have the border on one side; their other parents are the points from number a on.
 fn run_by_border(forward: bool, table: &mut [i64], x: usize, a: usize, width: usize) -> u64
-    requires { (a + width ≤ x) × (x + width ≤ length table.old) × (length table.old < 2 ^ 32) × Within (2 ^ 61) table.old }
+    requires { (a + width ≤ x) × (x + width ≤ length table.old) × (length table.old < 2 ^ 32) × RoomIn x width table.old × RoomIn a width table.old }
     ensures { RunStepped forward x width (valueIn table.old a) table.old result table.new }
 {
     let mut odd: u64 = 0;
@@ -29,26 +29,28 @@ fn run_by_border(forward: bool, table: &mut [i64], x: usize, a: usize, width: us
 }
 
 // A run whose points have parents on both sides: the points from number a on, and those from number b on.
-fn run_between(
-    forward: bool,
-    table: &mut [i64],
-    x: usize,
-    a: usize,
-    b: usize,
-    width: usize,
-) -> u64
-    requires { (a + width ≤ x) × (b + width ≤ x) × (x + width ≤ length table.old) × (length table.old < 2 ^ 32) × Within (2 ^ 61) table.old }
+fn run_between(forward: bool, table: &mut [i64], x: usize, a: usize, b: usize, width: usize) -> u64
+    requires { (a + width ≤ x) × (b + width ≤ x) × (x + width ≤ length table.old) × (length table.old < 2 ^ 32) × RoomIn x width table.old × RoomIn a width table.old × RoomIn b width table.old }
     ensures { RunStepped forward x width (λ i. valueIn table.old a i +ℤ valueIn table.old b i) table.old result table.new }
 {
     let mut odd: u64 = 0;
     let mut i: usize = 0;
     while i < width {
-        let sum = table[a + i] + table[b + i];
-        odd += integers::odd(sum);
-        table[x + i] = integers::step(forward, table[x + i], sum);
+        let pair = table[a + i] + table[b + i];
+        odd += integers::odd(pair);
+        table[x + i] = integers::step(forward, table[x + i], pair);
         i += 1;
     }
     odd
+}
+
+// A run of one point, whose parents' values have this sum.
+fn step_at(forward: bool, table: &mut [i64], x: usize, sum: i64) -> u64
+    requires { (x < length table.old) × RoomIn x 1 table.old × (nat_abs sum ≤ 2 ^ 62) }
+    ensures { RunStepped forward x 1 (λ i. sum) table.old result table.new }
+{
+    table[x] = integers::step(forward, table[x], sum);
+    integers::odd(sum)
 }
 
 // ---- blocks
@@ -63,7 +65,7 @@ fn block(
     first: u64,
     beyond: u64,
 ) -> u64
-    requires { Workable v starts.now table.old × BlockAt v first beyond }
+    requires { Workable v starts.now first table.old × BlockAt v first beyond }
     ensures { Stepped forward (sparseOf v.line) v.line.place first (first + 2 ^ (v.low + v.own)) table.old result table.new }
 {
     let width: usize = 1 << v.low;
@@ -85,7 +87,7 @@ fn block(
     odd + run_by_border(forward, table, x, near, width)
 }
 
-// The same where a run is one point: the parent that serves two runs is kept as a value.
+// The same where a run is one point: the value of a parent that serves two of them is kept.
 fn line(
     forward: bool,
     v: Subspace,
@@ -94,31 +96,27 @@ fn line(
     first: u64,
     beyond: u64,
 ) -> u64
-    requires { Workable v starts.now table.old × BlockAt v first beyond × (v.low ≡ 0) }
+    requires { Workable v starts.now first table.old × BlockAt v first beyond × (v.low ≡ 0) }
     ensures { Stepped forward (sparseOf v.line) v.line.place first (first + 2 ^ (v.low + v.own)) table.old result table.new }
 {
     let pairs: u32 = 1 << (v.own - 1);
     let mut x = first as usize;
     let mut near = (starts[1] + (beyond << (v.own - 1))) as usize;
     let mut beside = table[near];
-    let mut odd = integers::odd(beside);
-    table[x] = integers::step(forward, table[x], beside);
+    let mut odd = step_at(forward, table, x, beside);
     let mut j: u32 = 1;
     while j < pairs {
         let far = table[neighbours::parent_run(v, starts, beyond, 4 * j) as usize];
         x += 1;
-        odd += integers::odd(beside + far);
-        table[x] = integers::step(forward, table[x], beside + far);
+        odd += step_at(forward, table, x, beside + far);
         x += 1;
         near += 1;
         beside = table[near];
-        odd += integers::odd(far + beside);
-        table[x] = integers::step(forward, table[x], far + beside);
+        odd += step_at(forward, table, x, far + beside);
         j += 1;
     }
     x += 1;
-    table[x] = integers::step(forward, table[x], beside);
-    odd + integers::odd(beside)
+    odd + step_at(forward, table, x, beside)
 }
 
 // ---- a level list

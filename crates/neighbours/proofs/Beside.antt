@@ -1,14 +1,15 @@
 -- The codes of the parents of a point of a level vector: from its position the digits of the axes before and beyond are read, and the parent is found
--- among the points of its own level vector at the same digits, by the law of where a parent stands. It stands before the whole level vector, since
--- its level sum is smaller.
+-- among the points of its own level vector at the same digits, by the law of where a parent stands. That level vector is lower on the axis by the factors of
+-- two that were dropped, so its first number is one of the list's. It stands before the whole level vector, since its level sum is smaller.
 -- Assumes nothing.
 use mathlib.Core.Path.{◌≡◌, ap, ap₂, sym, ◌∙◌}
 use mathlib.Core.Bool.{true, false}
+use mathlib.Core.Logic.{◌⊎◌, inl, inr}
 use mathlib.Core.List.{List}
 use Prim.Native.Nat.{ℕ, suc, ◌+◌, ◌-◌, ◌*◌, ◌/◌, ◌%◌, ◌^◌, ◌≤◌, ◌<◌}
-use native.Mathlib.Nat.{div-div-eq-div-mul, div-le_self, mod-le, mod-lt}
+use native.Mathlib.Nat.{div-div-eq-div-mul}
 use native.Mathlib.Omega.{arith}
-use lib.Pow.{pow_pos, pow_mono, pow-add}
+use lib.Pow.{pow_pos, pow-add}
 use Rattle.naturals.specs.Sum.{sumTo}
 use Rattle.naturals.proofs.Cases.{true-or-false}
 use Rattle.naturals.proofs.Sums.{sumTo-suc, sumTo-mono}
@@ -17,12 +18,12 @@ use Rattle.numbering.specs.declared.Side.TheVariants.{Left, Right}
 use Rattle.numbering.specs.Point.{at}
 use Rattle.numbering.specs.Number.{position, firstOf, number}
 use Rattle.numbering.specs.Inverse.{levelAt, indexOf, indexAt}
-use Rattle.numbering.specs.Parent.{numerator, isBorder, parentLevel, parentIndex, update}
+use Rattle.numbering.specs.Parent.{numerator, isBorder, twos, parentLevel, parentIndex, update}
 use Rattle.numbering.proofs.Position.{position-low}
 use Rattle.numbering.proofs.Numbering.{points-is, start-mono, number-in-shell}
 use Rattle.numbering.proofs.Named.{Named}
-use Rattle.numbering.proofs.Subspaces.{first-is, number-from-first, indicesTo, indices-in, block-point, block-position, block-below, block-levels, block-indices}
-use Rattle.numbering.proofs.Parents.{inside, level-falls, update_other, update-sum, level-zero-border, parent-is-point, parent-sum}
+use Rattle.numbering.proofs.Subspaces.{first-is, number-from-first, indicesTo, indices-in, block-point, block-position, block-number, block-below, block-levels, block-indices}
+use Rattle.numbering.proofs.Parents.{border-means, Inside, inside, twos-pos, twos-le, update_other, update-sum, level-zero-border, parent-is-point, parent-sum}
 use Rattle.numbering.proofs.ParentPlaces.{moved-position}
 use Rattle.shapes.specs.Shapes.{pointsOf}
 use Rattle.shapes.proofs.Totals.{start_small}
@@ -30,7 +31,7 @@ use Rattle.grids.specs.Grids.{levelOn, indexOn, neighbour}
 use Rattle.grids.proofs.Sparse.{points-sparse, number-sparse, levels-sparse, indices-sparse}
 use Rattle.grids.proofs.Beside.{numeratorOn, to-border, to-parent}
 use Rattle.neighbours.specs.declared.Subspace.{Subspace}
-use Rattle.neighbours.specs.Steps.{sparseOf, Coarser, Seen, Sized, codeFrom}
+use Rattle.neighbours.specs.Steps.{sparseOf, Seen, Below, codeFrom}
 
 -- The two cases of a code.
 pub code-at-border : (v : Subspace) (starts : List ℕ) (before beyond m : ℕ) → isBorder v.own m ≡ true → codeFrom v starts before beyond m ≡ 0
@@ -39,9 +40,20 @@ code-at-border v starts before beyond m e = rw e
 
 pub code_inside : (v : Subspace) (starts : List ℕ) (before beyond m : ℕ) → isBorder v.own m ≡ false →
     codeFrom v starts before beyond m
-    ≡ suc (at starts (parentLevel v.own m) + before + (parentIndex m - 1) / 2 * 2 ^ v.low + beyond * 2 ^ (v.low + parentLevel v.own m))
+    ≡ suc (at starts (twos m) + before + (parentIndex m - 1) / 2 * 2 ^ v.low + beyond * 2 ^ (v.low + parentLevel v.own m))
 unfolding codeFrom
 code_inside v starts before beyond m e = rw e
+
+-- Between the first numerator and the last there is no border.
+pub inner : (own m : ℕ) → 0 < m → m < 2 ^ suc own → isBorder own m ≡ false
+inner own m pos below =
+    true-or-false (isBorder own m)
+    (λ there. absurd (off (border-means own m there)))
+    (λ off-border. off-border)
+  where
+    off : (m ≡ 0) ⊎ (m ≡ 2 ^ suc own) → ⊥
+    off (inl first) = omega (arith, pos, first)
+    off (inr last) = omega (arith, below, last)
 
 -- The digit of the axis in a position, and the number that the axes beyond it add.
 abbrev pub ownDigit : Subspace → ℕ → ℕ
@@ -50,38 +62,18 @@ ownDigit v q = q / 2 ^ v.low % 2 ^ v.own
 abbrev pub beyondOf : Subspace → ℕ → ℕ
 beyondOf v q = q / 2 ^ v.low / 2 ^ v.own
 
--- The numbers of a level vector are small.
-pub sized : {v : Subspace} {starts : List ℕ} → Seen v → Coarser v v.own starts → Sized v starts
-sized {v} {starts} s held =
-    record {
-      bits =
-          omega (
-            arith,
-            s.low,
-            s.own,
-            sumTo-suc (at v.levels) v.line.place,
-            sumTo-mono (at v.levels) (suc v.line.place) v.line.axes s.axis,
-            s.sum,
-            s.top,
-          );
-      long = held.long;
-      small = small;
-    }
-  where
-    small : (m : ℕ) → m < v.own → at starts m < 2 ^ 32
-    small m h =
-        let l : ℕ → ℕ = update (at v.levels) v.line.place m in
-        let low : sumTo l v.line.axes ≤ v.line.level
-        = omega (arith, update-sum (at v.levels) v.line.place m v.line.axes s.axis, s.own, s.sum) in
-        omega (
-          arith,
-          held.first m h,
-          block-below v.line.axes v.line.level l
-              (λ u past. update_other (at v.levels) v.line.place m u (λ same. omega (arith, s.axis)) ∙ s.rest u past)
-              low 0 (pow_pos (sumTo l v.line.axes)),
-          points-is v.line.axes v.line.level,
-          start_small v.line.axes (omega (arith, s.axis)) s.few (suc v.line.level) (omega (arith, s.top)),
-        )
+-- A level vector has few bits up to the axis.
+pub bits : {v : Subspace} → Seen v → v.low + v.own ≤ 8
+bits {v} s =
+    omega (
+      arith,
+      s.low,
+      s.own,
+      sumTo-suc (at v.levels) v.line.place,
+      sumTo-mono (at v.levels) (suc v.line.place) v.line.axes s.axis,
+      s.sum,
+      s.top,
+    )
 
 -- It ends within the table.
 pub end-inside : {v : Subspace} → Seen v → v.end ≤ pointsOf (sparseOf v.line)
@@ -96,6 +88,48 @@ end-inside {v} s =
       points-sparse v.line.axes v.line.level,
     )
 
+-- The level vectors below it.
+module _ {v : Subspace} {starts : List ℕ} (s : Seen v) (held : Below v starts) (j : ℕ) (some : 1 ≤ j) (most : j ≤ v.own) where
+  abbrev lowered : ℕ → ℕ
+  lowered = update (at v.levels) v.line.place (v.own - j)
+
+  lowered-rest : (u : ℕ) → v.line.axes ≤ u → lowered u ≡ 0
+  lowered-rest u past = update_other (at v.levels) v.line.place (v.own - j) u (λ same. omega (arith, s.axis)) ∙ s.rest u past
+
+  lowered-sum : sumTo lowered v.line.axes + j ≡ sumTo (at v.levels) v.line.axes
+  lowered-sum = omega (arith, update-sum (at v.levels) v.line.place (v.own - j) v.line.axes s.axis, s.own, most)
+
+  -- Their numbers are small.
+  pub first-small : at starts j < 2 ^ 32
+  first-small =
+      omega (
+        arith,
+        held.first j some most,
+        block-below v.line.axes v.line.level lowered lowered-rest (omega (arith, lowered-sum, s.sum)) 0 (pow_pos (sumTo lowered v.line.axes)),
+        points-is v.line.axes v.line.level,
+        start_small v.line.axes (omega (arith, s.axis)) s.few (suc v.line.level) (omega (arith, s.top)),
+      )
+
+  -- Each ends before this one starts, since its level sum is smaller.
+  pub below-ends : at starts j + 2 ^ (sumTo (at v.levels) v.line.axes - j) ≤ v.start
+  below-ends =
+      let sum : ℕ = sumTo lowered v.line.axes in
+      let one : 0 < 2 ^ sum = pow_pos sum in
+      let last : 2 ^ sum - 1 < 2 ^ sum = omega (arith, one) in
+      let small : sum ≤ v.line.level = omega (arith, lowered-sum, s.sum) in
+      let sum-is : sumTo (at v.levels) v.line.axes - j ≡ sum = omega (arith, lowered-sum) in
+      omega (
+        arith,
+        one,
+        ap (λ (a : ℕ). 2 ^ a) sum-is,
+        held.first j some most,
+        block-number v.line.axes v.line.level lowered lowered-rest small (2 ^ sum - 1) last,
+        number-in-shell (block-point v.line.axes v.line.level lowered lowered-rest small (2 ^ sum - 1) last).point,
+        start-mono v.line.axes (suc sum) (sumTo (at v.levels) v.line.axes) (omega (arith, lowered-sum, some)),
+        first-is v.line.axes (at v.levels),
+        s.start,
+      )
+
 -- Point number p of a level vector.
 module _ {v : Subspace} (s : Seen v) (p : ℕ) (from : v.start ≤ p) (to : p < v.end) where
   inside-vector : p - v.start < 2 ^ sumTo (at v.levels) v.line.axes
@@ -107,7 +141,7 @@ module _ {v : Subspace} (s : Seen v) (p : ℕ) (from : v.start ≤ p) (to : p < 
   named : Named v.line.axes v.line.level (at v.levels) (indicesTo v.line.axes (at v.levels) (p - v.start))
   named = block-point v.line.axes v.line.level (at v.levels) s.rest s.sum (p - v.start) inside-vector
 
-  pub below : p < pointsOf (sparseOf v.line)
+  below : p < pointsOf (sparseOf v.line)
   below =
       omega (
         arith,
@@ -115,20 +149,6 @@ module _ {v : Subspace} (s : Seen v) (p : ℕ) (from : v.start ≤ p) (to : p < 
         block-below v.line.axes v.line.level (at v.levels) s.rest s.sum (p - v.start) inside-vector,
         points-sparse v.line.axes v.line.level,
       )
-
-  -- Its digits are small.
-  position-small : p - v.start < 2 ^ 8
-  position-small = omega (arith, inside-vector, pow_mono {i = sumTo (at v.levels) v.line.axes} {j = 8} (omega (arith, s.sum, s.top)))
-
-  pub before_small : (p - v.start) % 2 ^ v.low < 2 ^ 8
-  before_small = omega (arith, position-small, mod-le (p - v.start) (2 ^ v.low))
-
-  pub beyond-small : beyondOf v (p - v.start) < 2 ^ 8
-  beyond-small =
-      omega (arith, position-small, div-le_self (p - v.start) (2 ^ v.low), div-le_self ((p - v.start) / 2 ^ v.low) (2 ^ v.own))
-
-  pub digit-small : ownDigit v (p - v.start) < 2 ^ v.own
-  digit-small = mod-lt ((p - v.start) / 2 ^ v.low) (pow_pos v.own)
 
   levels-are : levelOn (sparseOf v.line) p ≡ at v.levels
   levels-are =
@@ -180,32 +200,37 @@ module _ {v : Subspace} (s : Seen v) (p : ℕ) (from : v.start ≤ p) (to : p < 
     at-border e = to-border (sparseOf v.line) v.line.place b p below s.axis (border-is ∙ e)
 
     module _ (e : isBorder (at v.levels v.line.place) top ≡ false) where
-      falls : parentLevel v.own top < v.own
-      falls =
+      between-borders : Inside v.own top
+      between-borders =
           rw s.own
-          (level-falls (at v.levels v.line.place) top
-          (inside b (at v.levels v.line.place) _ (named.point.odd v.line.place s.axis) (named.point.below v.line.place s.axis) e))
+          (inside b (at v.levels v.line.place) _ (named.point.odd v.line.place s.axis) (named.point.below v.line.place s.axis) e)
 
-      moved-number : (starts : List ℕ) → Coarser v v.own starts →
-          number v.line.axes
-          (update (at v.levels) v.line.place (parentLevel v.own top))
-          (update (indicesTo v.line.axes (at v.levels) (p - v.start)) v.line.place (parentIndex top))
-          ≡ at starts (parentLevel v.own top)
-          + (p - v.start) % 2 ^ v.low
-          + (parentIndex top - 1) / 2 * 2 ^ v.low
-          + beyondOf v (p - v.start) * 2 ^ (v.low + parentLevel v.own top)
-      moved-number starts held =
-          let k : ℕ = parentLevel v.own top in
-          let i : ℕ → ℕ = indicesTo v.line.axes (at v.levels) (p - v.start) in
-          omega (
-            arith,
-            number-from-first v.line.axes (update (at v.levels) v.line.place k) (update i v.line.place (parentIndex top)),
-            held.first k falls,
-            moved-position (at v.levels) i v.line.place k (parentIndex top) named.point s.axis,
-            before-is,
-            ap (λ (a : ℕ). (parentIndex top - 1) / 2 * 2 ^ a) s.low,
-            ap₂ (λ (q a : ℕ). q * 2 ^ (a + k)) beyond-is (sym s.low),
-          )
+      -- The parent's level vector is one of those below.
+      module _ {starts : List ℕ} (held : Below v starts) where
+        first-below : at starts (twos top) ≡ firstOf v.line.axes (update (at v.levels) v.line.place (parentLevel v.own top))
+        unfolding parentLevel
+        first-below = held.first (twos top) (twos-pos v.own top between-borders) (twos-le v.own top between-borders)
+
+        moved-number :
+            number v.line.axes
+            (update (at v.levels) v.line.place (parentLevel v.own top))
+            (update (indicesTo v.line.axes (at v.levels) (p - v.start)) v.line.place (parentIndex top))
+            ≡ at starts (twos top)
+            + (p - v.start) % 2 ^ v.low
+            + (parentIndex top - 1) / 2 * 2 ^ v.low
+            + beyondOf v (p - v.start) * 2 ^ (v.low + parentLevel v.own top)
+        moved-number =
+            let k : ℕ = parentLevel v.own top in
+            let i : ℕ → ℕ = indicesTo v.line.axes (at v.levels) (p - v.start) in
+            omega (
+              arith,
+              number-from-first v.line.axes (update (at v.levels) v.line.place k) (update i v.line.place (parentIndex top)),
+              first-below,
+              moved-position (at v.levels) i v.line.place k (parentIndex top) named.point s.axis,
+              before-is,
+              ap (λ (a : ℕ). (parentIndex top - 1) / 2 * 2 ^ a) s.low,
+              ap₂ (λ (q a : ℕ). q * 2 ^ (a + k)) beyond-is (sym s.low),
+            )
 
       beside-inner :
           neighbour (sparseOf v.line) v.line.place b (suc p)
@@ -221,17 +246,17 @@ module _ {v : Subspace} (s : Seen v) (p : ℕ) (from : v.start ≤ p) (to : p < 
           levels-are indices-are
           ∙ rw s.own
 
-    code-beside : (starts : List ℕ) → Coarser v v.own starts →
+    code-beside : {starts : List ℕ} → Below v starts →
         codeFrom v starts ((p - v.start) % 2 ^ v.low) (beyondOf v (p - v.start)) top
         ≡ neighbour (sparseOf v.line) v.line.place b (suc p)
-    code-beside starts held =
+    code-beside {starts} held =
         true-or-false (isBorder (at v.levels v.line.place) top)
         (λ e.
         code-at-border v starts _ _ top (ap (λ (o : ℕ). isBorder o top) s.own ∙ e)
         ∙ sym (at-border e))
         (λ e.
         code_inside v starts _ _ top (ap (λ (o : ℕ). isBorder o top) s.own ∙ e)
-        ∙ ap suc (sym (moved-number e starts held))
+        ∙ ap suc (sym (moved-number e held))
         ∙ sym (beside-inner e))
 
     -- It stands before the level vector.
@@ -260,12 +285,12 @@ module _ {v : Subspace} (s : Seen v) (p : ℕ) (from : v.start ≤ p) (to : p < 
       (omega (arith, named.point.below v.line.place s.axis, ap (λ (l : ℕ). 2 ^ suc l) zero)))
 
   -- The codes of both parents.
-  pub left-code : (starts : List ℕ) → Coarser v v.own starts →
+  pub left-code : {starts : List ℕ} → Below v starts →
       codeFrom v starts ((p - v.start) % 2 ^ v.low) (beyondOf v (p - v.start)) (2 * ownDigit v (p - v.start))
       ≡ neighbour (sparseOf v.line) v.line.place Left (suc p)
-  left-code starts held = ap (codeFrom v starts _ _) (omega (arith, index_is)) ∙ code-beside Left starts held
+  left-code {starts} held = ap (codeFrom v starts _ _) (omega (arith, index_is)) ∙ code-beside Left held
 
-  pub right-code : (starts : List ℕ) → Coarser v v.own starts →
+  pub right-code : {starts : List ℕ} → Below v starts →
       codeFrom v starts ((p - v.start) % 2 ^ v.low) (beyondOf v (p - v.start)) (2 * ownDigit v (p - v.start) + 2)
       ≡ neighbour (sparseOf v.line) v.line.place Right (suc p)
-  right-code starts held = ap (codeFrom v starts _ _) (omega (arith, index_is)) ∙ code-beside Right starts held
+  right-code {starts} held = ap (codeFrom v starts _ _) (omega (arith, index_is)) ∙ code-beside Right held

@@ -1,83 +1,76 @@
--- The code of a parent as it is computed: the border is told, and within the borders no shift and no sum leaves the width, since a level vector has at
--- most 2^8 points and its numbers are below 2^32.
+-- The first parent of a run as it is computed: the levels dropped are the factors of two, and no shift and no sum leaves the width, since a level vector has
+-- at most 2^8 points and the numbers of those below it are below 2^32.
 -- Assumes nothing.
-use mathlib.Core.Path.{◌≡◌, ap, ap₂, sym, ◌∙◌}
-use mathlib.Core.Bool.{true, false}
+use mathlib.Core.Path.{◌≡◌, ap}
 use mathlib.Core.List.{List}
 use Prim.Native.Nat.{ℕ, suc, ◌+◌, ◌-◌, ◌*◌, ◌/◌, ◌%◌, ◌^◌, ◌≤◌, ◌<◌}
 use native.Mathlib.Nat.{mul-le-mul_left, mod-eq_of_lt}
-use native.Mathlib.Numerals.{add-one}
 use native.Mathlib.Omega.{arith}
 use lib.Pow.{pow_mono}
+use Rattle.std.proofs.Common.{Fits, w64}
 use Rattle.numbering.specs.Point.{at}
-use Rattle.numbering.specs.Parent.{isBorder, parentLevel, parentIndex}
-use Rattle.numbering.proofs.Parents.{not-border, Inside, level-falls, index-odd-up, index-below-up}
+use Rattle.numbering.specs.Parent.{twos, parentLevel, parentIndex}
+use Rattle.numbering.proofs.Parents.{Inside, twos-pos, twos-le, index-odd-up, index-below-up}
 use Rattle.neighbours.specs.declared.Subspace.{Subspace}
-use Rattle.neighbours.specs.Steps.{Sized, codeFrom}
-use Rattle.neighbours.proofs.Beside.{code-at-border, code_inside}
+use Rattle.neighbours.specs.Steps.{Seen, codeFrom}
+use Rattle.neighbours.proofs.Beside.{code_inside, inner, bits}
 
--- A number of 8 bits, shifted by up to 8.
-pub shift_small : (a b : ℕ) → a < 2 ^ 8 → b ≤ 8 → a * 2 ^ b < 2 ^ 16
+-- ---- within the width
+
+-- A number of 9 bits, shifted by up to 8.
+shift_small : (a b : ℕ) → a < 2 ^ 9 → b ≤ 8 → a * 2 ^ b < 2 ^ 17
 shift_small a b small few = omega (arith, mul-le-mul_left a (pow_mono {i = b} {j = 8} few))
 
-pub shift-exact : (a b : ℕ) → a < 2 ^ 8 → b ≤ 8 → a * 2 ^ b % 2 ^ 64 ≡ a * 2 ^ b
+shift-exact : (a b : ℕ) → a < 2 ^ 9 → b ≤ 8 → a * 2 ^ b % 2 ^ 64 ≡ a * 2 ^ b
 shift-exact a b small few = mod-eq_of_lt (omega (arith, shift_small a b small few))
 
-module _ {v : Subspace} {starts : List ℕ} (sized : Sized v starts) (before beyond m : ℕ) where
-  pub at-border : isBorder v.own m ≡ true → 0 ≡ codeFrom v starts before beyond m
-  at-border e = sym (code-at-border v starts before beyond m e)
+-- A number below 2^32 with one or two of these added.
+module _ (n a b : ℕ) (start : n < 2 ^ 32) (small : a < 2 ^ 9) (few : b ≤ 8) where
+  pub one-more : Fits w64 (n + a * 2 ^ b % 2 ^ 64)
+  one-more = omega (arith, start, shift-exact a b small few, shift_small a b small few)
 
-  module _ (even : m % 2 ≡ 0) (most : m ≤ 2 ^ suc v.own) (inner : isBorder v.own m ≡ false) where
-    pub between : Inside v.own m
-    between =
-        let ends = not-border v.own m inner in
-        record { even = even; pos = omega (arith, ends.0); below = omega (arith, ends.1) }
+  pub two-more : (c d : ℕ) → c < 2 ^ 9 → d ≤ 8 → Fits w64 (n + a * 2 ^ b % 2 ^ 64 + c * 2 ^ d % 2 ^ 64)
+  two-more c d small' few' =
+      omega (
+        arith,
+        start,
+        shift-exact a b small few,
+        shift_small a b small few,
+        shift-exact c d small' few',
+        shift_small c d small' few',
+      )
 
-    -- The parent's level and index, as the code has them.
-    module _ (l i : ℕ) (level : l ≡ parentLevel v.own m) (index : i ≡ parentIndex m) where
-      pub falls : l < v.own
-      falls = rw level (level-falls v.own m between)
+-- ---- the parent at numerator m, with its level and index as the code has them
 
-      half_is : i / 2 ≡ (parentIndex m - 1) / 2
-      half_is = rw index (omega (arith, index-odd-up v.own m between))
+module _ {v : Subspace} (s : Seen v) (m l i : ℕ) (within : Inside v.own m) (level : l ≡ parentLevel v.own m) (index : i ≡ parentIndex m) where
+  dropped : v.own - l ≡ twos m
+  unfolding parentLevel
+  dropped = omega (arith, level, twos-le v.own m within)
 
-      pub half-small : i / 2 < 2 ^ 8
-      half-small =
-          rw index
-          (omega (
-            arith,
-            index-below-up v.own m between,
-            level-falls v.own m between,
-            pow_mono {i = suc (parentLevel v.own m)} {j = 9} (omega (arith, level-falls v.own m between, sized.bits)),
-          ))
+  -- At least one level is dropped.
+  pub falls : l < v.own
+  unfolding parentLevel
+  falls = omega (arith, level, twos-le v.own m within, twos-pos v.own m within)
 
-      pub first_small : at starts l < 2 ^ 32
-      first_small = sized.small _ falls
+  pub index-small : i < 2 ^ 9
+  index-small =
+      omega (
+        arith,
+        index,
+        index-below-up v.own m within,
+        pow_mono {i = suc (parentLevel v.own m)} {j = 9} (omega (arith, level, falls, bits s)),
+      )
 
-      pub level-few : v.low + l ≤ 8
-      level-few = omega (arith, sized.bits, falls)
-
-      module _ (beyond-small : beyond < 2 ^ 8) where
-        pub total-small : before < 2 ^ 8 →
-            at starts l + before + i / 2 * 2 ^ v.low % 2 ^ 64 + beyond * 2 ^ (v.low + l) % 2 ^ 64 < 2 ^ 33
-        total-small before_small =
-            omega (
-              arith,
-              first_small,
-              shift-exact (i / 2) v.low half-small (omega (arith, sized.bits)),
-              shift_small (i / 2) v.low half-small (omega (arith, sized.bits)),
-              shift-exact beyond (v.low + l) beyond-small level-few,
-              shift_small beyond (v.low + l) beyond-small level-few,
-            )
-
-        pub computed :
-            at starts l + before + i / 2 * 2 ^ v.low % 2 ^ 64 + beyond * 2 ^ (v.low + l) % 2 ^ 64 + 1
-            ≡ codeFrom v starts before beyond m
-        computed =
-            add-one _
-            ∙ ap suc
-            (ap₂ (λ (x y : ℕ). at starts l + before + x + y)
-            (shift-exact (i / 2) v.low half-small (omega (arith, sized.bits)) ∙ ap (λ (h : ℕ). h * 2 ^ v.low) half_is)
-            (shift-exact beyond (v.low + l) beyond-small level-few))
-            ∙ ap (λ (k : ℕ). suc (at starts k + before + (parentIndex m - 1) / 2 * 2 ^ v.low + beyond * 2 ^ (v.low + k))) level
-            ∙ sym (code_inside v starts before beyond m inner)
+  pub computed : (starts : List ℕ) (beyond : ℕ) → beyond < 2 ^ 8 →
+      suc (at starts (v.own - l) + i / 2 * 2 ^ v.low % 2 ^ 64 + beyond * 2 ^ (v.low + l) % 2 ^ 64) ≡ codeFrom v starts 0 beyond m
+  computed starts beyond small =
+      let half : i / 2 ≡ (parentIndex m - 1) / 2 = omega (arith, index, index-odd-up v.own m within) in
+      omega (
+        arith,
+        ap (at starts) dropped,
+        shift-exact (i / 2) v.low (omega (arith, index-small)) (omega (arith, bits s)),
+        ap (λ (h : ℕ). h * 2 ^ v.low) half,
+        shift-exact beyond (v.low + l) (omega (arith, small)) (omega (arith, bits s, falls)),
+        ap (λ (k : ℕ). beyond * 2 ^ (v.low + k)) level,
+        code_inside v starts 0 beyond m (inner v.own m within.pos within.below),
+      )

@@ -1,8 +1,9 @@
-pub mod Accepting
-pub mod AtPoint
-pub mod Between
+pub mod Room
+pub mod Ranks
+pub mod Parted
+pub mod Odds
+pub mod Walking
+pub mod Standing
+pub mod Meeting
 pub mod Lowering
 pub mod Raising
-pub mod Rising
-pub mod Flat
-pub mod Standing

@@ -1,209 +1,170 @@
--- The forward steps of a table down to a point, as the loops of `lower_subspace` and `lower` make them: above the point the values are turned, up to it they
--- are as they were. A point's parents have smaller numbers or do not move, so what a step reads and tests is what stood at the start, and one store is one
--- step of the sweep over functions.
+-- The forward way over a table, from the last level list down. Of the level sum that it is at, the first b lists are left, and all lists of the sums below; the
+-- points of the others are turned. A level list is worked when it is the last of those left: its parents stand before it and hold what they held, so its points
+-- are turned then, and their odd sums are those of the table at the start.
 -- Assumes nothing.
 use mathlib.Core.Path.{◌≡◌, ap, ap₂, sym, ◌∙◌}
-use mathlib.Core.Bool.{true, false}
+use mathlib.Core.Bool.{true}
 use mathlib.Core.Logic.{⊎_elim}
-use mathlib.Core.List.{List}
-use Prim.Native.Nat.{ℕ, suc, ◌-◌, ◌≤◌, ◌<◌}
+use mathlib.Core.List.{List, ◌∷◌}
+use Prim.Native.Nat.{ℕ, suc, ◌+◌, ◌-◌, ◌*◌, ◌%◌, ◌^◌, ◌≤◌, ◌<◌}
+use native.Mathlib.Nat.{mul-suc, mul-zero}
 use native.Mathlib.Omega.{arith}
-use lib.IntN.{ℤ, ◌+ℤ◌, ◌-ℤ◌}
-use lib.ListN.{length, set, length-set}
-use Rattle.naturals.proofs.Cases.{eq-or-not, le-or-lt}
-use Rattle.naturals.proofs.Tests.{and_right}
-use Rattle.integers.specs.Half.{half, isEven, inLimit}
-use Rattle.numbering.specs.declared.Side.{Side}
-use Rattle.numbering.specs.declared.Side.TheVariants.{Left, Right}
-use Rattle.hierarchy.specs.Grid.{Still}
-use Rattle.hierarchy.specs.Turns.{valueAt, sumOn, forward}
-use Rattle.hierarchy.proofs.Still.{forward-still}
-use Rattle.hierarchy.proofs.Values.{value-zero, values_length}
-use Rattle.hierarchy.proofs.Sweeps as sweeps
+use lib.IntN.{ℤ}
+use lib.ListN.{length}
+use Rattle.naturals.proofs.Shifts.{one_shifted}
+use Rattle.numbering.specs.Count.{vectors}
+use Rattle.numbering.specs.Point.{at}
+use Rattle.numbering.specs.Number.{rank, firstOf}
+use Rattle.numbering.proofs.Numbering.{points-is, start-suc}
+use Rattle.hierarchy.specs.Turns.{valueAt}
+use Rattle.hierarchy.proofs.Values.{values_length}
 use Rattle.shapes.specs.Shapes.{pointsOf}
-use Rattle.shapes.specs.declared.Shape.{Shape}
-use Rattle.grids.specs.Grids.{neighbour, depth}
-use Rattle.grids.proofs.Instance.{grid, late}
-use Rattle.sweeps.specs.Steps.{OnAxis, Limited, movesOn, between, LoweredBetween}
-use Rattle.sweeps.proofs.Accepting.{code-limited}
-use Rattle.sweeps.proofs.AtPoint.{AtParents}
-use Rattle.sweeps.proofs.Between.{between-low, between-inside, between-high, between-held}
+use Rattle.grids.specs.Turned.{turnedTable}
+use Rattle.grids.proofs.Sparse.{points-sparse}
+use Rattle.walks.specs.Walks.{walkDown}
+use Rattle.neighbours.specs.declared.Line.{Line}
+use Rattle.neighbours.specs.declared.Subspace.{Subspace}
+use Rattle.neighbours.specs.Steps.{sparseOf, Seen}
+use Rattle.lists.specs.Lists.{oddSums, listWorked, firstIn, endOf, wholeTurn, cameTo, ListTurned}
+use Rattle.lists.specs.Steps.{OnAxis, Within}
+use Rattle.sweeps.specs.Sweeps.{listsWorked}
+use Rattle.sweeps.proofs.Ranks.{firstAt, Follows, first-of-all}
+use Rattle.sweeps.proofs.Room.{turned-within}
+use Rattle.sweeps.proofs.Parted.{Parted, all-below, above-only, below-codes, parted-within, from_number, moved-down}
+use Rattle.sweeps.proofs.Odds.{odds-none, odds-few}
+use Rattle.sweeps.proofs.Walking.{worked-long, same-walk, first-worked, none-worked, leftDown, down-all, down-first, down-sum, down-none}
+use Rattle.sweeps.proofs.Standing.{Standing, first-at, levels-of-rank}
+use Rattle.sweeps.proofs.Meeting.{Met, met, met-odds}
 
--- Where a point moves, its value after the step is within the limit.
-pub moved-limited : (sh : Shape) (t : ℕ) (xs : List ℤ) (p : ℕ) → movesOn sh t xs p ≡ true → inLimit (forward (neighbour sh) t (valueAt xs) (suc p)) ≡ true
-unfolding movesOn
-moved-limited sh t xs p e = and_right (isEven (sumOn (neighbour sh) t (valueAt xs) (suc p))) _ e
+-- The table after the whole turn.
+abbrev pub turnedOn : Line → List ℤ → List ℤ
+turnedOn line xs = turnedTable (sparseOf line) line.place xs
 
-module _ (sh : Shape) (t : ℕ) (xs : List ℤ) (hi : ℕ) where
-  pub record Lowering (ys : List ℤ) (p : ℕ) : Type 0 where
-    pub axis : OnAxis sh t xs
-    pub limited : Limited xs (length xs)
-    pub inside : hi ≤ pointsOf sh
-    pub below : p ≤ hi
-    pub long : length ys ≡ pointsOf sh
-    pub held :
-        sweeps.Sweeping (pointsOf sh) (neighbour sh) (depth sh) (grid sh) t (late sh t)
-        (valueAt xs) hi p (valueAt ys)
-    pub passed : (q : ℕ) → p ≤ q → q < hi → movesOn sh t xs q ≡ true
+-- Of the sum the first b lists are left; from number k on the table ys is turned, and so many sums were odd there.
+pub record Lowering (line : Line) (xs : List ℤ) (sum b k odd : ℕ) (ys : List ℤ) : Type 0 where
+  pub first : k ≡ firstAt line.axes sum b
+  pub parted : Parted (pointsOf (sparseOf line)) k xs (turnedOn line xs) ys
+  pub odds : oddSums (sparseOf line) line.place xs k + odd ≡ oddSums (sparseOf line) line.place xs (pointsOf (sparseOf line))
+  pub walked : listsWorked true (sparseOf line) line.place (leftDown line.axes sum b) ys
+      ≡ listsWorked true (sparseOf line) line.place (walkDown line.axes line.level) xs
 
-  pub lowering-starts : OnAxis sh t xs → Limited xs (length xs) → hi ≤ pointsOf sh → Lowering xs hi
-  lowering-starts axis limited inside =
+module _ {line : Line} {xs : List ℤ} (on : OnAxis (sparseOf line) line.place xs) where
+  turned-long : length (turnedOn line xs) ≡ pointsOf (sparseOf line)
+  unfolding turnedTable
+  turned-long = values_length (pointsOf (sparseOf line)) _
+
+  -- At the start all lists of the top level are left.
+  pub lowering-starts : (k : ℕ) → k ≡ pointsOf (sparseOf line) → Lowering line xs line.level (vectors line.axes line.level) k 0 xs
+  lowering-starts k whole =
       record {
-        axis = axis;
-        limited = limited;
-        inside = inside;
-        below = omega arith;
-        long = axis.long;
-        held = sweeps.sweep-starts (pointsOf sh) (neighbour sh) (depth sh) (grid sh) t (late sh t) (valueAt xs) hi;
-        passed = λ q from to. absurd (omega arith);
+        first = omega (arith, whole, points-sparse line.axes line.level, points-is line.axes line.level, start-suc line.axes line.level);
+        parted = rw whole (all-below _ xs (turnedOn line xs) on.long turned-long);
+        odds = rw whole (omega arith);
+        walked = same-walk true (sparseOf line) line.place xs (down-all line.axes line.level);
       }
 
-  pub lowering-ends : (lo : ℕ) (ys : List ℤ) (p : ℕ) → Lowering ys p → lo ≤ p → (lo < p → movesOn sh t xs (p - 1) ≡ false) →
-      LoweredBetween sh t lo hi xs p ys
-  lowering-ends lo ys p s from stop =
-      record {
-        from = from;
-        to = s.below;
-        holds = sweeps.list-of-values (pointsOf sh) ys _ s.long each;
-        passed = s.passed;
-        stopped = stop;
-      }
-    where
-      each : (q : ℕ) → valueAt ys q ≡ between p hi (forward (neighbour sh) t (valueAt xs)) (valueAt xs) q
-      each q =
-          le-or-lt q p
-          (λ low. s.held.low q low ∙ sym (between-low p hi _ (valueAt xs) q low))
-          (λ high.
-          le-or-lt q hi
-          (λ le. s.held.turned q high le ∙ sym (between-inside p hi _ (valueAt xs) q high le))
-          (λ gt. s.held.high q gt ∙ sym (between-high p hi (forward (neighbour sh) t (valueAt xs)) (valueAt xs) q high gt)))
+  module _ {sum b k odd : ℕ} {ys : List ℤ} (s : Lowering line xs sum b k odd ys) where
+    pub lowering-on : OnAxis (sparseOf line) line.place ys
+    lowering-on = record { few = on.few; low = on.low; place = on.place; long = s.parted.long }
 
-  module _ (ys : List ℤ) (p : ℕ) (s : Lowering ys p) where
-    -- What does not move holds what it held.
-    still-held : (q : ℕ) → Still (neighbour sh) t q → valueAt ys q ≡ valueAt xs q
-    still-held q still =
-        le-or-lt q p (s.held.low q)
-        (λ high.
-        le-or-lt q hi
-        (λ le. s.held.turned q high le ∙ forward-still (neighbour sh) t (valueAt xs) (value-zero xs) q still)
-        (λ gt. s.held.high q gt))
+    -- The values have room for a step.
+    pub lowering-room : Within (2 ^ 59) xs → Within (2 ^ 60) ys
+    lowering-room small =
+        parted-within _ xs (turnedOn line xs) on.long turned-long k ys s.parted (2 ^ 60)
+        (λ code. omega (arith, small code))
+        (turned-within (sparseOf line) line.place xs (2 ^ 59) on.long small)
 
-    -- Up to the point a step reads what stood at the start.
-    parent-held : (b : Side) (q : ℕ) → q ≤ p → valueAt ys (neighbour sh t b q) ≡ valueAt xs (neighbour sh t b q)
-    parent-held b q h =
-        eq-or-not (neighbour sh t b q) 0
-        (λ e. s.held.low (neighbour sh t b q) (omega arith))
-        (λ ne.
-        ⊎_elim (λ less. s.held.low (neighbour sh t b q) (omega arith)) (still-held (neighbour sh t b q))
-        (late sh t b q ne))
+    -- No more sums are odd than there are points.
+    pub lowering-few : odd ≤ pointsOf (sparseOf line)
+    lowering-few = omega (arith, s.odds, odds-few (sparseOf line) line.place xs (pointsOf (sparseOf line)))
 
-    sum-held : (q : ℕ) → q ≤ p → sumOn (neighbour sh) t (valueAt ys) q ≡ sumOn (neighbour sh) t (valueAt xs) q
-    unfolding sumOn
-    sum-held q h = ap₂ ◌+ℤ◌ (parent-held Left q h) (parent-held Right q h)
+    -- Where no list of the sum is left, all of the sum below are.
+    lowering-sum : (sum' : ℕ) → sum ≡ suc sum' → b ≡ 0 → Lowering line xs sum' (vectors line.axes sum') k odd ys
+    lowering-sum sum' e none =
+        record {
+          first = omega (arith, s.first, ap₂ (firstAt line.axes) e none, mul-zero (2 ^ suc sum'), start-suc line.axes sum');
+          parted = s.parted;
+          odds = s.odds;
+          walked =
+              same-walk true (sparseOf line) line.place ys (sym (ap₂ (leftDown line.axes) e none ∙ down-sum line.axes sum')) ∙ s.walked;
+        }
 
-    turned-held : (q : ℕ) → q ≤ p → forward (neighbour sh) t (valueAt ys) q ≡ forward (neighbour sh) t (valueAt xs) q
-    unfolding forward
-    turned-held q h = ap₂ (λ (v w : ℤ). v -ℤ half w) (s.held.low q h) (sum-held q h)
+    -- The list that comes next is the last of those left.
+    pub lowering-next : {sum' r : ℕ} → Follows line.axes sum' r sum b → Lowering line xs sum' (suc r) k odd ys
+    lowering-next {sum'} {r} =
+        ⊎_elim (λ same. rw (same.0, same.1) at s) (λ below. rw below.2 (lowering-sum sum' below.0 below.1))
 
-    moves-held : (q : ℕ) → q < p → movesOn sh t ys q ≡ movesOn sh t xs q
-    unfolding movesOn
-    moves-held q h = rw (turned-held (suc q) h, sum-held (suc q) h)
+    -- At number 0 none is left.
+    module _ (done : k ≡ 0) where
+      pub lowering-turned : ys ≡ turnedOn line xs
+      lowering-turned = above-only _ xs (turnedOn line xs) on.long turned-long k ys s.parted done
 
-    -- All values are within the limit still.
-    pub all-limited : Limited ys (length ys)
-    all-limited q h =
-        le-or-lt (suc q) p
-        (λ low. ap inLimit (s.held.low (suc q) low) ∙ s.limited q (omega (arith, s.long, s.axis.long)))
-        (λ high.
-        le-or-lt (suc q) hi
-        (λ le. ap inLimit (s.held.turned (suc q) high le) ∙ moved-limited sh t xs q (s.passed q (omega arith) le))
-        (λ gt. ap inLimit (s.held.high (suc q) gt) ∙ s.limited q (omega (arith, s.long, s.axis.long))))
+      pub lowering-odds : odd ≡ oddSums (sparseOf line) line.place xs (pointsOf (sparseOf line))
+      lowering-odds = omega (arith, s.odds, odds-none (sparseOf line) line.place xs, ap (oddSums (sparseOf line) line.place xs) done)
 
-    -- The points from number k to p − 1 at once.
-    module _ (lo k : ℕ) (zs : List ℤ) (done : LoweredBetween sh t lo p ys k zs) where
-      holds : (q : ℕ) → valueAt zs q ≡ between k p (forward (neighbour sh) t (valueAt ys)) (valueAt ys) q
-      holds = between-held (pointsOf sh) k p _ ys zs s.long (omega (arith, s.below, s.inside)) done.holds
+      pub lowering-walked : b < vectors line.axes sum → ys ≡ listsWorked true (sparseOf line) line.place (walkDown line.axes line.level) xs
+      lowering-walked in_sum =
+          let none = first-of-all line.axes (omega (arith, on.place)) sum b in_sum (sym s.first ∙ done) in
+          none-worked true (sparseOf line) line.place ys (ap₂ (leftDown line.axes) none.0 none.1 ∙ down-none line.axes) ∙ s.walked
 
-      pub lowering-block : Lowering zs k
-      lowering-block =
+  -- The last list that is left of the sum.
+  module _ {sum k odd : ℕ} {ls : List ℕ} {ys : List ℤ} (here : Standing line.axes line.level sum ls)
+      (s : Lowering line xs sum (suc (rank (at ls) line.axes)) k odd ys) where
+    ends : k ≡ firstOf line.axes (at ls) + 2 ^ sum
+    ends = omega (arith, s.first, first-at here.vector, mul-suc (2 ^ sum) (rank (at ls) line.axes))
+
+    ends-list : k ≡ endOf (sparseOf line) (at ls)
+    ends-list = ends ∙ ap (λ (u : ℕ). firstOf line.axes (at ls) + 2 ^ u) (sym here.vector.total)
+
+    -- Its first number, as the code reckons it.
+    pub lowering-first : k - 1 * 2 ^ sum % 2 ^ 64 ≡ firstOf line.axes (at ls)
+    lowering-first = omega (arith, ends, one_shifted 64 sum (omega (arith, here.low, on.low)))
+
+    pub lowering-met : (v : Subspace) → Seen v → v.line ≡ line → v.start ≡ k - 1 * 2 ^ sum % 2 ^ 64 → Met line ls v
+    lowering-met v seen same starts = met here v seen same (starts ∙ lowering-first)
+
+    came : ys ≡ cameTo true (sparseOf line) line.place (at ls) xs
+    unfolding cameTo wholeTurn
+    came = rw (sym ends-list) (from_number _ xs (turnedOn line xs) on.long turned-long k ys s.parted)
+
+    list-first : leftDown line.axes sum (suc (rank (at ls) line.axes)) ≡ at ls ∷ leftDown line.axes sum (rank (at ls) line.axes)
+    list-first =
+        down-first line.axes sum (rank (at ls) line.axes)
+        ∙ ap (λ (l : ℕ → ℕ). l ∷ leftDown line.axes sum (rank (at ls) line.axes)) (levels-of-rank here.vector)
+
+    module _ (zs : List ℤ) (more : ℕ) (worked : zs ≡ listWorked true (sparseOf line) line.place (at ls) ys)
+        (counted : oddSums (sparseOf line) line.place xs (firstIn (sparseOf line) (at ls)) + more
+        ≡ oddSums (sparseOf line) line.place xs (endOf (sparseOf line) (at ls)))
+        (turned : ListTurned true (sparseOf line) line.place (at ls) xs ys zs) where
+      holds : (p : ℕ) → firstIn (sparseOf line) (at ls) ≤ p → p < endOf (sparseOf line) (at ls) →
+          valueAt zs (suc p) ≡ valueAt (turnedOn line xs) (suc p)
+      unfolding wholeTurn
+      holds = turned.holds
+
+      list-done : Lowering line xs sum (rank (at ls) line.axes) (firstIn (sparseOf line) (at ls)) (odd + more) zs
+      list-done =
           record {
-            axis = s.axis;
-            limited = s.limited;
-            inside = s.inside;
-            below = omega (arith, s.below, done.to);
-            long = ap length done.holds ∙ values_length (pointsOf sh) _;
-            held =
-                record {
-                  low = λ q low. holds q ∙ between-low k p _ (valueAt ys) q low ∙ s.held.low q (omega (arith, done.to));
-                  turned =
-                      λ q high in-range.
-                      holds q
-                      ∙ le-or-lt q p
-                      (λ now. between-inside k p _ (valueAt ys) q high now ∙ turned-held q now)
-                      (λ before.
-                      between-high k p (forward (neighbour sh) t (valueAt ys)) (valueAt ys) q high before ∙ s.held.turned q before in-range);
-                  high =
-                      λ q past.
-                      holds q
-                      ∙ between-high k p (forward (neighbour sh) t (valueAt ys)) (valueAt ys) q (omega (arith, s.below, done.to)) (omega (arith, s.below))
-                      ∙ s.held.high q past;
-                };
-            passed =
-                λ q from to.
-                le-or-lt p q (λ old. s.passed q old to) (λ new. sym (moves-held q new) ∙ done.passed q from new);
+            first = first-at here.vector;
+            parted =
+                moved-down _ xs (turnedOn line xs) on.long turned-long _ ys (rw ends-list at s.parted) zs
+                (ap length worked ∙ worked-long true (sparseOf line) line.place (at ls) ys)
+                (firstIn (sparseOf line) (at ls)) (omega arith) holds turned.others;
+            odds = omega (arith, counted, s.odds, ap (oddSums (sparseOf line) line.place xs) ends-list);
+            walked = first-worked true (sparseOf line) line.place ys zs list-first worked ∙ s.walked;
           }
 
-      pub block-stops : lo < k → movesOn sh t xs (k - 1) ≡ false
-      block-stops h = sym (moves-held (k - 1) (omega (arith, done.to))) ∙ done.stopped h
-
-    -- One turn of the loop of `lower_subspace`, at point number k.
-    module _ (k : ℕ) (next : p ≡ suc k) (a b : ℤ) (parents : AtParents sh t ys k a b) where
-      pub parents-limited : (inLimit a ≡ true) × (inLimit b ≡ true)
-      parents-limited = (
-        ap inLimit parents.left ∙ code-limited ys all-limited _,
-        ap inLimit parents.right ∙ code-limited ys all-limited _,
-      )
-
-      sum_is : a +ℤ b ≡ sumOn (neighbour sh) t (valueAt ys) (suc k)
-      unfolding sumOn
-      sum_is = ap₂ ◌+ℤ◌ parents.left parents.right
-
-      pub odd-stops : isEven (a +ℤ b) ≡ false → movesOn sh t xs k ≡ false
-      unfolding movesOn
-      odd-stops odd = sym (moves-held k (omega arith)) ∙ rw (← sum_is, odd)
-
-      module _ (v : ℤ) (here : v ≡ valueAt ys p) where
-        pub values-limited : (inLimit v ≡ true) × (inLimit a ≡ true) × (inLimit b ≡ true)
-        values-limited = (ap inLimit here ∙ code-limited ys all-limited _, parents-limited.0, parents-limited.1)
-
-        module _ (w : ℤ) (made : w ≡ v -ℤ half (a +ℤ b)) where
-          lowered_is : w ≡ forward (neighbour sh) t (valueAt ys) (suc k)
-          unfolding forward
-          lowered_is = made ∙ ap₂ (λ (x y : ℤ). x -ℤ half y) (here ∙ ap (valueAt ys) next) sum_is
-
-          moves-is : isEven (a +ℤ b) ≡ true → inLimit w ≡ movesOn sh t ys k
-          unfolding movesOn
-          moves-is even = rw (← sum_is, even, ← lowered_is)
-
-          pub large-stops : isEven (a +ℤ b) ≡ true → inLimit w ≡ false → movesOn sh t xs k ≡ false
-          large-stops even large = sym (moves-held k (omega arith)) ∙ sym (moves-is even) ∙ large
-
-          pub lowering-steps : isEven (a +ℤ b) ≡ true → inLimit w ≡ true → Lowering (set ys k w) k
-          unfolding sumOn
-          lowering-steps even small =
-              record {
-                axis = s.axis;
-                limited = s.limited;
-                inside = s.inside;
-                below = omega (arith, s.below);
-                long = length-set ys k w ∙ s.long;
-                held =
-                    rw (sweeps.value_set ys k w (omega (arith, s.below, s.inside, s.long)), made, here, parents.left, parents.right, next)
-                    (sweeps.sweep-steps (pointsOf sh) (neighbour sh) (depth sh) (grid sh) t (late sh t) (valueAt xs)
-                    hi k (valueAt ys) (value-zero xs) (omega (arith, s.below)) (rw next at s.held));
-                passed =
-                    λ q from to.
-                    eq-or-not q k
-                    (λ e. rw e (sym (moves-held k (omega arith)) ∙ sym (moves-is even) ∙ small))
-                    (λ ne. s.passed q (omega arith) to);
-              }
+    -- As it is met: the work on it does its part of the turn.
+    pub lowering-worked : (v : Subspace) → Met line ls v → (zs : List ℤ) (more : ℕ) →
+        zs ≡ listWorked true (sparseOf v.line) v.line.place (at v.levels) ys →
+        oddSums (sparseOf v.line) v.line.place ys v.start + more ≡ oddSums (sparseOf v.line) v.line.place ys v.end →
+        ((ws : List ℤ) → length ws ≡ length ys → ys ≡ cameTo true (sparseOf v.line) v.line.place (at v.levels) ws →
+        ListTurned true (sparseOf v.line) v.line.place (at v.levels) ws ys zs) →
+        Lowering line xs sum (rank (at ls) line.axes) (k - 1 * 2 ^ sum % 2 ^ 64) (odd + more) zs
+    lowering-worked v m zs more worked counted turned =
+        let held : (code : ℕ) → code ≤ k → valueAt xs code ≡ valueAt ys code
+        = below-codes _ xs (turnedOn line xs) on.long turned-long k ys s.parted in
+        rw lowering-first
+        (list-done zs more
+        (rw (m.on, m.levels) at worked)
+        (met-odds here v m xs ys (λ code h. held code (omega (arith, ends))) more counted)
+        (rw (m.on, m.levels) at (turned xs (on.long ∙ sym s.parted.long) (rw (m.on, m.levels) came))))

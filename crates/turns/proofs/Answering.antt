@@ -4,7 +4,7 @@
 use mathlib.Core.Path.{◌≡◌}
 use mathlib.Core.Bool.{true, false}
 use mathlib.Core.List.{List}
-use Prim.Native.Nat.{ℕ, ◌-◌}
+use Prim.Native.Nat.{ℕ, ◌-◌, ◌<◌}
 use lib.IntN.{ℤ}
 use lib.ListN.{length}
 use Rattle.refusals.specs.declared.Refusal.{Refusal}
@@ -14,10 +14,10 @@ use Rattle.states.specs.declared.State.{State}
 use Rattle.states.specs.States.{has, marked, cleared}
 use Rattle.states.specs.declared.Answer.TheVariants.{Done}
 use Rattle.states.specs.After.{after, kept}
-use Rattle.sweeps.specs.Steps.{OnAxis}
+use Rattle.lists.specs.Steps.{OnAxis}
 use Rattle.grids.specs.Turned.{turnedTable, formerTable}
 use Rattle.turns.specs.Turns.{isAccepted, checkTurn, forwardTurn, backTurn}
-use Rattle.turns.proofs.Checking.{MayTurn, place_of}
+use Rattle.turns.proofs.Checking.{MayTurn}
 
 module _ (s : State) (xs : List ℤ) (axis : ℕ) where
   pub forward-unchecked : (r : Refusal) → checkTurn s (length xs) axis ≡ verdict.Refused r → forwardTurn s xs axis ≡ kept xs r
@@ -57,6 +57,6 @@ module _ (s : State) (xs : List ℤ) (axis : ℕ) where
     unfolding backTurn
     back_done h a = rw (e, h, a)
 
--- What the passed checks tell the steps of a turn.
-pub on-axis : {s : State} {xs : List ℤ} {axis : ℕ} → MayTurn s (length xs) axis → OnAxis s.shape (axis - 1) xs
-on-axis m = record { few = m.range.high; low = m.range.top; place = place_of m; long = m.long }
+-- What the passed checks tell the steps of a turn, on any axis of the shape.
+pub on-axis : {s : State} {xs : List ℤ} {axis t : ℕ} → MayTurn s (length xs) axis → t < s.shape.axes → OnAxis s.shape t xs
+on-axis m place = record { few = m.range.high; low = m.range.top; place = place; long = m.long }

@@ -1,7 +1,7 @@
 pub mod Checking
-pub mod Turned
-pub mod Former
-pub mod Answering
 pub mod Undoing
+pub mod Accepting
+pub mod Trying
+pub mod Answering
 pub mod BothWays
 pub mod Lines

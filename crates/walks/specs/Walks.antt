@@ -11,21 +11,25 @@ use Rattle.numbering.specs.Inverse.{levelOf}
 abbrev pub Levels : Type 0
 Levels = ℕ → ℕ
 
--- Of the level lists of d axes with the level sum s, m in order, from the one that r others of that sum come before.
+-- ---- a back turn
+
+-- Of the level lists of d axes with the level sum s, in order: m of them, from the one that r others come before.
 unfoldable pub rising : ℕ → ℕ → ℕ → ℕ → List Levels
 rising d s r zero = []
 rising d s r (suc m) = levelOf d s r ∷ rising d s (suc r) m
 
--- All those of the k sums from s up.
+-- All those of the k sums s, s + 1, …, s + k − 1, the lowest sum first.
 unfoldable pub risingSums : ℕ → ℕ → ℕ → List Levels
 risingSums d s zero = []
 risingSums d s (suc k) = rising d s 0 (vectors d s) ++ risingSums d (suc s) k
 
--- A back turn goes through all level lists of d axes and top level n, from the sum 0 up.
+-- A back turn goes through all level lists of d axes and top level n: those of the sums 0, 1, …, n.
 unfoldable pub walkUp : ℕ → ℕ → List Levels
 walkUp d n = risingSums d 0 (suc n)
 
--- The first r of those with the level sum s, the last of them first.
+-- ---- a forward turn
+
+-- Of the level lists of d axes with the level sum s, the first r, the last of these first.
 unfoldable pub falling : ℕ → ℕ → ℕ → List Levels
 falling d s zero = []
 falling d s (suc r) = levelOf d s r ∷ falling d s r
@@ -35,20 +39,20 @@ unfoldable pub fallingSums : ℕ → ℕ → List Levels
 fallingSums d zero = []
 fallingSums d (suc s) = falling d s (vectors d s) ++ fallingSums d s
 
--- A forward turn goes through them from the sum n down.
+-- A forward turn goes through all level lists of d axes and top level n: those of the sums n, n − 1, …, 0.
 unfoldable pub walkDown : ℕ → ℕ → List Levels
 walkDown d n = fallingSums d (suc n)
 
 -- ---- what the promises of a walk speak of
 
--- Two level lists have the same level on each of d axes.
+-- Two level lists have the same level on axis t, and on each of d axes.
 unfoldable pub sameLevel : Levels → Levels → ℕ → Bool
 sameLevel l m t = eqb (l t) (m t)
 
 unfoldable pub sameLevels : ℕ → Levels → Levels → Bool
 sameLevels d l m = all (sameLevel l m) d
 
--- How often a walk meets the level list l.
+-- How often a walk meets the level list l of d axes.
 unfoldable pub met : ℕ → Levels → List Levels → ℕ
 met d l [] = 0
 met d l (m ∷ ms) = (if sameLevels d l m then 1 else 0) + met d l ms

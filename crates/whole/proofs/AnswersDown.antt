@@ -4,7 +4,7 @@
 use mathlib.Core.Path.{◌≡◌, refl, ap, ap₂, sym, subst, ◌∙◌}
 use mathlib.Core.Bool.{Bool, true, false, true≢false}
 use mathlib.Core.List.{List, map}
-use Prim.Native.Nat.{ℕ, suc, ◌-◌, ◌^◌, ◌≤◌, ◌<◌}
+use Prim.Native.Nat.{ℕ, suc, ◌-◌, ◌≤◌, ◌<◌}
 use native.Mathlib.Omega.{arith}
 use lib.IntN.{ℤ}
 use lib.ListN.{length}
@@ -20,29 +20,26 @@ use Rattle.refusals.specs.Checks.{unless}
 use Rattle.integers.specs.Half.{inLimit, contentAt}
 use Rattle.hierarchy.specs.Turns.{valueAt}
 use Rattle.hierarchy.specs.Sets.{tableOf, everyAxis}
-use Rattle.hierarchy.proofs.Bounds.{in-limit}
-use Rattle.hierarchy.proofs.Closed.{table-closed}
+use Rattle.hierarchy.proofs.Bounds.{table-in-limit}
 use Rattle.hierarchy.proofs.Values.{value-suc, values-at}
 use Rattle.shapes.specs.declared.Shape.{Shape}
 use Rattle.shapes.specs.Shapes.{pointsOf}
 use Rattle.grids.specs.Grids.{neighbour}
+use Rattle.shapes.proofs.Checked.{in-range-passed}
 use Rattle.states.specs.declared.State.{State}
 use Rattle.states.specs.declared.Answer.TheVariants.{Done, Refused}
 use Rattle.states.specs.After.{Left, left, leftBy}
-use Rattle.tables.specs.Tables.{checkTable, adopt, quotient, scaledAt, unload}
+use Rattle.tables.specs.Tables.{checkTable, adopted, adopt, quotient, scaledAt, unload}
 use Rattle.tables.proofs.Answering.{adopt-unchecked, adopt-refused, adopt-done}
 use Rattle.tables.proofs.Checking.{Opens, table-passed}
 use Rattle.runs.proofs.Calls.{stateOf}
-use Rattle.whole.specs.declared.Descent.{Descent}
 use Rattle.whole.specs.Whole.{coefficientsOf, ratesOf, hasRates, coefficientsToRates}
-use Rattle.whole.specs.Steps.{ascent, gone, descent}
+use Rattle.whole.specs.Steps.{InTable, ascent, gone, descent}
 use Rattle.whole.proofs.Inverse.{AreRates, has-rates}
 use Rattle.whole.proofs.Loading.{rates-of-list}
-use Rattle.whole.proofs.Descending.{Going}
-use Rattle.whole.proofs.Ends.{starts, unload-is, divided, unloaded, not-unloaded}
-use Rattle.whole.proofs.AllUp.{undone}
-use Rattle.whole.proofs.AllDown.{Ended, descends}
-use Rattle.whole.proofs.Answers.{never, same-refusal, same-state}
+use Rattle.whole.proofs.Descending.{Going, starts, undone, Ended, descends}
+use Rattle.whole.proofs.Ends.{unload-is, divided, unloaded, not-unloaded}
+use Rattle.whole.proofs.Answers.{never, same-refusal}
 
 -- A call that passed, and one that refused.
 left_passed : (ys zs qs : List ℤ) (t : Bool) → left Passed zs ≡ leftBy ys (unless t Contents) qs → (t ≡ true) × (zs ≡ qs)
@@ -91,8 +88,8 @@ module _ (s : Shape) (xs : List ℤ) where
       at_place p h =
           content-means xs p
           ∙ ap (λ (l : List ℤ). inLimit (valueAt l (suc p))) (sym there.1)
-          ∙ ap inLimit (coefficient-at s rs p h ∙ ap (λ (f : ℕ → ℤ). f (suc p)) (table-closed (neighbour s) s.axes everyAxis (valueAt rs)))
-          ∙ in-limit (neighbour s) everyAxis s.axes (valueAt rs) o.range.high (rates-of-list s rs there.0).small (suc p)
+          ∙ ap inLimit (coefficient-at s rs p h)
+          ∙ table-in-limit (neighbour s) everyAxis s.axes (valueAt rs) o.range.high (rates-of-list s rs there.0).small (suc p)
 
   not-limited : Opens s xs → all (contentAt xs) (length xs) ≡ false → hasRates s xs ≡ false
   not-limited o e = true-or-false (hasRates s xs) (λ yes. absurd (true≢false (sym (limited o yes) ∙ e))) (λ no-rates. no-rates)
@@ -108,7 +105,7 @@ module _ (s : Shape) (xs : List ℤ) where
       go : (v : Verdict) → checkTable s xs ≡ v → left (verdict.Refused r) xs ≡ coefficientsToRates s xs
       go verdict.Passed passed =
           true-or-false (all (contentAt xs) (length xs))
-          (λ yes. never r (stateOf s (2 ^ s.axes - 1)) (e ∙ adopt-done s xs passed yes))
+          (λ yes. never r (adopted s) (e ∙ adopt-done s xs passed yes))
           (λ past.
           rw (same-refusal r Contents (e ∙ adopt-refused s xs passed past))
           (sym (refused-rates passed (not-limited (table-passed s xs passed) past))))
@@ -116,62 +113,69 @@ module _ (s : Shape) (xs : List ℤ) where
           rw (same-refusal r w (e ∙ adopt-unchecked s xs w refused)) (sym (unchecked-rates w refused))
 
   -- What it accepts.
-  adopt-accepts : (st : State) → Done st ≡ adopt s xs → (checkTable s xs ≡ Passed) × (st ≡ stateOf s (2 ^ s.axes - 1))
+  adopt-accepts : (st : State) → Done st ≡ adopt s xs → (checkTable s xs ≡ Passed) × (all (contentAt xs) (length xs) ≡ true)
   adopt-accepts st e = go (checkTable s xs) refl
     where
-      go : (v : Verdict) → checkTable s xs ≡ v → (checkTable s xs ≡ Passed) × (st ≡ stateOf s (2 ^ s.axes - 1))
+      go : (v : Verdict) → checkTable s xs ≡ v → (checkTable s xs ≡ Passed) × (all (contentAt xs) (length xs) ≡ true)
       go verdict.Passed passed =
           true-or-false (all (contentAt xs) (length xs))
-          (λ yes. (passed, same-state st (stateOf s (2 ^ s.axes - 1)) (e ∙ adopt-done s xs passed yes)))
+          (λ inside. (passed, inside))
           (λ past. never Contents st (sym (e ∙ adopt-refused s xs passed past)))
       go (verdict.Refused w) refused = never w st (sym (e ∙ adopt-unchecked s xs w refused))
 
-  -- After the turns down from an adopted table.
-  module _ (st : State) (adopted : Done st ≡ adopt s xs) (at : Descent) (ys : List ℤ) (down : gone at ys ≡ descent st.shape.axes st xs) where
+  module _ (st : State) (done : Done st ≡ adopt s xs) where
     passed : checkTable s xs ≡ Passed
-    passed = (adopt-accepts st adopted).0
+    passed = (adopt-accepts st done).0
 
     opened : Opens s xs
     opened = table-passed s xs passed
 
-    ended : Ended s opened.range xs opened.long (gone at ys)
-    ended =
-        rw (down ∙ ap (λ (x : State). descent x.shape.axes x xs) (adopt-accepts st adopted).1)
-        (descends s opened.range xs opened.long s.axes (2 ^ s.axes - 1) xs (omega arith) (starts s opened.range xs opened.long))
+    pub adopt-opens : InTable s xs
+    adopt-opens =
+        record { shape = in-range-passed s opened.range; long = opened.long; contents = (adopt-accepts st done).1 }
 
-    restored : (zs : List ℤ) → zs ≡ ascent (at.state.shape.axes - at.forward) at.forward at.state ys → zs ≡ xs
-    restored zs up =
-        up
-        ∙ ap (λ (x : State). ascent (x.shape.axes - at.forward) at.forward x ys) ended.state
-        ∙ undone s opened.range xs opened.long at.forward ended.byte ys ended.going.undo
+    -- After the turns down from it: k axes are still forward.
+    module _ (k : ℕ) (ys : List ℤ) (down : gone k ys ≡ descent s.axes s xs) where
+      ended : Ended s xs opened.long opened.range (gone k ys)
+      ended = rw down (descends s xs opened.long opened.range s.axes xs (omega arith) (starts s xs opened.long) adopt-opens)
 
-    -- A turn was refused.
-    pub turn-refuses : (zs : List ℤ) → 0 < at.forward → zs ≡ ascent (at.state.shape.axes - at.forward) at.forward at.state ys →
-        left (verdict.Refused Contents) zs ≡ coefficientsToRates s xs
-    turn-refuses zs more up = ap (left (verdict.Refused Contents)) (restored zs up) ∙ sym (refused-rates passed (ended.stops more))
+      pub descended : InTable s ys
+      descended = ended.inside
 
-    -- None was.
-    module _ (none : at.forward ≤ 0) where
-      zero : at.forward ≡ 0
-      zero = omega arith
+      restored : (zs : List ℤ) → zs ≡ ascent (s.axes - k) k s ys → zs ≡ xs
+      restored zs up = up ∙ undone s xs opened.long k ys ended.few ended.going
 
-      all_back : Going s opened.range xs opened.long 0 ended.byte ys
-      all_back = subst (λ (a : ℕ). Going s opened.range xs opened.long a ended.byte ys) zero ended.going
+      -- A turn was refused.
+      pub turn-refuses : (zs : List ℤ) → 0 < k → zs ≡ ascent (s.axes - k) k s ys → left (verdict.Refused Contents) zs ≡ coefficientsToRates s xs
+      turn-refuses zs more up = ap (left (verdict.Refused Contents)) (restored zs up) ∙ sym (refused-rates passed (ended.stops more))
 
-      unload-says : unload at.state ys ≡ leftBy ys (unless (all (scaledAt s.axes ys) (length ys)) Contents) (map (quotient s.axes) ys)
-      unload-says = rw ended.state (unload-is s opened.range xs opened.long ended.byte ys all_back)
+      -- None was.
+      module _ (none : k ≤ 0) where
+        zero : k ≡ 0
+        zero = omega arith
 
-      pub unload-passes : (zs : List ℤ) → left Passed zs ≡ unload at.state ys → left Passed zs ≡ coefficientsToRates s xs
-      unload-passes zs e =
-          let d = left_passed ys zs (map (quotient s.axes) ys) (all (scaledAt s.axes ys) (length ys)) (e ∙ unload-says) in
-          ap (left Passed) (d.1 ∙ divided s opened.range xs opened.long ended.byte ys all_back)
-          ∙ sym (passed-rates passed (unloaded s opened.range xs opened.long ended.byte ys all_back d.0))
+        all_back : Going s xs opened.long 0 ys
+        all_back = subst (λ (a : ℕ). Going s xs opened.long a ys) zero ended.going
 
-      pub unload-refuses : (r : Refusal) (zs ws : List ℤ) → left (verdict.Refused r) zs ≡ unload at.state ys →
-          ws ≡ ascent (at.state.shape.axes - 0) 0 at.state zs → left (verdict.Refused Contents) ws ≡ coefficientsToRates s xs
-      unload-refuses r zs ws e up =
-          let d = left-refused ys zs (map (quotient s.axes) ys) (all (scaledAt s.axes ys) (length ys)) r (e ∙ unload-says) in
-          let same : ws ≡ ascent (at.state.shape.axes - at.forward) at.forward at.state ys =
-          up ∙ ap₂ (λ (k : ℕ) (l : List ℤ). ascent (at.state.shape.axes - k) k at.state l) (sym zero) d.1 in
-          ap (left (verdict.Refused Contents)) (restored ws same)
-          ∙ sym (refused-rates passed (not-unloaded s opened.range xs opened.long ended.byte ys all_back d.0))
+        unload-says : unload (stateOf s 0) ys ≡ leftBy ys (unless (all (scaledAt s.axes ys) (length ys)) Contents) (map (quotient s.axes) ys)
+        unload-says = unload-is s opened.range xs opened.long ys all_back
+
+        pub unload-passes : (zs : List ℤ) → left Passed zs ≡ unload (stateOf s 0) ys → left Passed zs ≡ coefficientsToRates s xs
+        unload-passes zs e =
+            let d = left_passed ys zs (map (quotient s.axes) ys) (all (scaledAt s.axes ys) (length ys)) (e ∙ unload-says) in
+            ap (left Passed) (d.1 ∙ divided s opened.range xs opened.long ys all_back)
+            ∙ sym (passed-rates passed (unloaded s opened.range xs opened.long ys all_back d.0))
+
+        -- Where unload refuses, it leaves the table, and the turns up lead back from there.
+        module _ (r : Refusal) (zs : List ℤ) (e : left (verdict.Refused r) zs ≡ unload (stateOf s 0) ys) where
+          kept-there : (all (scaledAt s.axes ys) (length ys) ≡ false) × (zs ≡ ys)
+          kept-there = left-refused ys zs (map (quotient s.axes) ys) (all (scaledAt s.axes ys) (length ys)) r (e ∙ unload-says)
+
+          pub unload-keeps : InTable s zs
+          unload-keeps = rw kept-there.1 ended.inside
+
+          pub unload-refuses : (ws : List ℤ) → ws ≡ ascent (s.axes - 0) 0 s zs → left (verdict.Refused Contents) ws ≡ coefficientsToRates s xs
+          unload-refuses ws up =
+              let same : ws ≡ ascent (s.axes - k) k s ys = up ∙ ap₂ (λ (a : ℕ) (l : List ℤ). ascent (s.axes - a) a s l) (sym zero) kept-there.1 in
+              ap (left (verdict.Refused Contents)) (restored ws same)
+              ∙ sym (refused-rates passed (not-unloaded s opened.range xs opened.long ys all_back kept-there.0))

@@ -1,156 +1,94 @@
--- Rates to coefficients, axis by axis: after k turns the first k axes are forward, and the table is the table of these axes. No turn is refused, as the model
--- refuses none of them.
+-- Forward turns, one after another from an axis up. Of a table that is the sweep of the axes before, they leave the sweep of all axes up to where they end, since
+-- a sweep goes smallest axis first. So a loaded table becomes the coefficients. Each turn at most doubles the values, so from the content limit there is room
+-- for eight.
 -- Assumes nothing.
 use mathlib.Core.Path.{◌≡◌, refl, ap, sym, ◌∙◌}
-use mathlib.Core.Bool.{true, false}
-use mathlib.Core.List.{List}
-use Prim.Native.Nat.{ℕ, suc, ◌-◌, ◌≤◌, ◌<◌}
+use mathlib.Core.List.{List, map}
+use Prim.Native.Nat.{ℕ, zero, suc, ◌+◌, ◌-◌, ◌^◌, ◌≤◌, ◌<◌}
+use native.Mathlib.Nat.{two-pow-succ}
+use native.Mathlib.Numerals.{add-one}
 use native.Mathlib.Omega.{arith}
-use lib.Dec.{ltb}
 use lib.IntN.{ℤ}
-use borrow.Author.Tests.{lt-ltb, le-ltb, le-leb}
-use Rattle.naturals.proofs.Cases.{eq-or-not, le-or-lt}
-use Rattle.refusals.specs.declared.Refusal.{Refusal}
-use Rattle.refusals.specs.declared.Verdict.TheVariants as verdict
-use Rattle.hierarchy.specs.declared.Turn.TheVariants.{Forward, Back}
-use Rattle.hierarchy.specs.Turns.{valuesOf}
-use Rattle.hierarchy.specs.Sets.{tableOf, noAxis, everyAxis}
-use Rattle.hierarchy.specs.Work.{put}
-use Rattle.hierarchy.proofs.Closed.{table-cong}
-use Rattle.hierarchy.proofs.Work.{put_same, put_other}
+use lib.ListN.{length, length-map}
+use lib.Pow.{pow_mono}
+use Rattle.hierarchy.specs.Turns.{valueAt, valuesOf, forward}
+use Rattle.hierarchy.specs.Sets.{scaled, swept, tableOf, everyAxis}
+use Rattle.hierarchy.proofs.Values.{values-of-value}
 use Rattle.shapes.specs.declared.Shape.{Shape}
 use Rattle.shapes.specs.Shapes.{pointsOf}
 use Rattle.shapes.proofs.Checked.{InRange}
 use Rattle.grids.specs.Grids.{neighbour}
-use Rattle.states.specs.declared.State.{State}
-use Rattle.states.specs.declared.Answer.{Answer}
-use Rattle.states.specs.declared.Answer.TheVariants.{Done, Refused}
-use Rattle.states.specs.After.{After, after}
-use Rattle.turns.specs.Turns.{forwardTurn, backTurn}
-use Rattle.runs.specs.Model.{Axes, modelAnswer, modelSet}
-use Rattle.runs.specs.Runs.{verdictOf, handedOn}
-use Rattle.runs.proofs.Calls.{stateOf, Rates, Agrees, one-call}
+use Rattle.grids.specs.Turned.{turnedTable}
+use Rattle.tables.specs.Tables.{times}
+use Rattle.lists.specs.Steps.{OnAxis, Within}
+use Rattle.sweeps.proofs.Room.{turned-within}
+use Rattle.turns.proofs.Accepting.{contents-within}
+use Rattle.turns.proofs.Undoing.{turned-holds, turned-length}
+use Rattle.whole.specs.Whole.{coefficientsOf}
+use Rattle.whole.specs.Steps.{InTable, ascent}
+use Rattle.whole.proofs.Loading.{loaded-holds}
 
--- The first k axes.
-unfoldable pub upTo : ℕ → Axes
-upTo k t = ltb t k
+module _ (s : Shape) where
+  ascent-none : (k : ℕ) (xs : List ℤ) → ascent 0 k s xs ≡ xs
+  unfolding ascent
+  ascent-none k xs = refl
 
-pub up_in : (k t : ℕ) → t < k → upTo k t ≡ true
-unfolding upTo
-up_in k t h = lt-ltb t k h
+  ascent-next : (m k : ℕ) (xs : List ℤ) → ascent (suc m) k s xs ≡ ascent m (suc k) s (turnedTable s k xs)
+  unfolding ascent
+  ascent-next m k xs = refl
 
-pub up-out : (k t : ℕ) → k ≤ t → upTo k t ≡ false
-unfolding upTo
-up-out k t h = le-ltb t k h
+  -- As the code counts: below the number of axes one turn more, and then none.
+  pub up-more : (k : ℕ) (xs : List ℤ) → k < s.axes → ascent (s.axes - (k + 1)) (k + 1) s (turnedTable s k xs) ≡ ascent (s.axes - k) k s xs
+  up-more k xs h =
+      let more : s.axes - k ≡ suc (s.axes - suc k) = omega arith in
+      rw (add-one k, more) (sym (ascent-next (s.axes - suc k) k xs))
 
-up_more : (k t : ℕ) → put (upTo k) k true t ≡ upTo (suc k) t
-up_more k t =
-    eq-or-not t k
-    (λ e. rw e (put_same (upTo k) k true ∙ sym (up_in (suc k) k (omega arith))))
-    (λ ne.
-    put_other (upTo k) k true t ne
-    ∙ le-or-lt k t
-    (λ le. up-out k t le ∙ sym (up-out (suc k) t (omega arith)))
-    (λ lt. up_in k t lt ∙ sym (up_in (suc k) t (omega arith))))
+  pub up-ends : (k : ℕ) (xs : List ℤ) → s.axes ≤ k → xs ≡ ascent (s.axes - k) k s xs
+  up-ends k xs h =
+      let none : s.axes - k ≡ 0 = omega arith in
+      rw none (sym (ascent-none k xs))
 
-up-less : (k t : ℕ) → put (upTo (suc k)) k false t ≡ upTo k t
-up-less k t =
-    eq-or-not t k
-    (λ e. rw e (put_same (upTo (suc k)) k false ∙ sym (up-out k k (omega arith))))
-    (λ ne.
-    put_other (upTo (suc k)) k false t ne
-    ∙ le-or-lt k t
-    (λ le. up-out (suc k) t (omega arith) ∙ sym (up-out k t le))
-    (λ lt. up_in (suc k) t (omega arith) ∙ sym (up_in k t lt)))
+  swept-next : (k : ℕ) (f : ℕ → ℤ) → swept (neighbour s) everyAxis (suc k) f ≡ forward (neighbour s) k (swept (neighbour s) everyAxis k f)
+  unfolding swept
+  swept-next k f = refl
 
-module _ (s : Shape) (range : InRange s) (r : ℕ → ℤ) (rates : Rates (pointsOf s) r) where
-  -- A table that agrees with a set agrees with every equal set.
-  pub agrees-as : (set other : Axes) (byte : ℕ) (xs : List ℤ) → ((t : ℕ) → set t ≡ other t) → Agrees s range r rates set byte xs → Agrees s range r rates other byte xs
-  agrees-as set other byte xs same a =
-      record {
-        few = a.few;
-        bits = λ t. a.bits t ∙ same t;
-        table = a.table ∙ ap (valuesOf (pointsOf s)) (table-cong (neighbour s) s.axes set other r (λ t h. same t));
-      }
+  pub ascends : (m k : ℕ) (f : ℕ → ℤ) (xs : List ℤ) → length xs ≡ pointsOf s → valueAt xs ≡ swept (neighbour s) everyAxis k f →
+      ascent m k s xs ≡ valuesOf (pointsOf s) (swept (neighbour s) everyAxis (k + m) f)
+  ascends zero k f xs len e =
+      let end : k ≡ k + 0 = omega arith in
+      ascent-none k xs
+      ∙ sym (values-of-value (pointsOf s) xs len)
+      ∙ ap (valuesOf (pointsOf s)) (e ∙ ap (λ (n : ℕ). swept (neighbour s) everyAxis n f) end)
+  ascends (suc m) k f xs len e =
+      let end : suc k + m ≡ k + suc m = omega arith in
+      let turned : valueAt (turnedTable s k xs) ≡ swept (neighbour s) everyAxis (suc k) f =
+      turned-holds s k xs len ∙ ap (forward (neighbour s) k) e ∙ sym (swept-next k f) in
+      ascent-next m k xs
+      ∙ ascends m (suc k) f (turnedTable s k xs) (turned-length s k xs) turned
+      ∙ ap (λ (n : ℕ). valuesOf (pointsOf s) (swept (neighbour s) everyAxis n f)) end
 
-  refused-passed : (w : Refusal) → verdict.Refused w ≡ verdict.Passed → ⊥
-  refused-passed w f = let z : ◌≡◌ {A = ℕ} 0 1 = cc in omega arith
+  -- A loaded table holds each rate times 2^d, the sweep of no axis.
+  pub climbed : (xs : List ℤ) → length xs ≡ pointsOf s → ascent (s.axes - 0) 0 s (map (times s.axes) xs) ≡ coefficientsOf s xs
+  unfolding coefficientsOf tableOf swept
+  climbed xs len =
+      let all : 0 + (s.axes - 0) ≡ s.axes = omega arith in
+      ascends (s.axes - 0) 0 (scaled s.axes (valueAt xs)) (map (times s.axes) xs) (length-map xs (times s.axes) ∙ len) (loaded-holds s xs)
+      ∙ ap (λ (n : ℕ). valuesOf (pointsOf s) (swept (neighbour s) everyAxis n (scaled s.axes (valueAt xs)))) all
 
-  -- What a call leaves that was not refused.
-  done-after : (a : After) (given next : State) → verdictOf a.answer ≡ verdict.Passed → handedOn given a.answer ≡ next → a ≡ after (Done next) a.table
-  done-after a given next v h = go a.answer refl v h
-    where
-      go : (x : Answer) → a.answer ≡ x → verdictOf x ≡ verdict.Passed → handedOn given x ≡ next → a ≡ after (Done next) a.table
-      go (Done y) e v h = ap (λ (x : Answer). after x a.table) (e ∙ ap Done h)
-      go (Refused w) e v h = absurd (refused-passed w v)
+-- ---- room for a turn
 
-  -- One turn up.
-  pub record Up (k byte : ℕ) (xs : List ℤ) : Type 0 where
-    pub next : ℕ
-    pub goes : forwardTurn (stateOf s byte) xs (suc k) ≡ after (Done (stateOf s next)) (forwardTurn (stateOf s byte) xs (suc k)).table
-    pub agrees : Agrees s range r rates (upTo (suc k)) next (forwardTurn (stateOf s byte) xs (suc k)).table
+module _ (s : Shape) (k : ℕ) (xs : List ℤ) where
+  pub room-first : InTable s xs → Within (2 ^ (47 + k)) xs
+  room-first i code = omega (arith, contents-within xs i.contents code, pow_mono {i = 47} {j = 47 + k} (omega arith))
 
-  up-passes : (k : ℕ) → k < s.axes → modelAnswer s.axes (upTo k) (Forward (suc k)) ≡ verdict.Passed
-  unfolding modelAnswer
-  up-passes k h =
-      let e : suc k - 1 ≡ k = omega arith in
-      rw (le-leb 1 (suc k) (omega arith), le-leb (suc k) s.axes h, e, up-out k k (omega arith))
+  pub room-next : length xs ≡ pointsOf s → Within (2 ^ (47 + k)) xs → Within (2 ^ (47 + (k + 1))) (turnedTable s k xs)
+  room-next len w code =
+      let next : 47 + (k + 1) ≡ suc (47 + k) = omega arith in
+      omega (arith, turned-within s k xs (2 ^ (47 + k)) len w code, ap (λ (n : ℕ). 2 ^ n) next, two-pow-succ (47 + k))
 
-  up-set : (k : ℕ) → k < s.axes → (t : ℕ) → modelSet s.axes (upTo k) (Forward (suc k)) t ≡ upTo (suc k) t
-  unfolding modelSet
-  up-set k h t =
-      let e : suc k - 1 ≡ k = omega arith in
-      rw (up-passes k h, e) (up_more k t)
-
-  pub climb : (k byte : ℕ) (xs : List ℤ) → k < s.axes → Agrees s range r rates (upTo k) byte xs → Up k byte xs
-  climb k byte xs h a =
-      let one = one-call s range r rates (Forward (suc k)) (upTo k) byte xs a in
-      record {
-        next = one.next;
-        goes =
-            done-after (forwardTurn (stateOf s byte) xs (suc k)) (stateOf s byte) (stateOf s one.next)
-            (one.says ∙ up-passes k h) one.hands;
-        agrees =
-            agrees-as (modelSet s.axes (upTo k) (Forward (suc k))) (upTo (suc k)) one.next _ (up-set k h) one.agrees;
-      }
-
-  -- At the start and at the end.
-  pub climb-starts : (byte : ℕ) (xs : List ℤ) → Agrees s range r rates noAxis byte xs → Agrees s range r rates (upTo 0) byte xs
-  climb-starts byte xs a = agrees-as noAxis (upTo 0) byte xs (λ t. sym (up-out 0 t (omega arith))) a
-
-  pub climb-ends : (byte : ℕ) (xs : List ℤ) → Agrees s range r rates (upTo s.axes) byte xs →
-      xs ≡ valuesOf (pointsOf s) (tableOf (neighbour s) s.axes everyAxis r)
-  climb-ends byte xs a =
-      a.table
-      ∙ ap (valuesOf (pointsOf s))
-      (table-cong (neighbour s) s.axes (upTo s.axes) everyAxis r (λ t h. up_in s.axes t h))
-
-  -- One turn down, of a table that agrees: it is not refused.
-  down-passes : (k : ℕ) → k < s.axes → modelAnswer s.axes (upTo (suc k)) (Back (suc k)) ≡ verdict.Passed
-  unfolding modelAnswer
-  down-passes k h =
-      let e : suc k - 1 ≡ k = omega arith in
-      rw (le-leb 1 (suc k) (omega arith), le-leb (suc k) s.axes h, e, up_in (suc k) k (omega arith))
-
-  down-set : (k : ℕ) → k < s.axes → (t : ℕ) → modelSet s.axes (upTo (suc k)) (Back (suc k)) t ≡ upTo k t
-  unfolding modelSet
-  down-set k h t =
-      let e : suc k - 1 ≡ k = omega arith in
-      rw (down-passes k h, e) (up-less k t)
-
-  pub record Down (k byte : ℕ) (xs : List ℤ) : Type 0 where
-    pub next : ℕ
-    pub goes : backTurn (stateOf s byte) xs (suc k) ≡ after (Done (stateOf s next)) (backTurn (stateOf s byte) xs (suc k)).table
-    pub agrees : Agrees s range r rates (upTo k) next (backTurn (stateOf s byte) xs (suc k)).table
-
-  pub descend : (k byte : ℕ) (xs : List ℤ) → k < s.axes → Agrees s range r rates (upTo (suc k)) byte xs → Down k byte xs
-  descend k byte xs h a =
-      let one = one-call s range r rates (Back (suc k)) (upTo (suc k)) byte xs a in
-      record {
-        next = one.next;
-        goes =
-            done-after (backTurn (stateOf s byte) xs (suc k)) (stateOf s byte) (stateOf s one.next)
-            (one.says ∙ down-passes k h) one.hands;
-        agrees =
-            agrees-as (modelSet s.axes (upTo (suc k)) (Back (suc k))) (upTo k) one.next _ (down-set k h) one.agrees;
-      }
+  -- There is room on each of eight axes.
+  pub room-there : InRange s → k < s.axes → length xs ≡ pointsOf s → Within (2 ^ (47 + k)) xs → OnAxis s k xs × Within (2 ^ 59) xs
+  room-there range h len w = (
+    record { few = range.high; low = range.top; place = h; long = len },
+    λ code. omega (arith, w code, pow_mono {i = 47 + k} {j = 59} (omega (arith, range.high))),
+  )

@@ -1,120 +1,160 @@
--- Coefficients to rates, axis by axis from the last: what the axes turned back so far have left, how the forward turns of these axes lead back, and that no turn is
--- refused where the table has rates, since the model refuses none then.
+-- Back turns, one after another from the last axis down, until one is refused. What the axes turned back have left, with the axes still to go turned back too,
+-- is the table at the start turned back on all. So the forward turns of the axes turned back lead to the table at the start again. And where that one has
+-- rates, what they have left is the sweep of the axes still forward, whose forward turns are accepted: no back turn is refused then.
 -- Assumes nothing.
 use mathlib.Core.Path.{◌≡◌, refl, ap, sym, ◌∙◌}
-use mathlib.Core.Bool.{true, false}
+use mathlib.Core.Bool.{true, false, true≢false}
 use mathlib.Core.List.{List}
-use Prim.Native.Nat.{ℕ, suc, ◌-◌, ◌^◌, ◌<◌}
+use Prim.Native.Nat.{ℕ, zero, suc, ◌+◌, ◌-◌, ◌≤◌, ◌<◌}
 use native.Mathlib.Omega.{arith}
 use lib.IntN.{ℤ}
 use lib.ListN.{length}
-use Rattle.naturals.proofs.Cases.{eq-or-not, le-or-lt, true-or-false}
-use Rattle.refusals.specs.declared.Refusal.{Refusal}
-use Rattle.hierarchy.specs.Turns.{valueAt, backward}
+use Rattle.naturals.specs.Test.{all}
+use Rattle.naturals.proofs.Cases.{true-or-false}
+use Rattle.integers.specs.Half.{contentAt}
+use Rattle.hierarchy.specs.Turns.{valueAt, valuesOf, accepted, backward}
+use Rattle.hierarchy.specs.Sets.{scaled, swept, everyAxis}
+use Rattle.hierarchy.proofs.Values.{value-zero, values-of-value}
 use Rattle.shapes.specs.declared.Shape.{Shape}
 use Rattle.shapes.specs.Shapes.{pointsOf}
 use Rattle.shapes.proofs.Checked.{InRange}
 use Rattle.grids.specs.Grids.{neighbour, height}
-use Rattle.states.specs.declared.State.{State}
-use Rattle.states.specs.declared.Answer.TheVariants.{Done, Refused}
-use Rattle.states.specs.After.{After, after, kept}
-use Rattle.states.specs.States.{has}
-use Rattle.states.proofs.Bits.{has-cleared-same, has-cleared-other, cleared-small}
 use Rattle.grids.specs.Turned.{formerTable}
-use Rattle.turns.specs.Turns.{forwardTurn, backTurn}
+use Rattle.turns.specs.Turns.{isAccepted}
+use Rattle.turns.proofs.Accepting.{before-refuses}
 use Rattle.turns.proofs.Undoing.{former-holds, former-length}
-use Rattle.turns.proofs.BothWays.{went_back, back-then-forward}
-use Rattle.runs.proofs.Calls.{stateOf, Agrees}
 use Rattle.whole.specs.Whole.{backAll, ratesOf, hasRates}
-use Rattle.whole.proofs.Inverse.{AreRates, has-rates}
+use Rattle.whole.specs.Steps.{InTable, ascent, Gone, gone, descent}
+use Rattle.whole.proofs.AllAxes.{swept-of-back}
+use Rattle.whole.proofs.FirstAxes.{first-accepted}
+use Rattle.whole.proofs.Inverse.{AreRates, back-of-list, has-rates}
 use Rattle.whole.proofs.Loading.{rates-of-list}
-use Rattle.whole.proofs.Climbing.{upTo, up_in, up-out, descend}
+use Rattle.whole.proofs.Climbing.{ascends}
 
-module _ (s : Shape) (range : InRange s) (xs₀ : List ℤ) (len : length xs₀ ≡ pointsOf s) where
-  -- The forward turns of the axes from place a up lead from a state and a table to the ones at the start.
-  pub data Undo : ℕ → ℕ → List ℤ → Type 0 where
-    top : (byte : ℕ) → Undo s.axes byte xs₀
-    up : (a byte next : ℕ) (xs ys : List ℤ) → forwardTurn (stateOf s byte) xs (suc a) ≡ after (Done (stateOf s next)) ys → Undo (suc a) next ys → Undo a byte xs
+module _ (s : Shape) where
+  back-next : (a : ℕ) (f : ℕ → ℤ) → backAll s (suc a) f ≡ backAll s a (backward (neighbour s) (height s) a f)
+  unfolding backAll
+  back-next a f = refl
 
-  -- Where the table has rates, they are accepted.
-  pub rates-there : hasRates s xs₀ ≡ true → AreRates s (ratesOf s xs₀)
-  rates-there e = (has-rates s xs₀ len e).0
+  descent-none : (xs : List ℤ) → descent 0 s xs ≡ gone 0 xs
+  unfolding descent
+  descent-none xs = refl
 
-  -- The first a axes are still forward.
-  pub record Going (a byte : ℕ) (xs : List ℤ) : Type 0 where
-    pub few : byte < 2 ^ s.axes
-    pub bits : (t : ℕ) → has byte t ≡ upTo a t
+  module _ (a : ℕ) (xs : List ℤ) where
+    descent-done : isAccepted s a (formerTable s a xs) ≡ true → descent (suc a) s xs ≡ descent a s (formerTable s a xs)
+    unfolding descent
+    descent-done e = rw e
+
+    descent-refused : isAccepted s a (formerTable s a xs) ≡ false → descent (suc a) s xs ≡ gone (suc a) xs
+    unfolding descent
+    descent-refused e = rw e
+
+  -- What an accepted back turn leaves is within the limit, as the forward turn from there asks just this.
+  pub former-inside : (a : ℕ) (xs : List ℤ) → InTable s xs → isAccepted s a (formerTable s a xs) ≡ true → InTable s (formerTable s a xs)
+  former-inside a xs i e =
+      let ys = formerTable s a xs in
+      let long = former-length s a xs in
+      record {
+        shape = i.shape;
+        long = long;
+        contents =
+            true-or-false (all (contentAt ys) (length ys))
+            (λ inside. inside)
+            (λ past. absurd (true≢false (sym e ∙ before-refuses s a ys long past)));
+      }
+
+  -- As the code counts: from an axis down.
+  pub down-done : (k : ℕ) (xs : List ℤ) → 0 < k → isAccepted s (k - 1) (formerTable s (k - 1) xs) ≡ true →
+      descent (k - 1) s (formerTable s (k - 1) xs) ≡ descent k s xs
+  down-done zero xs h e = absurd (omega arith)
+  down-done (suc k) xs h e =
+      let same : suc k - 1 ≡ k = omega arith in
+      rw same (sym (descent-done k xs (rw same at e)))
+
+  pub down-refused : (k : ℕ) (xs : List ℤ) → 0 < k → isAccepted s (k - 1) (formerTable s (k - 1) xs) ≡ false → gone k xs ≡ descent k s xs
+  down-refused zero xs h e = absurd (omega arith)
+  down-refused (suc k) xs h e =
+      let same : suc k - 1 ≡ k = omega arith in
+      sym (descent-refused k xs (rw same at e))
+
+  pub down-ends : (k : ℕ) (xs : List ℤ) → k ≤ 0 → gone 0 xs ≡ descent k s xs
+  down-ends k xs h =
+      let none : k ≡ 0 = omega arith in
+      rw none (sym (descent-none xs))
+
+module _ (s : Shape) (xs₀ : List ℤ) (len : length xs₀ ≡ pointsOf s) where
+  -- The first a axes are still forward: with these turned back too, the table is the one at the start turned back on all.
+  pub record Going (a : ℕ) (xs : List ℤ) : Type 0 where
     pub long : length xs ≡ pointsOf s
     pub rest : backAll s a (valueAt xs) ≡ backAll s s.axes (valueAt xs₀)
-    pub undo : Undo a byte xs
-    pub model : (e : hasRates s xs₀ ≡ true) → Agrees s range (valueAt (ratesOf s xs₀)) (rates-of-list s (ratesOf s xs₀) (rates-there e)) (upTo a) byte xs
 
-  back-suc : (a : ℕ) (f : ℕ → ℤ) → backAll s (suc a) f ≡ backAll s a (backward (neighbour s) (height s) a f)
-  unfolding backAll
-  back-suc a f = refl
+  pub starts : Going s.axes xs₀
+  starts = record { long = len; rest = refl }
 
-  bits-less : (a byte : ℕ) → ((t : ℕ) → has byte t ≡ upTo (suc a) t) → (t : ℕ) → has (byte - 2 ^ a) t ≡ upTo a t
-  bits-less a byte bits t =
-      let there : has byte a ≡ true = bits a ∙ up_in (suc a) a (omega arith) in
-      eq-or-not t a
-      (λ e. rw e (has-cleared-same byte a there ∙ sym (up-out a a (omega arith))))
-      (λ ne.
-      has-cleared-other byte a t there ne
-      ∙ bits t
-      ∙ le-or-lt a t
-      (λ le. up-out (suc a) t (omega arith) ∙ sym (up-out a t le))
-      (λ lt. up_in (suc a) t (omega arith) ∙ sym (up_in a t lt)))
+  -- One axis fewer.
+  one-down : (a : ℕ) (xs : List ℤ) → Going (suc a) xs → Going a (formerTable s a xs)
+  one-down a xs g =
+      record {
+        long = former-length s a xs;
+        rest = ap (backAll s a) (former-holds s a xs g.long) ∙ sym (back-next s a (valueAt xs)) ∙ g.rest;
+      }
 
-  refused-done : (why : Refusal) (next : State) → Refused why ≡ Done next → ⊥
-  refused-done why next f = let z : ◌≡◌ {A = ℕ} 0 1 = cc in omega arith
+  -- So it is that table swept on the first a axes.
+  still-swept : (a : ℕ) (xs : List ℤ) → Going a xs → valueAt xs ≡ swept (neighbour s) everyAxis a (backAll s s.axes (valueAt xs₀))
+  still-swept a xs g =
+      sym (swept-of-back s a (valueAt xs) (value-zero xs)) ∙ ap (swept (neighbour s) everyAxis a) g.rest
 
-  same_answer : (u : After) (x y : State) (ys zs : List ℤ) → u ≡ after (Done x) ys → u ≡ after (Done y) zs → (x ≡ y) × (ys ≡ zs)
-  same_answer u x y ys zs e f = (done-state (ap (λ (a : After). a.answer) (sym e ∙ f)), ap (λ (a : After). a.table) (sym e ∙ f))
-    where
-      done-state : Done x ≡ Done y → x ≡ y
-      done-state g = cc
+  -- The forward turns of the other axes lead back to the table at the start.
+  pub undone : (a : ℕ) (xs : List ℤ) → a ≤ s.axes → Going a xs → ascent (s.axes - a) a s xs ≡ xs₀
+  undone a xs h g =
+      let all : a + (s.axes - a) ≡ s.axes = omega arith in
+      let back = backAll s s.axes (valueAt xs₀) in
+      ascends s (s.axes - a) a back xs g.long (still-swept a xs g)
+      ∙ ap (λ (n : ℕ). valuesOf (pointsOf s) (swept (neighbour s) everyAxis n back)) all
+      ∙ ap (valuesOf (pointsOf s)) (swept-of-back s s.axes (valueAt xs₀) (value-zero xs₀))
+      ∙ values-of-value (pointsOf s) xs₀ len
 
-  agrees_at : (has-them : hasRates s xs₀ ≡ true) (a byte other : ℕ) (xs ys : List ℤ) → byte ≡ other → xs ≡ ys →
-      Agrees s range (valueAt (ratesOf s xs₀)) (rates-of-list s (ratesOf s xs₀) (rates-there has-them)) (upTo a) byte xs →
-      Agrees s range (valueAt (ratesOf s xs₀)) (rates-of-list s (ratesOf s xs₀) (rates-there has-them)) (upTo a) other ys
-  agrees_at has-them a byte other xs ys eb ex g = rw (← eb, ← ex) g
+  module _ (range : InRange s) where
+    -- Where the table has rates, they are accepted, and what is left is theirs.
+    pub rates-there : hasRates s xs₀ ≡ true → AreRates s (ratesOf s xs₀)
+    rates-there e = (has-rates s xs₀ len e).0
 
-  -- A back turn that was carried out: one axis fewer is forward.
-  pub one_down : (a byte : ℕ) (xs : List ℤ) (next : State) (ys : List ℤ) → a < s.axes → Going (suc a) byte xs →
-      backTurn (stateOf s byte) xs (suc a) ≡ after (Done next) ys → (next ≡ stateOf s (byte - 2 ^ a)) × Going a (byte - 2 ^ a) ys
-  one_down a byte xs next ys h g e =
-      let place : suc a - 1 ≡ a = omega arith in
-      let w = went_back (stateOf s byte) next xs ys (suc a) e in
-      let state : next ≡ stateOf s (byte - 2 ^ a) = sym w.1 ∙ ap (λ (t : ℕ). stateOf s (byte - 2 ^ t)) place in
-      let table : ys ≡ formerTable s a xs = sym w.2 ∙ ap (λ (t : ℕ). formerTable s t xs) place in (
-        state,
-        record {
-          few = cleared-small byte a s.axes g.few;
-          bits = bits-less a byte g.bits;
-          long = ap length table ∙ former-length s a xs;
-          rest =
-              ap (λ (l : List ℤ). backAll s a (valueAt l)) table
-              ∙ ap (backAll s a) (former-holds s a xs g.long)
-              ∙ sym (back-suc a (valueAt xs))
-              ∙ g.rest;
-          undo =
-              up a (byte - 2 ^ a) byte ys xs
-              (ap (λ (x : State). forwardTurn x ys (suc a)) (sym state) ∙ back-then-forward (stateOf s byte) next xs ys (suc a) e) g.undo;
-          model =
-              λ has-them.
-              let down = descend s range (valueAt (ratesOf s xs₀)) (rates-of-list s (ratesOf s xs₀) (rates-there has-them)) a byte xs h (g.model has-them) in
-              let same = same_answer (backTurn (stateOf s byte) xs (suc a)) (stateOf s down.next) next (backTurn (stateOf s byte) xs (suc a)).table ys down.goes e in
-              agrees_at has-them a down.next (byte - 2 ^ a) (backTurn (stateOf s byte) xs (suc a)).table ys
-              (ap (λ (x : State). x.forward) (same.0 ∙ state)) same.1 down.agrees;
-        },
-      )
+    pub still-theirs : hasRates s xs₀ ≡ true → (a : ℕ) (xs : List ℤ) → Going a xs →
+        valueAt xs ≡ swept (neighbour s) everyAxis a (scaled s.axes (valueAt (ratesOf s xs₀)))
+    still-theirs e a xs g =
+        let rates = has-rates s xs₀ len e in
+        still-swept a xs g
+        ∙ ap (λ (l : List ℤ). swept (neighbour s) everyAxis a (backAll s s.axes (valueAt l))) (sym rates.1)
+        ∙ ap (swept (neighbour s) everyAxis a) (back-of-list s (ratesOf s xs₀) rates.0.long)
 
-  -- A back turn that was refused: the table has no rates.
-  pub stopped : (a byte : ℕ) (xs : List ℤ) (why : Refusal) → a < s.axes → Going (suc a) byte xs →
-      backTurn (stateOf s byte) xs (suc a) ≡ kept xs why → hasRates s xs₀ ≡ false
-  stopped a byte xs why h g e =
-      true-or-false (hasRates s xs₀)
-      (λ has-them.
-      let down = descend s range (valueAt (ratesOf s xs₀)) (rates-of-list s (ratesOf s xs₀) (rates-there has-them)) a byte xs h (g.model has-them) in
-      absurd (refused-done why (stateOf s down.next) (ap (λ (x : After). x.answer) (sym e ∙ down.goes))))
-      (λ no-rates. no-rates)
+    -- So the back turn is accepted.
+    goes-down : hasRates s xs₀ ≡ true → (a : ℕ) (xs : List ℤ) → a < s.axes → Going (suc a) xs → isAccepted s a (formerTable s a xs) ≡ true
+    unfolding isAccepted
+    goes-down e a xs h g =
+        let rates = rates-of-list s (ratesOf s xs₀) (rates-there e) in
+        ap (accepted (neighbour s) (pointsOf s) a) (still-theirs e a (formerTable s a xs) (one-down a xs g))
+        ∙ first-accepted s a (valueAt (ratesOf s xs₀)) h range.high rates.small
+
+    stopped : (a : ℕ) (xs : List ℤ) → a < s.axes → Going (suc a) xs → isAccepted s a (formerTable s a xs) ≡ false → hasRates s xs₀ ≡ false
+    stopped a xs h g e =
+        true-or-false (hasRates s xs₀) (λ yes. absurd (true≢false (sym (goes-down yes a xs h g) ∙ e))) (λ none. none)
+
+    -- Where the back turns end.
+    pub record Ended (g : Gone) : Type 0 where
+      pub few : g.forward ≤ s.axes
+      pub going : Going g.forward g.table
+      pub inside : InTable s g.table
+      pub stops : 0 < g.forward → hasRates s xs₀ ≡ false
+
+    pub descends : (a : ℕ) (xs : List ℤ) → a ≤ s.axes → Going a xs → InTable s xs → Ended (descent a s xs)
+    descends zero xs h g i =
+        rw (descent-none s xs)
+        record { few = h; going = g; inside = i; stops = λ more. absurd (omega arith) }
+    descends (suc a) xs h g i =
+        true-or-false (isAccepted s a (formerTable s a xs))
+        (λ yes.
+        rw (descent-done s a xs yes)
+        (descends a (formerTable s a xs) (omega arith) (one-down a xs g) (former-inside s a xs i yes)))
+        (λ e.
+        rw (descent-refused s a xs e)
+        record { few = h; going = g; inside = i; stops = λ more. stopped a xs h g e })

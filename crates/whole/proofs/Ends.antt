@@ -1,15 +1,14 @@
--- Coefficients to rates, where it starts and where it ends: an adopted table is at the start, and once every axis is back, unloading succeeds exactly where the
--- table has rates, and leaves them.
+-- Coefficients to rates, where it ends: once every axis is back, unloading succeeds exactly where the table has rates, and leaves them.
 -- Assumes nothing.
 use mathlib.Core.Path.{◌≡◌, refl, ap, sym, ◌∙◌, fun_ext}
 use mathlib.Core.Bool.{true, false, true≢false}
 use mathlib.Core.List.{List, map}
-use Prim.Native.Nat.{ℕ, zero, suc, ◌-◌, ◌%◌, ◌^◌, ◌<◌}
+use Prim.Native.Nat.{ℕ, zero, suc, ◌%◌, ◌^◌, ◌<◌}
 use native.Mathlib.Omega.{arith}
 use lib.Dec.{eqb}
 use lib.IntN.{ℤ, nat_abs}
 use lib.ListN.{length}
-use lib.Pow.{ones_lt}
+use lib.Pow.{pow_pos}
 use borrow.Author.Tests.{eqb-true, eq-eqb}
 use Rattle.naturals.specs.Test.{all}
 use Rattle.naturals.proofs.Cases.{le-or-lt, true-or-false}
@@ -19,26 +18,23 @@ use Rattle.refusals.specs.declared.Verdict.TheVariants.{Passed}
 use Rattle.refusals.specs.Checks.{unless}
 use Rattle.integers.specs.Half.{isRate}
 use Rattle.hierarchy.specs.Turns.{valueAt, valuesOf}
-use Rattle.hierarchy.specs.Sets.{scaled, swept, tableOf, noAxis, everyAxis}
-use Rattle.hierarchy.proofs.Closed.{table-cong}
-use Rattle.hierarchy.proofs.Values.{value-zero, value-suc, value-past, values-at, values-of-value}
+use Rattle.hierarchy.specs.Sets.{scaled, swept, tableOf, everyAxis}
+use Rattle.hierarchy.proofs.Values.{value-zero, value-suc, value-past, values-of-value}
 use Rattle.shapes.specs.declared.Shape.{Shape}
 use Rattle.shapes.specs.Shapes.{pointsOf}
 use Rattle.shapes.proofs.Checked.{InRange}
 use Rattle.grids.specs.Grids.{neighbour}
-use Rattle.states.specs.States.{has}
 use Rattle.states.specs.After.{leftBy}
-use Rattle.states.proofs.Bits.{all-bits-in, all-bits-out}
+use Rattle.states.proofs.Bits.{no_bits}
 use Rattle.states.proofs.Checked.{state-passes, axes-pass}
 use Rattle.tables.specs.Tables.{rateAt, times, quotient, isScaled, scaledAt, checkSampled, unload}
 use Rattle.tables.proofs.Quotients.{quotient-times, times-quotient, times-divisible}
-use Rattle.runs.proofs.Calls.{stateOf, Agrees}
+use Rattle.runs.proofs.Calls.{stateOf}
 use Rattle.whole.specs.Whole.{coefficientsOf, backAll, ratesOf, hasRates}
 use Rattle.whole.proofs.AllAxes.{back-zero, back-past, swept-of-back}
-use Rattle.whole.proofs.Inverse.{AreRates, has-rates, coefficients-have-rates, rates-length, rates-at}
-use Rattle.whole.proofs.Loading.{rates-of-list, table-of-none, times_zero, rate-at}
-use Rattle.whole.proofs.Climbing.{upTo, up_in, up-out}
-use Rattle.whole.proofs.Descending.{top, Going, rates-there}
+use Rattle.whole.proofs.Inverse.{AreRates, coefficients-have-rates, rates-length, rates-at}
+use Rattle.whole.proofs.Loading.{times_zero, rate-at}
+use Rattle.whole.proofs.Descending.{Going, rates-there, still-theirs}
 
 rate-means : (xs : List ℤ) (p : ℕ) → rateAt xs p ≡ isRate (valueAt xs (suc p))
 unfolding rateAt
@@ -58,59 +54,25 @@ unfolding isScaled
 times-scaled d z rate = rw (eq-eqb (nat_abs (times d z) % 2 ^ d) 0 (times-divisible d z), quotient-times d z, rate)
 
 module _ (s : Shape) (range : InRange s) (xs₀ : List ℤ) (len : length xs₀ ≡ pointsOf s) where
-  all-forward : (t : ℕ) → has (2 ^ s.axes - 1) t ≡ upTo s.axes t
-  all-forward t =
-      le-or-lt s.axes t
-      (λ past. all-bits-out s.axes t past ∙ sym (up-out s.axes t past))
-      (λ h. all-bits-in s.axes t h ∙ sym (up_in s.axes t h))
-
-  coefficients-are : (rs : List ℤ) → coefficientsOf s rs ≡ valuesOf (pointsOf s) (tableOf (neighbour s) s.axes everyAxis (valueAt rs))
-  unfolding coefficientsOf
+  coefficients-are : (rs : List ℤ) → coefficientsOf s rs ≡ valuesOf (pointsOf s) (swept (neighbour s) everyAxis s.axes (scaled s.axes (valueAt rs)))
+  unfolding coefficientsOf tableOf
   coefficients-are rs = refl
 
-  table-swept : (rs : List ℤ) →
-      tableOf (neighbour s) s.axes everyAxis (valueAt rs)
-      ≡ swept (neighbour s) everyAxis s.axes (scaled s.axes (valueAt rs))
-  unfolding tableOf
-  table-swept rs = refl
-
-  -- At the start all axes are forward.
-  pub starts : Going s range xs₀ len s.axes (2 ^ s.axes - 1) xs₀
-  starts =
-      record {
-        few = ones_lt s.axes;
-        bits = all-forward;
-        long = len;
-        rest = refl;
-        undo = top (2 ^ s.axes - 1);
-        model =
-            λ e.
-            record {
-              few = ones_lt s.axes;
-              bits = all-forward;
-              table =
-                  sym (has-rates s xs₀ len e).1
-                  ∙ coefficients-are (ratesOf s xs₀)
-                  ∙ ap (valuesOf (pointsOf s))
-                  (table-cong (neighbour s) s.axes everyAxis (upTo s.axes) (valueAt (ratesOf s xs₀)) (λ t h. sym (up_in s.axes t h)));
-            };
-      }
-
   -- Once every axis is back, the values decide.
-  module _ (byte : ℕ) (xs : List ℤ) (g : Going s range xs₀ len 0 byte xs) where
+  module _ (xs : List ℤ) (g : Going s xs₀ len 0 xs) where
     held : valueAt xs ≡ backAll s s.axes (valueAt xs₀)
     unfolding backAll
     held = g.rest
 
-    none-forward : checkSampled (stateOf s byte) ≡ Passed
+    none-forward : checkSampled (stateOf s 0) ≡ Passed
     unfolding checkSampled
-    none-forward = axes-pass true StillForward (stateOf s byte) (λ t h. g.bits t ∙ up-out 0 t (omega arith))
+    none-forward = axes-pass true StillForward (stateOf s 0) (λ t h. no_bits t)
 
-    pub unload-is : unload (stateOf s byte) xs ≡ leftBy xs (unless (all (scaledAt s.axes xs) (length xs)) Contents) (map (quotient s.axes) xs)
+    pub unload-is : unload (stateOf s 0) xs ≡ leftBy xs (unless (all (scaledAt s.axes xs) (length xs)) Contents) (map (quotient s.axes) xs)
     unfolding unload
     unload-is =
         rw (
-          state-passes (stateOf s byte) (length xs) (record { range = range; few = g.few; long = g.long }),
+          state-passes (stateOf s 0) (length xs) (record { range = range; few = pow_pos s.axes; long = g.long }),
           none-forward,
         )
 
@@ -180,35 +142,28 @@ module _ (s : Shape) (range : InRange s) (xs₀ : List ℤ) (len : length xs₀ 
           coefficients-have-rates s (ratesOf s xs₀) xs₀ are-rates
           (coefficients-are (ratesOf s xs₀)
           ∙ ap (valuesOf (pointsOf s))
-          (table-swept (ratesOf s xs₀)
-          ∙ ap (swept (neighbour s) everyAxis s.axes) (fun_ext scaled-back)
+          (ap (swept (neighbour s) everyAxis s.axes) (fun_ext scaled-back)
           ∙ swept-of-back s s.axes (valueAt xs₀) (value-zero xs₀))
           ∙ values-of-value (pointsOf s) xs₀ len)
 
-    -- Where the table has rates, unloading succeeds.
+    -- Where the table has rates, the values are these times 2^d, and unloading succeeds.
+    is-times : hasRates s xs₀ ≡ true → (p : ℕ) → valueAt xs (suc p) ≡ times s.axes (valueAt (ratesOf s xs₀) (suc p))
+    unfolding swept
+    is-times has-them p =
+        ap (λ (f : ℕ → ℤ). f (suc p)) (still-theirs s xs₀ len range has-them 0 xs g)
+        ∙ scaled-is s.axes (valueAt (ratesOf s xs₀)) (suc p)
+
     pub unloads : hasRates s xs₀ ≡ true → all (scaledAt s.axes xs) (length xs) ≡ true
     unloads has-them =
         all_from (scaledAt s.axes xs) (length xs)
         (λ p h. is-scaled p (omega (arith, g.long)))
       where
-        a : Agrees s range (valueAt (ratesOf s xs₀)) (rates-of-list s (ratesOf s xs₀) (rates-there s range xs₀ len has-them)) (upTo 0) byte xs
-        a = g.model has-them
-
-        is-times : (p : ℕ) → p < pointsOf s → valueAt xs (suc p) ≡ times s.axes (valueAt (ratesOf s xs₀) (suc p))
-        is-times p h =
-            ap (λ (l : List ℤ). valueAt l (suc p)) a.table
-            ∙ value-suc (valuesOf (pointsOf s) (tableOf (neighbour s) s.axes (upTo 0) (valueAt (ratesOf s xs₀)))) p
-            ∙ values-at (pointsOf s) (tableOf (neighbour s) s.axes (upTo 0) (valueAt (ratesOf s xs₀))) p h
-            ∙ ap (λ (f : ℕ → ℤ). f (suc p))
-            (table-cong (neighbour s) s.axes (upTo 0) noAxis (valueAt (ratesOf s xs₀)) (λ t lt. up-out 0 t (omega arith)))
-            ∙ table-of-none s (valueAt (ratesOf s xs₀)) (suc p)
-
         is-scaled : (p : ℕ) → p < pointsOf s → scaledAt s.axes xs p ≡ true
         is-scaled p h =
             scaled-means s.axes xs p
-            ∙ ap (isScaled s.axes) (is-times p h)
+            ∙ ap (isScaled s.axes) (is-times has-them p)
             ∙ times-scaled s.axes (valueAt (ratesOf s xs₀) (suc p))
-            (rate-at (ratesOf s xs₀) (pointsOf s) (rates-there s range xs₀ len has-them).each p h)
+            (rate-at (ratesOf s xs₀) (pointsOf s) (rates-there s xs₀ len range has-them).each p h)
 
     -- Not unloaded, it has none.
     pub not-unloaded : all (scaledAt s.axes xs) (length xs) ≡ false → hasRates s xs₀ ≡ false

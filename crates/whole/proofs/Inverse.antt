@@ -64,7 +64,7 @@ module _ (s : Shape) where
       swept-zero s s.axes (scaled s.axes (valueAt rs)) (scaled-border s.axes (valueAt rs) (value-zero rs))
 
   -- All axes of the coefficients turned back are the rates times 2^d.
-  pub back-of-coefficients : (rs : List ℤ) →
+  back-of-coefficients : (rs : List ℤ) →
       backAll s s.axes (tableOf (neighbour s) s.axes everyAxis (valueAt rs)) ≡ scaled s.axes (valueAt rs)
   unfolding tableOf
   back-of-coefficients rs = back-of-swept s s.axes (scaled s.axes (valueAt rs)) (scaled-border s.axes (valueAt rs) (value-zero rs))
@@ -78,6 +78,9 @@ module _ (s : Shape) where
       (λ p h.
       table-past (pointsOf s) (neighbour s) (depth s) (grid s) s.axes
       everyAxis (valueAt rs) (value-zero rs) p h (value-past rs p (omega arith)))
+
+  pub back-of-list : (rs : List ℤ) → length rs ≡ pointsOf s → backAll s s.axes (valueAt (coefficientsOf s rs)) ≡ scaled s.axes (valueAt rs)
+  back-of-list rs len = ap (backAll s s.axes) (coefficients-hold rs len) ∙ back-of-coefficients rs
 
   quotients-at : (f : ℕ → ℤ) (i : ℕ) → i < pointsOf s →
       get_or (map (quotient s.axes) (valuesOf (pointsOf s) f)) i (pos 0) ≡ quotient s.axes (f (suc i))
@@ -107,13 +110,10 @@ module _ (s : Shape) where
       ext_get_or (pos 0) (ratesOf s (coefficientsOf s rs)) rs (rates-length (coefficientsOf s rs) ∙ sym len)
       (λ i h. at_place i (omega (arith, rates-length (coefficientsOf s rs))))
     where
-      back : backAll s s.axes (valueAt (coefficientsOf s rs)) ≡ scaled s.axes (valueAt rs)
-      back = ap (backAll s s.axes) (coefficients-hold rs len) ∙ back-of-coefficients rs
-
       at_place : (i : ℕ) → i < pointsOf s → get_or (ratesOf s (coefficientsOf s rs)) i (pos 0) ≡ get_or rs i (pos 0)
       at_place i h =
           rates-at (coefficientsOf s rs) i h
-          ∙ ap (λ (f : ℕ → ℤ). quotient s.axes (f (suc i))) back
+          ∙ ap (λ (f : ℕ → ℤ). quotient s.axes (f (suc i))) (back-of-list rs len)
           ∙ quotient-of-scaled s.axes (valueAt rs) (suc i)
           ∙ value-suc rs i
 

@@ -1,12 +1,10 @@
-pub mod Folding
 pub mod AllAxes
+pub mod FirstAxes
 pub mod Inverse
 pub mod Loading
 pub mod Climbing
 pub mod Descending
 pub mod Ends
-pub mod AllUp
-pub mod AllDown
 pub mod Answers
 pub mod AnswersUp
 pub mod AnswersDown

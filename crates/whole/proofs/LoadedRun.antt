@@ -2,18 +2,14 @@
 -- state and the table of the model's set. From demand 3 of the definitions, since a loaded table is the table of the empty set. An axis is then forward if and only
 -- if its last unrefused call went forward, since that holds of the model's set.
 -- Assumes nothing.
-use mathlib.Core.Path.{◌≡◌, refl, ap, sym, ◌∙◌}
+use mathlib.Core.Path.{◌≡◌, ap, sym, ◌∙◌}
 use mathlib.Core.Bool.{true}
 use mathlib.Core.List.{List, [], map}
 use Prim.Native.Nat.{ℕ, ◌-◌, ◌^◌, ◌≤◌}
-use native.Mathlib.Omega.{arith}
 use lib.IntN.{ℤ}
 use lib.ListN.{length}
 use borrow.Author.Tests.{lt-ltb, eq-eqb}
-use Rattle.naturals.proofs.Tests.{all_from}
-use Rattle.refusals.specs.declared.Verdict.{Verdict}
 use Rattle.refusals.specs.declared.Verdict.TheVariants as verdict
-use Rattle.refusals.specs.Checks.{answer}
 use Rattle.hierarchy.specs.declared.Turn.{Turn}
 use Rattle.hierarchy.specs.Turns.{valueAt}
 use Rattle.hierarchy.specs.Sets.{noAxis}
@@ -22,33 +18,20 @@ use Rattle.shapes.specs.declared.Shape.{Shape}
 use Rattle.shapes.specs.Shapes.{pointsOf, checkLength}
 use Rattle.shapes.proofs.Checked.{InRange, in-range-passed}
 use Rattle.states.specs.declared.State.{State}
-use Rattle.states.specs.declared.Answer.TheVariants.{Done, Refused}
-use Rattle.states.specs.After.{After, after, kept}
+use Rattle.states.specs.declared.Answer.TheVariants.{Done}
+use Rattle.states.specs.After.{after}
 use Rattle.states.specs.States.{has, checkBits, checkState}
-use Rattle.tables.specs.Tables.{rateAt, checkRated, times, load}
-use Rattle.tables.proofs.Checking.{rated-opens, rated-passes}
+use Rattle.tables.specs.Tables.{times, load}
 use Rattle.runs.specs.Model.{modelAnswers}
 use Rattle.runs.specs.Runs.{Ran, run}
 use Rattle.runs.specs.Calls.{callsOf, numberIn, placeIn, Report, runCalls}
 use Rattle.runs.specs.LastCall.{answered, LastForward}
-use Rattle.runs.proofs.Calls.{stateOf}
 use Rattle.runs.proofs.Demand3.{AsModel, run-from}
 use Rattle.runs.proofs.LastCall.{in-set-last, last-in-set}
 use Rattle.runs.proofs.Appending.{Matched, matched-runs}
 use Rattle.whole.proofs.Inverse.{AreRates}
 use Rattle.whole.proofs.Loading.{rates-of-list, loaded-agrees}
-
--- A load that was done: its checks passed, and what it leaves.
-loaded : (v : Verdict) (xs ys : List ℤ) (given st : State) (zs : List ℤ) → answer (kept xs) v (after (Done given) zs) ≡ after (Done st) ys →
-    (v ≡ verdict.Passed) × (given ≡ st) × (zs ≡ ys)
-loaded verdict.Passed xs ys given st zs e = (refl, done-state (ap (λ (a : After). a.answer) e), ap (λ (a : After). a.table) e)
-  where
-    done-state : Done given ≡ Done st → given ≡ st
-    done-state f = cc
-loaded (verdict.Refused r) xs ys given st zs e = absurd (refused-done (ap (λ (a : After). a.answer) e))
-  where
-    refused-done : Refused r ≡ Done st → ⊥
-    refused-done f = let z : ◌≡◌ {A = ℕ} 0 1 = cc in omega arith
+use Rattle.whole.proofs.AnswersUp.{load-done}
 
 -- What document 01 says after a load of the rates xs and a list of calls.
 pub record AfterLoad (s : Shape) (xs : List ℤ) (calls : List Turn) (ran : Ran) : Type 0 where
@@ -57,24 +40,15 @@ pub record AfterLoad (s : Shape) (xs : List ℤ) (calls : List Turn) (ran : Ran)
   pub model : AsModel s range (valueAt xs) (rates-of-list s xs rates) calls noAxis ran
 
 pub demand-3-of-load : (s : Shape) (xs ys : List ℤ) (st : State) → load s xs ≡ after (Done st) ys → (calls : List Turn) → AfterLoad s xs calls (run calls st ys)
-unfolding load
 demand-3-of-load s xs ys st e calls =
-    let d = loaded (checkRated s xs) xs ys (stateOf s 0) st (map (times s.axes) xs) e in
-    let opens = rated-opens s xs d.0 in
-    let rates : AreRates s xs =
-    record {
-      long = opens.long;
-      each =
-          all_from (rateAt xs) (pointsOf s)
-          (λ p h. rated-passes s xs d.0 p (omega (arith, opens.long)));
-    } in
-    rw (← d.1, ← d.2)
+    let l = load-done s xs ys st (sym e) in
+    rw (l.state, l.table)
     (record {
-      range = opens.range;
-      rates = rates;
+      range = l.range;
+      rates = l.rates;
       model =
-          run-from s opens.range (valueAt xs) (rates-of-list s xs rates) calls noAxis 0 (map (times s.axes) xs)
-          (loaded-agrees s opens.range xs rates);
+          run-from s l.range (valueAt xs) (rates-of-list s xs l.rates) calls noAxis 0 (map (times s.axes) xs)
+          (loaded-agrees s l.range xs l.rates);
     })
 
 -- The axes forward are those whose last unrefused call went forward, by the answers of the calls themselves.

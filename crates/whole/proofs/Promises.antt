@@ -47,7 +47,7 @@ module _ (s : Shape) (rs : List ℤ) (a : Accepted s rs) where
   -- Accepted rates have coefficients.
   pub have-coefficients : ratesToCoefficients s rs ≡ left Passed (coefficientsOf s rs)
   have-coefficients =
-      passes-so s rs rs
+      passes-so s rs
       (rw (
         table-passes s rs (record { range = in-range; long = a.long }),
         rates-pass rs (λ p h. rate-place rs p ∙ a.each p (omega (arith, a.long))),

@@ -1,7 +1,7 @@
 // The whole calls: rates to coefficients, and coefficients to rates, in the one lent buffer.
 #![tactic(auto)]
 
-ghost use Rattle.std.specs.Prelude.{◌≡◌, ◌-◌, ◌≤◌};
+ghost use Rattle.std.specs.Prelude.{◌≡◌, ◌-◌};
 ghost use Rattle.states.specs.After.{left};
 ghost use Rattle.whole.specs.Whole.{ratesToCoefficients, coefficientsToRates};
 ghost use Rattle.whole.specs.Steps.{InTable, ascent, gone, descent};
@@ -13,7 +13,7 @@ use states::{Answer, State};
 
 // Forward on axis `from` + 1 and every later one, untested: of a loaded table no turn is refused, nor is one that undoes a turn back.
 fn climb(shape: Shape, from: u32, table: &mut [i64])
-    requires { InTable shape table.old × (from ≤ shape.axes) }
+    requires { InTable shape table.old }
     ensures { table.new ≡ ascent (shape.axes - from) from shape table.old }
 {
     let axes = shape.axes;
@@ -37,7 +37,7 @@ pub fn rates_to_coefficients(shape: Shape, table: &mut [i64]) -> Verdict
     match tables::load(shape, table) {
         Answer::Refused(r) => Verdict::Refused(r),
         Answer::Done(_) => {
-            climb(shape, 0, table);
+            climb(shape, 0, table); // on every axis
             Verdict::Passed
         }
     }
@@ -84,7 +84,7 @@ pub fn coefficients_to_rates(shape: Shape, table: &mut [i64]) -> Verdict
             match tables::unload(back, table) {
                 Verdict::Passed => Verdict::Passed,
                 Verdict::Refused(_) => {
-                    climb(shape, 0, table);
+                    climb(shape, 0, table); // to the table as it was
                     Verdict::Refused(Refusal::Contents)
                 }
             }

@@ -1,8 +1,9 @@
 //! Compares the library, through its boundary and its safe wrapper, with separate code on thousands of random inputs.
 //!
 //! `NUMOLEFAYS_SEED` and `NUMOLEFAYS_COUNT` set the seed and the number of rounds; a round is one random input to every
-//! call. `NUMOLEFAYS_LARGE=0` leaves out the large tables, as for a run under valgrind. The last line has the counts; the
-//! exit code is 1 where anything differs, and where an answer was not met or a wrong reading would not be seen.
+//! call. `NUMOLEFAYS_LARGE=0` leaves out the large tables, as for a run under valgrind, and keeps turns with a fault
+//! and turns list by list to fewer shapes. The last line has the counts; the exit code is 1 where anything differs, and
+//! where an answer was not met or a wrong reading would not be seen.
 
 mod checks;
 mod draw;
@@ -12,8 +13,8 @@ mod model;
 mod report;
 
 use checks::{
-    components, edges, estimates, exhaustive, files, misreadings, orders, points, rates, rounding, runs, threads,
-    turns, walks, worked, writes,
+    components, edges, estimates, exhaustive, faults, files, lists, misreadings, orders, points, rates, rounding, runs,
+    threads, turns, walks, worked, writes,
 };
 use draw::Draw;
 use report::Report;
@@ -79,6 +80,12 @@ fn main() {
     edges::of_file_shapes(&mut draw, &mut report);
     step(&clock, "each call at its edges");
 
+    let with_large = setting("NUMOLEFAYS_LARGE", 1) != 0;
+    faults::all(&mut Draw::new(seed ^ 0x6661_756c_7473), &mut report, with_large);
+    step(&clock, "turns with a fault at one place, at every place of every small shape");
+    let listed = lists::all(&mut Draw::new(seed ^ 0x6c_6973_7473), &mut report, with_large);
+    step(&clock, "turns list by list, in the separate code");
+
     rounding::rounding(&mut Draw::new(seed ^ 0x6861_6c76_6573), &mut report);
     step(&clock, "estimates on halves and beside them");
 
@@ -119,7 +126,7 @@ fn main() {
     step(&clock, "component grids: refusals, all small ones, those beside sparse tables, random ones, orders of work");
 
     model_against_itself(&mut draw, &mut report);
-    if setting("NUMOLEFAYS_LARGE", 1) != 0 {
+    if with_large {
         large(&mut draw, &mut report);
         step(&clock, "large tables");
     }
@@ -130,7 +137,7 @@ fn main() {
     step(&clock, "threads");
 
     report.print();
-    let mut met = misreadings_shown(&report) & orders::print(&shown);
+    let mut met = misreadings_shown(&report) & orders::print(&shown) & lists::print(&listed);
     if count >= COUNT {
         for (call, numbers) in ANSWERS {
             let missing = report.never_met(call, numbers);

@@ -5,6 +5,7 @@ use borrow.Author.Rules.{rules}
 use lib.IntN.{pos}
 use lib.ListN.{length, get_or}
 use mir.Syntax.{w64}
+use mir.Val.{to_z, of_z}
 use mir.ValLaws.{to_z-of_z}
 use Rattle.naturals.proofs.Tests.{all_from, all-fails}
 use Rattle.integers.specs.Half.{inLimit, contentAt}
@@ -18,8 +19,8 @@ unfolding contentAt
 tested c =
     let xs = c.args.table.now in
     let p = c.loop-p.p in
-    c.in_limit.ensures
-    ∙ ap inLimit (to_z-of_z w64 (get_or xs p (pos 0)) (search rules))
+    let is : c.in_limit.result ≡ inLimit (to_z w64 (of_z w64 (get_or xs p (pos 0)))) = c.in_limit.ensures in
+    is ∙ ap inLimit (to_z-of_z w64 (get_or xs p (pos 0)) (search rules))
 
 pub returns-then-not-in_limit : goal.returns-then-not-in_limit
 returns-then-not-in_limit c =

@@ -1,4 +1,5 @@
--- `integers::all_in_limit` meets its contract. The loop's invariant: the values passed are within the limit. The measure is what is left of the table.
+-- `integers::all_in_limit` meets its contract. Where all values are seen within the limit together, they are; else each is looked at, and its test decides. The
+-- loop's invariant: the values passed are within the limit. The measure is what is left of the table.
 -- Assumes nothing.
 use mathlib.Core.Path.{◌≡◌}
 use mathlib.Core.Bool.{true}

@@ -1,129 +1,137 @@
-use mathlib.Core.Path.{◌≡◌, sym}
-use Prim.Native.Nat.{◌-◌, ◌^◌, ◌≤◌, ◌<◌}
+use mathlib.Core.Path.{sym}
+use mathlib.Core.Logic.{⊎_elim}
+use Prim.Native.Nat.{◌+◌, ◌-◌, ◌*◌, ◌%◌, ◌^◌}
 use native.Mathlib.Omega.{arith}
-use lib.Pow.{pow_pos}
-use Rattle.naturals.proofs.Shifts.{one_shifted}
-use Rattle.shapes.specs.Shapes.{pointsOf}
-use Rattle.grids.proofs.Sparse.{points-sparse}
-use Rattle.neighbours.specs.Steps.{sparseOf}
-use Rattle.sweeps.specs.Steps.{VectorOf}
-use Rattle.sweeps.proofs.Lowering.{lowering-starts, lowering-ends, all-limited, lowering-block, block-stops}
-use Rattle.sweeps.proofs.Standing.{Standing, sum_inside, position-le, stands, inside, room, stands-before}
-use Rattle.sweeps.proofs.lower.Goals.{After-previous_vector-before, After-vector_at-last, At-loop-start, Else-start-lowered}
+use lib.ListN.{length}
+use Rattle.numbering.specs.Point.{at}
+use Rattle.numbering.specs.Number.{rank}
+use Rattle.cursors.proofs.Below.{cursors-below}
+use Rattle.lists.proofs.Blocks.{table-small}
+use Rattle.sweeps.proofs.Ranks.{Follows}
+use Rattle.sweeps.proofs.Standing.{rank-in, previous-follows, places, some-place, last-standing, last-of-table}
+use Rattle.sweeps.proofs.Meeting.{met-sum}
+use Rattle.sweeps.proofs.Lowering.{Lowering, lowering-starts, lowering-on, lowering-room, lowering-few, lowering-next, lowering-turned, lowering-odds, lowering-walked, lowering-first, lowering-met, lowering-worked}
+use Rattle.sweeps.proofs.lower.Goals.{After-work-odd, After-previous_vector-before, then-before-sum, else-before-sum}
 use Rattle.sweeps.proofs.lower.Goals as goal
 
-pub returns-then-count-eq0 : goal.returns-then-count-eq0
-returns-then-count-eq0 c =
-    let pre = c.requires in
-    lowering-ends _ _ _ _ 0 _ _ (lowering-starts _ _ _ _ pre.0 pre.1 pre.2) (omega arith) (λ less. absurd (omega (arith, c.if-count-eq0.true)))
+-- ---- before the loop
+
+pub overflow_sub-start : goal.overflow_sub-start
+overflow_sub-start c = some-place c.requires.0
 
 pub vector_at-last-requires : goal.vector_at-last-requires
 vector_at-last-requires c =
-    let pre = c.requires in
-    let line = c.args.line in
-    (omega (arith, pre.0.place), pre.0.few, pre.0.low, omega (arith, pre.2, c.if-count-eq0.false, points-sparse line.axes line.level))
+    let on = c.requires.0 in
+    (omega (arith, on.place), on.few, on.low, omega (arith, places on, some-place on))
 
--- The last of the points lies in the level vector that was found.
-last-inside : (c : After-vector_at-last) →
-    let a = c.args in
-    a.count - 1 < pointsOf (sparseOf a.line)
-last-inside c = omega (arith, c.requires.2, c.if-count-eq0.false)
-
-pub overflow_sub-start-2 : goal.overflow_sub-start-2
-overflow_sub-start-2 c =
+pub after_last-cursors-requires : goal.after_last-cursors-requires
+after_last-cursors-requires c =
+    let on = c.requires.0 in
     let got = c.vector_at-last.ensures in
-    position-le _ _ _ c.requires.0.few (last-inside (goal.at.overflow_sub-start-2 c).After-vector_at-last) _ _ _ got.0 got.1 got.2
+    (record { few = on.few; low = on.low; place = on.place }, c.starts-starts.ensures, (last-standing on got.0 got.1).low)
 
 pub loop-start-init : goal.loop-start-init
 loop-start-init c =
-    let seen = goal.at.loop-start-init c in
+    let on = c.requires.0 in
     let got = c.vector_at-last.ensures in
-    let pre = c.requires in (
-      lowering-starts _ _ _ _ pre.0 pre.1 pre.2,
-      stands _ _ _ pre.0.few (last-inside seen.After-vector_at-last) _ _ _ got.0 got.1 got.2,
-      omega (arith, c.if-count-eq0.false),
-      omega (arith, inside _ _ _ pre.0.few (last-inside seen.After-vector_at-last) _ _ _ got.0 got.1 got.2, c.if-count-eq0.false),
+    let top = last-of-table on got.0 got.1 in (
+      last-standing on got.0 got.1,
+      rw top.1 c.after_last-cursors.ensures,
+      rw (top.1, top.0) (lowering-starts on (length c.args.table.now) on.long),
     )
 
--- The level vector is one of the shape.
-vector-of : (c : At-loop-start) →
+-- ---- the level list
+
+pub subspace_on-v-requires : goal.subspace_on-v-requires
+subspace_on-v-requires c =
+    let on = c.requires.0 in
+    let s = c.loop-start.invariant in
+    (on.few, on.low, on.place, s.0.vector, s.0.low, lowering-first on s.0 s.2)
+
+pub pass_back-requires : goal.pass_back-requires
+pass_back-requires c =
+    let s = c.loop-start.invariant in
+    let e = c.subspace_on-v.ensures in
+    let m = lowering-met c.requires.0 s.0 s.2 c.subspace_on-v.result e.0 e.1 e.2 in
+    (m.seen, met-sum s.0 _ m, rw (m.on, m.levels) s.1)
+
+pub work-odd-requires : goal.work-odd-requires
+work-odd-requires c =
+    let pre = c.requires in
+    let s = c.loop-start.invariant in
+    let e = c.subspace_on-v.ensures in
+    let m = lowering-met pre.0 s.0 s.2 c.subspace_on-v.result e.0 e.1 e.2 in
+    (m.seen, cursors-below m.seen (met-sum s.0 _ m) c.pass_back.ensures, rw m.on (lowering-on pre.0 s.2), lowering-room pre.0 s.2 pre.1)
+
+-- After the work on it.
+done : (c : After-work-odd) →
     let line = c.args.line in
-    VectorOf line.axes line.level c.loop-start.sum c.loop-start.levels c.loop-start.start
-vector-of c =
+    Lowering line c.args.table.now c.loop-start.sum (rank (at c.loop-start.levels) line.axes)
+    (c.loop-start.start - 1 * 2 ^ c.loop-start.sum % 2 ^ 64) (c.loop-start.odd + c.work-odd.result) c.work-odd.new.table
+done c =
+    let on = c.requires.0 in
     let s = c.loop-start.invariant in
-    record {
-      vector = s.1.vector;
-      low = sum_inside _ _ _ _ _ s.1 (omega (arith, s.2, s.0.below, s.0.inside));
-      first = s.1.first;
-    }
+    let e = c.subspace_on-v.ensures in
+    let did = c.work-odd.ensures in
+    lowering-worked on s.0 s.2 _ (lowering-met on s.0 s.2 c.subspace_on-v.result e.0 e.1 e.2) _ _ did.worked did.odds did.turned
 
-pub lower_vector-lowered-requires : goal.lower_vector-lowered-requires
-lower_vector-lowered-requires c =
-    let s = c.loop-start.invariant in (
-      record { few = s.0.axis.few; low = s.0.axis.low; place = s.0.axis.place; long = s.0.long },
-      all-limited _ _ _ _ _ _ s.0,
-      vector-of (goal.at.lower_vector-lowered-requires c).At-loop-start,
-      omega (arith, s.2),
-      s.3,
-    )
+pub overflow_add-odd : goal.overflow_add-odd
+overflow_add-odd c =
+    let on = c.requires.0 in
+    omega (arith, lowering-few on (done (goal.at.overflow_add-odd c).After-work-odd), on.long, table-small _ _ on)
 
-pub returns-then-start-lowered : goal.returns-then-start-lowered
-returns-then-start-lowered c =
-    let s = c.loop-start.invariant in
-    let done = c.lower_vector-lowered.ensures in
-    lowering-ends _ _ _ _ 0 _ _
-    (lowering-block _ _ _ _ _ _ s.0 _ _ _ done) (omega arith)
-    (λ more. block-stops _ _ _ _ _ _ s.0 _ _ _ done c.if-start-lowered.true)
+-- ---- after the last
 
--- All points of the level vector were lowered.
-all-of-it : (c : Else-start-lowered) → c.lower_vector-lowered.result ≡ c.loop-start.start
-all-of-it c = omega (arith, c.lower_vector-lowered.ensures.from, c.if-start-lowered.false)
+pub returns-then-start-eq0-clause-walked : goal.returns-then-start-eq0-clause-walked
+returns-then-start-eq0-clause-walked c =
+    let all = done (goal.at.returns-then-start-eq0-clause-walked c).After-work-odd in
+    lowering-walked c.requires.0 all c.if-start-eq0.true (rank-in c.loop-start.invariant.0.vector)
 
-pub returns-then-p-eq0 : goal.returns-then-p-eq0
-returns-then-p-eq0 c =
-    let s = c.loop-start.invariant in
-    let done = c.lower_vector-lowered.ensures in
-    lowering-ends _ _ _ _ 0 _ _
-    (rw (sym (all-of-it (goal.at.returns-then-p-eq0 c).Else-start-lowered)) (lowering-block _ _ _ _ _ _ s.0 _ _ _ done)) (omega arith)
-    (λ more. absurd (omega (arith, c.if-p-eq0.true)))
+pub returns-then-start-eq0-clause-turned : goal.returns-then-start-eq0-clause-turned
+returns-then-start-eq0-clause-turned c =
+    lowering-turned c.requires.0 (done (goal.at.returns-then-start-eq0-clause-turned c).After-work-odd) c.if-start-eq0.true
+
+pub returns-then-start-eq0-clause-odds : goal.returns-then-start-eq0-clause-odds
+returns-then-start-eq0-clause-odds c =
+    lowering-odds c.requires.0 (done (goal.at.returns-then-start-eq0-clause-odds c).After-work-odd) c.if-start-eq0.true
+
+-- ---- the one before
 
 pub previous_vector-before-requires : goal.previous_vector-before-requires
 previous_vector-before-requires c =
-    let s = c.loop-start.invariant in (
-      omega (arith, s.0.axis.place),
-      s.0.axis.few,
-      omega (arith, (vector-of (goal.at.previous_vector-before-requires c).At-loop-start).low, s.0.axis.low),
-      s.1.vector,
-      omega (arith, s.1.first, c.if-p-eq0.false),
-    )
-
--- The level vector before it.
-before-it : (c : After-previous_vector-before) →
-    let line = c.args.line in
-    Standing line.axes c.previous_vector-before.result.sum c.previous_vector-before.result.levels
-    (c.loop-start.start - 2 ^ c.previous_vector-before.result.sum)
-before-it c = stands-before _ _ _ _ c.loop-start.invariant.1 _ _ c.previous_vector-before.ensures
-
-has_room : (c : After-previous_vector-before) → 2 ^ c.previous_vector-before.result.sum ≤ c.loop-start.start
-has_room c = room _ _ _ _ c.loop-start.invariant.1 _ _ c.previous_vector-before.ensures
-
-sum-small : (c : After-previous_vector-before) → c.previous_vector-before.result.sum ≤ 8
-sum-small c =
+    let on = c.requires.0 in
     let s = c.loop-start.invariant in
-    let line = c.args.line in
-    let low = sum_inside line.axes line.level _ _ _ (before-it c) (omega (arith, s.2, s.0.below, s.0.inside)) in
-    omega (arith, low, s.0.axis.low)
+    (omega (arith, on.place), on.few, omega (arith, s.0.low, on.low), s.0.vector, omega (arith, lowering-first on s.0 s.2, c.if-start-eq0.false))
 
-pub overflow_shl-start : goal.overflow_shl-start
-overflow_shl-start c = omega (arith, sum-small (goal.at.overflow_shl-start c).After-previous_vector-before)
+-- How it comes before the other.
+follows : (c : After-previous_vector-before) →
+    let line = c.args.line in
+    let before = c.previous_vector-before.result in
+    Follows line.axes before.sum (rank (at before.levels) line.axes) c.loop-start.sum (rank (at c.loop-start.levels) line.axes)
+follows c = previous-follows (omega (arith, c.requires.0.place)) c.loop-start.invariant.0.vector c.previous_vector-before.ensures
 
 pub loop-start-preserved : goal.loop-start-preserved
 loop-start-preserved c =
     let seen = goal.at.loop-start-preserved c in
     let s = c.loop-start.invariant in
-    let shift = one_shifted 64 c.previous_vector-before.result.sum (omega (arith, sum-small seen.After-previous_vector-before)) in (
-      rw (sym (all-of-it seen.Else-start-lowered)) (lowering-block _ _ _ _ _ _ s.0 _ _ _ c.lower_vector-lowered.ensures),
-      rw shift (before-it seen.After-previous_vector-before),
-      omega (arith, shift, has_room seen.After-previous_vector-before, pow_pos c.previous_vector-before.result.sum),
-      omega (arith, shift, has_room seen.After-previous_vector-before),
+    let before = follows seen.After-previous_vector-before in
+    let e = c.subspace_on-v.ensures in
+    let m = lowering-met c.requires.0 s.0 s.2 c.subspace_on-v.result e.0 e.1 e.2 in (
+      record {
+        vector = c.previous_vector-before.ensures.vector;
+        low = ⊎_elim (λ same. omega (arith, same.0, s.0.low)) (λ below. omega (arith, below.0, s.0.low)) before;
+      },
+      elim c.if-before-sum.branch [
+        | then-before-sum w ↦ rw w.cursors-is
+            (⊎_elim
+            (λ same. absurd (omega (arith, same.0, w.if-before-sum.true)))
+            (λ below. rw below.2 w.after_last-cursors-then-before-sum.ensures)
+            before)
+        | else-before-sum w ↦ rw w.cursors-is
+            (⊎_elim
+            (λ same. rw (sym same.1, sym same.0) (rw (m.on, m.levels) at c.pass_back.ensures))
+            (λ below. absurd (omega (arith, below.0, w.if-before-sum.false)))
+            before)
+      ],
+      lowering-next c.requires.0 (done seen.After-work-odd) before,
     )

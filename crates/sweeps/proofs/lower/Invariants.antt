@@ -1,18 +1,19 @@
--- `sweeps::lower` meets its contract: each turn of the loop lowers the points of one level vector, whose parents are as they were, then comes the level
--- vector before it; the loop stops at a point that is not accepted.
+-- `sweeps::lower` meets its contract: each turn of the loop works on the last level list that is left, whose parents are as they were, with the first numbers
+-- of the lists below it at hand; then the one before it is the last that is left. At number 0 none is.
 -- Assumes nothing.
-use Prim.Native.Nat.{◌+◌, ◌^◌, ◌≤◌, ◌<◌}
-use Rattle.neighbours.specs.Steps.{sparseOf}
-use Rattle.sweeps.proofs.Lowering.{Lowering}
+use Prim.Native.Nat.{suc}
+use Rattle.numbering.specs.Point.{at}
+use Rattle.numbering.specs.Number.{rank}
+use Rattle.cursors.specs.Steps.{Cursors}
 use Rattle.sweeps.proofs.Standing.{Standing}
+use Rattle.sweeps.proofs.Lowering.{Lowering}
 use Rattle.sweeps.proofs.lower.Given as goal
 
 abbrev pub invariant-loop-start : goal.invariant-loop-start
 invariant-loop-start l =
-    Lowering (sparseOf l.line) l.line.place l.initial.table l.count l.table l.p
-    × Standing l.line.axes l.sum l.levels l.start
-    × (l.start < l.p)
-    × (l.p ≤ l.start + 2 ^ l.sum)
+    Standing l.line.axes l.line.level l.sum l.levels
+    × Cursors l.line l.sum (suc (rank (at l.levels) l.line.axes)) l.cursors
+    × Lowering l.line l.initial.table l.sum (suc (rank (at l.levels) l.line.axes)) l.start l.odd l.table
 
 abbrev pub decreases-loop-start : goal.decreases-loop-start
-decreases-loop-start l = l.p
+decreases-loop-start l = l.start

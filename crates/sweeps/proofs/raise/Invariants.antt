@@ -1,19 +1,20 @@
--- `sweeps::raise` meets its contract: each turn of the loop raises the points of one level vector, whose parents stand before it, then comes the next level
--- vector; the loop stops at a point that is not accepted.
+-- `sweeps::raise` meets its contract: each turn of the loop works on the first level list that is left, whose parents are final, with the first numbers of the
+-- lists below it at hand; then the next is the first that is left. At the end of the table none is.
 -- Assumes nothing.
-use Prim.Native.Nat.{◌+◌, ◌-◌, ◌^◌, ◌≤◌, ◌<◌}
+use Prim.Native.Nat.{◌-◌}
 use lib.ListN.{length}
-use Rattle.neighbours.specs.Steps.{sparseOf}
-use Rattle.sweeps.proofs.Rising.{Rising}
+use Rattle.numbering.specs.Point.{at}
+use Rattle.numbering.specs.Number.{rank}
+use Rattle.cursors.specs.Steps.{Cursors}
 use Rattle.sweeps.proofs.Standing.{Standing}
+use Rattle.sweeps.proofs.Raising.{Raising}
 use Rattle.sweeps.proofs.raise.Given as goal
 
-abbrev pub invariant-loop-p : goal.invariant-loop-p
-invariant-loop-p l =
-    Rising (sparseOf l.line) l.line.place l.from l.initial.table l.table l.p
-    × Standing l.line.axes l.sum l.levels l.start
-    × (l.start ≤ l.p)
-    × (l.p < l.start + 2 ^ l.sum)
+abbrev pub invariant-loop-start : goal.invariant-loop-start
+invariant-loop-start l =
+    Standing l.line.axes l.line.level l.sum l.levels
+    × Cursors l.line l.sum (rank (at l.levels) l.line.axes) l.cursors
+    × Raising l.line l.initial.table l.sum (rank (at l.levels) l.line.axes) l.start l.odd l.table
 
-abbrev pub decreases-loop-p : goal.decreases-loop-p
-decreases-loop-p l = length l.initial.table - l.p
+abbrev pub decreases-loop-start : goal.decreases-loop-start
+decreases-loop-start l = length l.initial.table - l.start

@@ -1,25 +1,24 @@
--- `turns::dehierarchize` meets its contract: the checks that refuse answer in their order. Where the way up stops, the former table is not accepted and the
--- steps down of the points reached give back the table; where it comes to the end, the table is the former one, and it is accepted.
+-- `turns::dehierarchize` meets its contract: the checks that refuse answer in their order. A forward turn of the former table leads to the present one, so it
+-- is not accepted where that has a value past the limit. Else the turn that was tried tells whether it is, and its table is the one to leave.
 -- Assumes nothing.
 use mathlib.Core.Path.{◌≡◌, ap, ap₂, sym, ◌∙◌}
 use mathlib.Core.Bool.{true}
-use Prim.Native.Nat.{◌-◌, ◌≤◌}
+use Prim.Native.Nat.{◌-◌}
 use native.Mathlib.Omega.{arith}
 use lib.ListN.{length}
 use Rattle.refusals.specs.declared.Refusal.TheVariants.{Contents}
 use Rattle.refusals.specs.declared.Verdict.TheVariants.{Passed}
-use Rattle.shapes.specs.Shapes.{pointsOf}
 use Rattle.states.specs.States.{has}
 use Rattle.states.specs.declared.Answer.TheVariants.{Done, Refused}
 use Rattle.states.specs.After.{after}
-use Rattle.sweeps.specs.Steps.{OnAxis, Limited, RaisedFrom}
 use Rattle.grids.specs.Turned.{formerTable}
-use Rattle.turns.specs.Turns.{isAccepted, checkTurn}
-use Rattle.sweeps.proofs.Accepting.{passed-limited}
+use Rattle.turns.specs.Turns.{checkTurn}
+use Rattle.turns.proofs.Accepting.{inLimits, after-refuses}
 use Rattle.turns.proofs.Answering.{on-axis, back-unchecked, back-not-forward, back-refused, back_done}
 use Rattle.turns.proofs.Checking.{MayTurn, place_of, turn-passed}
-use Rattle.turns.proofs.Former.{past-limit-refuses, raised-limited, given_back, stopped-refuses, end-holds, end-accepted}
-use Rattle.turns.proofs.dehierarchize.Goals.{After-table-1, Else-not-all_in_limit, Else-not-has_axis, Else-raised-table, In_default}
+use Rattle.turns.proofs.Trying.{back-was-done, back-was-refused}
+use Rattle.turns.proofs.Undoing.{former-length, turned-of-former}
+use Rattle.turns.proofs.dehierarchize.Goals.{Else-not-has_axis, In_default}
 use Rattle.turns.proofs.dehierarchize.Goals as goal
 
 -- the checks passed
@@ -33,20 +32,6 @@ may c = let a = c.args in turn-passed a.state (length a.table.now) a.axis (passe
 -- the axis is forward
 set : (c : Else-not-has_axis) → let a = c.args in has a.state.forward (a.axis - 1) ≡ true
 set c = sym c.has_axis.ensures ∙ c.if-not-has_axis.false
-
-axis : (c : In_default) →
-    let a = c.args in OnAxis a.state.shape (a.axis - 1) a.table.now
-axis c = on-axis (may c)
-
--- all values are within the limit
-limited : (c : Else-not-all_in_limit) → let a = c.args in Limited a.table.now (length a.table.now)
-limited c = passed-limited _ (sym c.all_in_limit.ensures ∙ c.if-not-all_in_limit.false)
-
--- what the way up left
-way : (c : After-table-1) →
-    let a = c.args in
-    RaisedFrom a.state.shape (a.axis - 1) 0 a.table.now c.raise-raised.result c.raise-raised.new.table
-way c = c.raise-raised.ensures
 
 pub returns-in-Refused : goal.returns-in-Refused
 returns-in-Refused c =
@@ -70,54 +55,38 @@ returns-then-not-has_axis c =
     rw (back-not-forward a.state a.table.now a.axis (passed seen.In_default) (sym c.has_axis.ensures ∙ c.if-not-has_axis.true))
 
 pub returns-then-not-all_in_limit : goal.returns-then-not-all_in_limit
-unfolding isAccepted formerTable
 returns-then-not-all_in_limit c =
     let seen = goal.at.returns-then-not-all_in_limit c in
     let a = c.args in
+    let t = a.axis - 1 in
+    let turned = turned-of-former a.state.shape t a.table.now (may seen.In_default).long in
     rw
     (back-refused a.state a.table.now a.axis (passed seen.In_default) (set seen.Else-not-has_axis)
-    (past-limit-refuses _ _ _ (axis seen.In_default).long (sym c.all_in_limit.ensures ∙ c.if-not-all_in_limit.true)))
+    (after-refuses _ _ (formerTable a.state.shape t a.table.now) (former-length _ _ a.table.now)
+    (ap inLimits turned ∙ sym c.all_in_limit.ensures ∙ c.if-not-all_in_limit.true)))
 
-pub raise-raised-requires : goal.raise-raised-requires
-raise-raised-requires c =
-    let seen = goal.at.raise-raised-requires c in
-    (axis seen.In_default, limited seen.Else-not-all_in_limit, omega arith)
+pub back_on-requires : goal.back_on-requires
+back_on-requires c =
+    let m = may (goal.at.back_on-requires c).In_default in
+    (on-axis m (omega (arith, place_of m)), sym c.all_in_limit.ensures ∙ c.if-not-all_in_limit.false)
 
-pub lower-requires : goal.lower-requires
-lower-requires c =
-    let seen = goal.at.lower-requires c in
-    let on = axis seen.In_default in (
-      record { few = on.few; low = on.low; place = on.place; long = (way seen.After-table-1).up.long },
-      raised-limited _ _ _ on.long (limited seen.Else-not-all_in_limit) _ _ (way seen.After-table-1),
-      (way seen.After-table-1).up.within,
-    )
-
-pub returns-then-raised-table : goal.returns-then-raised-table
-unfolding isAccepted formerTable
-returns-then-raised-table c =
-    let seen = goal.at.returns-then-raised-table c in
+pub returns-then-not-back_on : goal.returns-then-not-back_on
+returns-then-not-back_on c =
+    let seen = goal.at.returns-then-not-back_on c in
     let a = c.args in
-    rw
-    (back-refused a.state a.table.now a.axis (passed seen.In_default) (set seen.Else-not-has_axis)
-    (stopped-refuses _ _ _ (axis seen.In_default).long (limited seen.Else-not-all_in_limit) _ _ (way seen.After-table-1) (omega (arith, (way seen.After-table-1).up.long, c.if-raised-table.true))))
-    (ap (after (Refused Contents))
-    (given_back _ _ _ (axis seen.In_default).long (limited seen.Else-not-all_in_limit) _ _ (way seen.After-table-1) _ _ c.lower.ensures))
+    let was = back-was-refused a.state.shape (a.axis - 1) a.table.now c.back_on.new.table (rw c.if-not-back_on.true at c.back_on.ensures) in
+    rw (back-refused a.state a.table.now a.axis (passed seen.In_default) (set seen.Else-not-has_axis) was.0)
+    (ap (after (Refused Contents)) was.1)
 
 pub without_axis-requires : goal.without_axis-requires
 without_axis-requires c =
     let seen = goal.at.without_axis-requires c in
     (omega (arith, place_of (may seen.In_default), (may seen.In_default).range), set seen.Else-not-has_axis)
 
--- the way up came to the end
-at-end : (c : Else-raised-table) → pointsOf c.args.state.shape ≤ c.raise-raised.result
-at-end c = omega (arith, c.raise-raised.ensures.up.long, c.if-raised-table.false)
-
 pub returns : goal.returns
-unfolding isAccepted formerTable
 returns c =
     let seen = goal.at.returns c in
     let a = c.args in
-    rw
-    (back_done a.state a.table.now a.axis (passed seen.In_default) (set seen.Else-not-has_axis)
-    (end-accepted _ _ _ (axis seen.In_default).long (limited seen.Else-not-all_in_limit) _ _ (way seen.After-table-1) (at-end seen.Else-raised-table)))
-    (ap₂ after (ap Done c.without_axis.ensures) (end-holds _ _ _ (axis seen.In_default).long (limited seen.Else-not-all_in_limit) _ _ (way seen.After-table-1) (at-end seen.Else-raised-table)))
+    let was = back-was-done a.state.shape (a.axis - 1) a.table.now c.back_on.new.table (rw c.if-not-back_on.false at c.back_on.ensures) in
+    rw (back_done a.state a.table.now a.axis (passed seen.In_default) (set seen.Else-not-has_axis) was.0)
+    (ap₂ after (ap Done c.without_axis.ensures) was.1)

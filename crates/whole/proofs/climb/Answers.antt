@@ -1,31 +1,32 @@
-use mathlib.Core.Path.{sym, ap, ◌∙◌}
-use Rattle.states.specs.declared.Answer.{Answer}
-use Rattle.states.specs.After.{after}
-use Rattle.whole.proofs.Folding.{up_done, up-refused, up_ends}
+use mathlib.Core.Path.{refl, ◌∙◌}
+use Rattle.shapes.proofs.Checked.{passed-in-range}
+use Rattle.turns.proofs.Undoing.{turned-length}
+use Rattle.whole.proofs.Climbing.{up-more, up-ends, room-first, room-next, room-there}
 use Rattle.whole.proofs.climb.Goals as goal
 
-pub returns-in-Refused : goal.returns-in-Refused
-returns-in-Refused c =
+pub loop-k-init : goal.loop-k-init
+loop-k-init c =
+    let a = c.args in
+    (c.requires.long, room-first a.shape a.from a.table.now c.requires, refl)
+
+pub lower-requires : goal.lower-requires
+lower-requires c =
     let loop = c.loop-k in
-    let axes = c.args.state.shape.axes in
-    let r = c.in-Refused.field-0 in
-    up-refused loop.k loop.at loop.at loop.table c.hierarchize.new.table axes r c.loop-k-test.true
-    (sym c.hierarchize.ensures ∙ ap (λ (x : Answer). after x c.hierarchize.new.table) c.in-Refused.is)
-    ∙ loop.invariant.1
+    let shape = c.args.shape in
+    let range = passed-in-range shape c.requires.shape in
+    room-there shape loop.k loop.table range c.loop-k-test.true loop.invariant.0 loop.invariant.1
 
 pub loop-k-preserved : goal.loop-k-preserved
 loop-k-preserved c =
     let loop = c.loop-k in
-    let axes = c.args.state.shape.axes in
-    let next = c.in-Done.next in (
-      c.hierarchize.auto.table ∙ loop.invariant.0,
-      up_done loop.k loop.at next loop.table c.hierarchize.new.table axes c.loop-k-test.true
-          (sym c.hierarchize.ensures ∙ ap (λ (x : Answer). after x c.hierarchize.new.table) c.in-Done.is)
-          ∙ loop.invariant.1,
+    let shape = c.args.shape in
+    rw c.lower.ensures.turned (
+      turned-length shape loop.k loop.table,
+      room-next shape loop.k loop.table loop.invariant.0 loop.invariant.1,
+      up-more shape loop.k loop.table c.loop-k-test.true ∙ loop.invariant.2,
     )
 
 pub returns : goal.returns
 returns c =
     let loop = c.loop-k in
-    up_ends c.args.state.shape.axes loop.k loop.at loop.table c.loop-k-test.false
-    ∙ loop.invariant.1
+    up-ends c.args.shape loop.k loop.table c.loop-k-test.false ∙ loop.invariant.2

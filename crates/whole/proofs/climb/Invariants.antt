@@ -1,13 +1,20 @@
--- `whole::climb` meets its contract. The loop's invariant: the turns still to come, from the present state and table, leave what all of them leave from the start.
--- The measure is the number of axes to come. Assumes nothing.
+-- `whole::climb` meets its contract. The loop's invariant: the turns still to come, from the present table, leave what all of them leave from the start; and
+-- the values are at most 2^47 doubled once for each axis before the present one, so that on each of eight axes there is room for a turn. The measure is the
+-- number of axes to come. Assumes nothing.
 use mathlib.Core.Path.{◌≡◌}
-use Prim.Native.Nat.{◌-◌}
+use Prim.Native.Nat.{◌+◌, ◌-◌, ◌^◌}
 use lib.ListN.{length}
+use Rattle.shapes.specs.Shapes.{pointsOf}
+use Rattle.lists.specs.Steps.{Within}
 use Rattle.whole.specs.Steps.{ascent}
 use Rattle.whole.proofs.climb.Given as goal
 
 abbrev pub invariant-loop-k : goal.invariant-loop-k
-invariant-loop-k l = (length l.table ≡ length l.initial.table) × (ascent (l.axes - l.k) l.k l.at l.table ≡ ascent (l.axes - l.initial.k) l.initial.k l.initial.at l.initial.table)
+invariant-loop-k l =
+    let shape = l.fn.shape in
+    (length l.table ≡ pointsOf shape)
+    × Within (2 ^ (47 + l.k)) l.table
+    × (ascent (shape.axes - l.k) l.k shape l.table ≡ ascent (shape.axes - l.initial.k) l.initial.k shape l.initial.table)
 
 abbrev pub decreases-loop-k : goal.decreases-loop-k
 decreases-loop-k l = l.axes - l.k

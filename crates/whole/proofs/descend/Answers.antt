@@ -1,30 +1,42 @@
-use mathlib.Core.Path.{sym, ap, ◌∙◌}
+use mathlib.Core.Path.{ap, ◌∙◌}
+use Prim.Native.Nat.{◌-◌}
 use native.Mathlib.Omega.{arith}
-use Rattle.states.specs.declared.Answer.{Answer}
-use Rattle.states.specs.After.{after}
-use Rattle.whole.proofs.Folding.{down-done, down-refused, down_ends}
+use Rattle.shapes.proofs.Checked.{passed-in-range}
+use Rattle.turns.proofs.Trying.{back-was-done, back-was-refused}
+use Rattle.whole.specs.Steps.{gone}
+use Rattle.whole.proofs.Descending.{former-inside, down-done, down-refused, down-ends}
 use Rattle.whole.proofs.descend.Goals as goal
 
-pub returns-in-Refused : goal.returns-in-Refused
-returns-in-Refused c =
+pub back_on-requires : goal.back_on-requires
+back_on-requires c =
     let loop = c.loop-k in
-    let r = c.in-Refused.field-0 in
-    down-refused loop.k loop.at loop.table c.dehierarchize.new.table r (omega arith)
-    (sym c.dehierarchize.ensures ∙ ap (λ (x : Answer). after x c.dehierarchize.new.table) c.in-Refused.is)
-    ∙ loop.invariant.1
+    let inside = loop.invariant.1 in
+    let range = passed-in-range c.args.shape inside.shape in (
+      record { few = range.high; low = range.top; place = omega (arith, loop.invariant.0); long = inside.long },
+      inside.contents,
+    )
+
+pub returns-then-not-back_on : goal.returns-then-not-back_on
+returns-then-not-back_on c =
+    let loop = c.loop-k in
+    let shape = c.args.shape in
+    let was = back-was-refused shape (loop.k - 1) loop.table c.back_on.new.table c.if-not-back_on.ensures in
+    ap (gone loop.k) was.1
+    ∙ down-refused shape loop.k loop.table c.loop-k-test.true was.0
+    ∙ loop.invariant.2
 
 pub loop-k-preserved : goal.loop-k-preserved
 loop-k-preserved c =
     let loop = c.loop-k in
-    let next = c.in-Done.next in (
-      c.dehierarchize.auto.table ∙ loop.invariant.0,
-      down-done loop.k loop.at next loop.table c.dehierarchize.new.table (omega arith)
-          (sym c.dehierarchize.ensures ∙ ap (λ (x : Answer). after x c.dehierarchize.new.table) c.in-Done.is)
-          ∙ loop.invariant.1,
+    let shape = c.args.shape in
+    let was = back-was-done shape (loop.k - 1) loop.table c.back_on.new.table c.if-not-back_on.ensures in
+    rw was.1 (
+      omega (arith, loop.invariant.0),
+      former-inside shape (loop.k - 1) loop.table loop.invariant.1 was.0,
+      down-done shape loop.k loop.table c.loop-k-test.true was.0 ∙ loop.invariant.2,
     )
 
 pub returns : goal.returns
 returns c =
     let loop = c.loop-k in
-    down_ends loop.k loop.at loop.table c.loop-k-test.false
-    ∙ loop.invariant.1
+    down-ends c.args.shape loop.k loop.table c.loop-k-test.false ∙ loop.invariant.2

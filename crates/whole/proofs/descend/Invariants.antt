@@ -1,12 +1,14 @@
--- `whole::descend` meets its contract. The loop's invariant: the turns still to come, from the present state and table, lead to where all of them lead from the
--- start. The measure is the number of axes to come. Assumes nothing.
+-- `whole::descend` meets its contract. The loop's invariant: the table is one of the shape, within the limit, and the back turns still to come lead from it to
+-- where all of them lead from the start. The measure is the number of axes to come. Assumes nothing.
 use mathlib.Core.Path.{◌≡◌}
-use lib.ListN.{length}
-use Rattle.whole.specs.Steps.{descent}
+use Prim.Native.Nat.{◌≤◌}
+use Rattle.whole.specs.Steps.{InTable, descent}
 use Rattle.whole.proofs.descend.Given as goal
 
 abbrev pub invariant-loop-k : goal.invariant-loop-k
-invariant-loop-k l = (length l.table ≡ length l.initial.table) × (descent l.k l.at l.table ≡ descent l.initial.k l.initial.at l.initial.table)
+invariant-loop-k l =
+    let shape = l.fn.shape in
+    (l.k ≤ shape.axes) × InTable shape l.table × (descent l.k shape l.table ≡ descent l.initial.k shape l.initial.table)
 
 abbrev pub decreases-loop-k : goal.decreases-loop-k
 decreases-loop-k l = l.k

@@ -475,7 +475,8 @@ pub fn of_estimates(draw: &mut Draw, report: &mut Report) {
         estimates::estimate(draw, report, 1, 1, 1, table, &[x]);
     }
     let past = [16, 4, 12, 0, -PAST];
-    let others: [(u32, u32, u8, &[i64], &[u32]); 33] = [
+    type Case<'a> = (u32, u32, u8, &'a [i64], &'a [u32]);
+    let others: [Case; 33] = [
         (2, 1, 0, &[], &[65_537]),
         (2, 1, 3, &[PAST, 0, 0, 0], &[0, 65_537]),
         (2, 1, 3, &[0, 0, 0, 0, 0, PAST], &[0, 0]),

@@ -5,6 +5,7 @@ use crate::draw::Draw;
 use crate::inputs;
 use crate::lent;
 use crate::model::turns as model;
+use crate::model::Refused;
 use crate::report::Report;
 use numolefays::{boundary, Shape, State};
 
@@ -19,9 +20,25 @@ pub fn turn(
     table: &[i64],
     axis: u32,
 ) {
-    let call = if back { "back" } else { "forward" };
     let want = model::turn(back, axes, level, bits, table, axis);
-    report.case(call, answer(&want).0);
+    against(draw, report, back, axes, level, bits, table, axis, &want);
+}
+
+/// A call that has to answer this.
+#[allow(clippy::too_many_arguments)]
+pub fn against(
+    draw: &mut Draw,
+    report: &mut Report,
+    back: bool,
+    axes: u32,
+    level: u32,
+    bits: u8,
+    table: &[i64],
+    axis: u32,
+    want: &Result<(Vec<i64>, u8), Refused>,
+) {
+    let call = if back { "back" } else { "forward" };
+    report.case(call, answer(want).0);
     let say = || format!("axes {axes} level {level} bits {bits:#x} axis {axis} table {}", short(table));
     let want_table = want.as_ref().map_or(table, |w| &w.0);
     let want_bits = want.as_ref().map_or(bits, |w| w.1);
@@ -33,7 +50,7 @@ pub fn turn(
     } else {
         boundary::forward(axes, level, &mut forward, lent.slice(), axis, &mut at)
     };
-    report.same(call, "answer and place", &answer(&want), &(got, at), &say);
+    report.same(call, "answer and place", &answer(want), &(got, at), &say);
     report.same(call, "bits", &want_bits, &forward, &say);
     report.same(call, "table", want_table, lent.contents(), &say);
     report.same(call, "outside the table", &true, &lent.guarded(), &say);

@@ -7,6 +7,7 @@ pub mod component;
 pub mod estimates;
 pub mod files;
 pub mod grid;
+pub mod lists;
 pub mod orders;
 pub mod points;
 pub mod rates;

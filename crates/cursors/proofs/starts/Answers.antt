@@ -1,0 +1,35 @@
+use mathlib.Core.Path.{◌≡◌, refl, sym}
+use Prim.Native.Nat.{◌+◌, ◌*◌, ◌%◌, ◌^◌}
+use native.Mathlib.Numerals.{add-one}
+use native.Mathlib.Omega.{arith}
+use Rattle.numbering.specs.Count.{start}
+use Rattle.shapes.proofs.Totals.{start-zero, start_small, turn}
+use Rattle.cursors.proofs.Filling.{fills}
+use Rattle.cursors.proofs.starts.Goals.{After-vector_count}
+use Rattle.cursors.proofs.starts.Goals as goal
+
+pub loop-s-init : goal.loop-s-init
+loop-s-init c =
+    let first : 0 ≡ start c.args.line.axes 0 = sym (start-zero c.args.line.axes) in
+    (omega arith, first, record { size = refl; holds = λ i from to. let same : i ≡ 0 = omega arith in rw same first })
+
+-- the total after a turn of the loop
+turned : (c : After-vector_count) →
+    c.loop-s.total + c.vector_count.result * 2 ^ c.loop-s.s % 2 ^ 64 ≡ start c.args.line.axes (c.loop-s.s + 1)
+turned c =
+    let on = c.requires in
+    let axes = c.args.line.axes in
+    rw add-one
+    (turn axes (omega (arith, on.place)) on.few c.loop-s.s c.loop-s.total c.vector_count.result (omega (arith, on.low))
+    c.loop-s.invariant.1 c.vector_count.ensures)
+
+pub overflow_add-total : goal.overflow_add-total
+overflow_add-total c =
+    let on = c.requires in
+    let small = start_small c.args.line.axes (omega (arith, on.place)) on.few (c.loop-s.s + 1) (omega (arith, on.low)) in
+    omega (arith, small, turned (goal.at.overflow_add-total c).After-vector_count)
+
+pub loop-s-preserved : goal.loop-s-preserved
+loop-s-preserved c =
+    let total = turned (goal.at.loop-s-preserved c).After-vector_count in
+    (omega arith, total, fills (c.loop-s.s + 1) _ c.loop-s.invariant.2 (omega (arith, c.requires.low)) total)

@@ -1,0 +1,79 @@
+-- Steps of a turn and odd sums. Half of a number up to 2b on either side of zero is up to b, so a step moves a value by at most half the bound of its sum; by
+-- zero it stays. What is up to 2^62 is a number of 64 bits. The lowest bit of a number is 1 where it is odd.
+-- Assumes nothing.
+use mathlib.Core.Path.{◌≡◌, refl, ◌∙◌}
+use mathlib.Core.Bool.{Bool, true, false}
+use Prim.Native.Nat.{ℕ, suc, ◌+◌, ◌-◌, ◌*◌, ◌%◌, ◌^◌, ◌≤◌, ◌<◌}
+use native.Mathlib.Omega.{arith}
+use lib.Bits.{bit_and, and_mask}
+use lib.Dec.{eqb}
+use lib.IntN.{ℤ, pos, negsuc, nat_abs, ◌+ℤ◌, ◌-ℤ◌, +ℤ_idr}
+use mir.Syntax.{w64}
+use mir.Val.{SFits, of_z}
+use Rattle.integers.specs.Half.{half, isEven, oddOf, stepped}
+use Rattle.integers.proofs.Sizes.{sum-size, difference-size}
+
+-- ---- sizes
+
+pub below-fits : (z : ℤ) → nat_abs z < 2 ^ 63 → SFits w64 z
+below-fits (pos n) h = record { sfits = omega arith }
+below-fits (negsuc n) h = record { sfits = omega arith }
+
+pub within-fits : (z : ℤ) → nat_abs z ≤ 2 ^ 62 → SFits w64 z
+within-fits z h = below-fits z (omega arith)
+
+pub sum-within : (b : ℕ) (a c : ℤ) → nat_abs a ≤ b → nat_abs c ≤ b → nat_abs (a +ℤ c) ≤ 2 * b
+sum-within b a c ha hc = omega (arith, sum-size a c)
+
+pub half-within : (b : ℕ) (s : ℤ) → nat_abs s ≤ 2 * b → nat_abs (half s) ≤ b
+unfolding half
+half-within b (pos n) h = omega arith
+half-within b (negsuc n) h = omega arith
+
+-- ---- steps
+
+pub stepped-forward : (v s : ℤ) → stepped true v s ≡ v -ℤ half s
+unfolding stepped
+stepped-forward v s = refl
+
+pub stepped-back : (v s : ℤ) → stepped false v s ≡ v +ℤ half s
+unfolding stepped
+stepped-back v s = refl
+
+pub stepped-within : (ahead : Bool) (b c : ℕ) (v s : ℤ) → nat_abs v ≤ b → nat_abs s ≤ 2 * c → nat_abs (stepped ahead v s) ≤ b + c
+unfolding stepped
+stepped-within true b c v s hv hs = omega (arith, difference-size v (half s), half-within c s hs)
+stepped-within false b c v s hv hs = omega (arith, sum-size v (half s), half-within c s hs)
+
+pub stepped-fits : (ahead : Bool) (v s : ℤ) → nat_abs v ≤ 2 ^ 62 → nat_abs s ≤ 2 ^ 62 → SFits w64 (stepped ahead v s)
+stepped-fits ahead v s hv hs =
+    below-fits (stepped ahead v s) (omega (arith, stepped-within ahead (2 ^ 62) (2 ^ 61) v s hv (omega arith)))
+
+-- A sum of zero moves nothing.
+pub stepped-zero : (ahead : Bool) (v : ℤ) → stepped ahead v (pos 0) ≡ v
+unfolding stepped half
+stepped-zero true v = +ℤ_idr v
+stepped-zero false v = +ℤ_idr v
+
+-- ---- odd numbers
+
+pub odd_small : (z : ℤ) → oddOf z ≤ 1
+unfolding oddOf
+odd_small z = omega arith
+
+pub even-odd : (z : ℤ) → isEven z ≡ eqb (oddOf z) 0
+unfolding isEven oddOf
+even-odd z = refl
+
+pub odd-zero : oddOf (pos 0) ≡ 0
+unfolding oddOf
+odd-zero = refl
+
+-- The lowest bit of the 64 that stand for a number, also below zero.
+pub lowest-odd : (z : ℤ) → SFits w64 z → bit_and (of_z w64 z) 1 ≡ oddOf z
+unfolding oddOf
+lowest-odd (pos n) f = and_mask n 1
+lowest-odd (negsuc n) f =
+    let h : n < 2 ^ 63 = f.sfits in
+    let e : (2 ^ 64 - suc n) % 2 ≡ suc n % 2 = omega arith in
+    and_mask (2 ^ 64 - suc n) 1 ∙ e

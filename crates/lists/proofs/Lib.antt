@@ -1,0 +1,8 @@
+pub mod Between
+pub mod Running
+pub mod Joining
+pub mod Sums
+pub mod Blocks
+pub mod Points
+pub mod Lists
+pub mod Turned

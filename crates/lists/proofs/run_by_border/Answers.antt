@@ -1,0 +1,38 @@
+use mathlib.Core.Path.{ap, ap₂, ◌∙◌}
+use native.Mathlib.Omega.{arith}
+use lib.IntN.{nat_abs}
+use Rattle.integers.specs.Half.{oddOf, stepped}
+use Rattle.integers.proofs.Steps.{odd_small}
+use Rattle.lists.proofs.Running.{stored-is, run-starts, run-steps, run-few, behind-read, ahead-read}
+use Rattle.lists.proofs.run_by_border.Goals as goal
+
+pub loop-i-init : goal.loop-i-init
+loop-i-init c = (run-starts, omega arith)
+
+pub overflow_add-odd : goal.overflow_add-odd
+overflow_add-odd c =
+    let pre = c.requires in
+    omega (arith, run-few c.loop-i.invariant.0, c.loop-i-test.true, pre.1, pre.2, c.odd-odd.ensures, odd_small)
+
+pub step-requires : goal.step-requires
+step-requires c =
+    let pre = c.requires in
+    let i = c.loop-i.i in
+    let run = c.loop-i.invariant.0 in
+    let lt = c.loop-i-test.true in (
+      omega (arith, ap nat_abs (ahead-read run c.args.width pre.3 lt), pre.3 i lt),
+      omega (arith, ap nat_abs (behind-read run c.args.width c.args.a pre.0 pre.4 lt), pre.4 i lt),
+    )
+
+pub loop-i-preserved : goal.loop-i-preserved
+loop-i-preserved c =
+    let pre = c.requires in
+    let i = c.loop-i.i in
+    let run = c.loop-i.invariant.0 in
+    let lt = c.loop-i-test.true in
+    let sum = behind-read run c.args.width c.args.a pre.0 pre.4 lt in (
+      run-steps run _ _ (omega (arith, pre.1)) (c.odd-odd.ensures ∙ ap oddOf sum)
+          (stored-is _ _ _ _ (pre.3 i lt) (omega (arith, pre.4 i lt))
+          (c.step.ensures ∙ ap₂ (stepped c.args.forward) (ahead-read run c.args.width pre.3 lt) sum)),
+      omega arith,
+    )
