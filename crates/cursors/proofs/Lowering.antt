@@ -9,35 +9,19 @@ use native.Mathlib.Omega.{arith}
 use borrow.Author.Tests.{le-leb, lt-leb}
 use Rattle.naturals.specs.Sum.{sumTo}
 use Rattle.naturals.proofs.Cases.{le-or-lt, eq-or-not}
-use Rattle.naturals.proofs.Sums.{sumTo-zero, sumTo-suc, sumTo-mono}
+use Rattle.naturals.proofs.Sums.{sumTo-zero, sumTo-suc}
 use Rattle.numbering.specs.Count.{vectors}
 use Rattle.numbering.specs.Number.{ending, rank}
 use Rattle.numbering.specs.Inverse.{levelOf}
 use Rattle.numbering.specs.Parent.{update}
-use Rattle.numbering.proofs.Rank.{ending-is, rank-zero, rank-suc, rank_lt, rank-cong}
+use Rattle.numbering.proofs.Rank.{rank-zero, rank-suc, rank_lt, rank-cong}
+use Rattle.numbering.proofs.Ordering.{rank_less}
 use Rattle.numbering.proofs.Unrank.{level-of-rank, sum-of-level, rank-of-level}
 use Rattle.numbering.proofs.Parents.{update_same, update_other, update-sum}
 use Rattle.cursors.specs.Steps.{reaches, passed}
 use Rattle.cursors.proofs.Marks.{Marks, marks-before, all-marks}
 
 -- ---- the order of level vectors
-
--- A smaller last level, at the same level sum, gives a smaller rank.
-rank_less : (l m : ℕ → ℕ) (k : ℕ) → sumTo l (suc k) ≡ sumTo m (suc k) → l k < m k → rank l (suc k) < rank m (suc k)
-rank_less l m k e h =
-    let s : ℕ = sumTo l (suc k) in
-    let left : s - l k ≡ sumTo l k = omega (arith, sumTo-suc l k) in
-    omega (
-      arith,
-      rank-suc l k,
-      rank-suc m k,
-      rank_lt l k,
-      sumTo-suc (ending k s) (l k),
-      ending-is k s (l k),
-      ap (vectors k) left,
-      sumTo-mono (ending k s) (suc (l k)) (m k) h,
-      ap (λ (u : ℕ). sumTo (ending k u) (m k)) e,
-    )
 
 -- Two level vectors added axis by axis.
 abbrev plus : (ℕ → ℕ) → (ℕ → ℕ) → ℕ → ℕ

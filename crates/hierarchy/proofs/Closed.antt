@@ -161,7 +161,3 @@ module _ (nb : Neighbours) where
               ∙ ap twice s.after
               ∙ sym (turned-twice nb t s.rest);
         }))
-
-  -- The table of a set looks at the axes below d alone.
-  pub table-cong : (d : ℕ) (set other : ℕ → Bool) (r : ℕ → ℤ) → ((t : ℕ) → t < d → set t ≡ other t) → tableOf nb d set r ≡ tableOf nb d other r
-  table-cong d set other r same = table-closed d set r ∙ closed-cong set other d r same ∙ sym (table-closed d other r)

@@ -2,7 +2,7 @@
 -- Assumes nothing.
 use mathlib.Core.Path.{◌≡◌, refl, ap, ◌∙◌}
 use Prim.Native.Nat.{ℕ}
-use lib.IntN.{ℤ, pos, ◌+ℤ◌, ◌-ℤ◌, +ℤ_idr}
+use lib.IntN.{ℤ, pos, ◌-ℤ◌, +ℤ_idr}
 use Rattle.integers.specs.Half.{half}
 use Rattle.numbering.specs.declared.Side.TheVariants.{Left, Right}
 use Rattle.hierarchy.specs.Grid.{Neighbours, Still}
@@ -20,10 +20,6 @@ module _ (nb : Neighbours) (t : ℕ) (f : ℕ → ℤ) (z : f 0 ≡ pos 0) (p : 
   half-still : half (sumOn nb t f p) ≡ pos 0
   half-still = ap half sum-still ∙ half-zero
 
-  -- Neither by a step forward nor by one back.
   pub forward-still : forward nb t f p ≡ f p
   unfolding forward
   forward-still = ap (λ (h : ℤ). f p -ℤ h) half-still ∙ +ℤ_idr (f p)
-
-  pub back-still : f p +ℤ half (sumOn nb t f p) ≡ f p
-  back-still = ap (λ (h : ℤ). f p +ℤ h) half-still ∙ +ℤ_idr (f p)

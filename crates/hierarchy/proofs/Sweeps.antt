@@ -1,6 +1,6 @@
--- A turn in one table, by number. Forward goes down: when a point is turned, its parents, whose numbers are smaller or which do not move, hold what they held,
--- so the step is ready and the theorem on orders of work says what the table then holds. Back, the result at a point is its value plus half the sum of the result at
--- its parents.
+-- Single steps of one axis, down by number, are a legal order of work. When the step of a point comes, its parents, whose numbers are smaller or which do not
+-- move, hold what they held, so the step is ready, and the theorem on orders of work says what the table then holds. Before it: what a table with two halves
+-- and a table after a store hold, and that the result of a back turn at a point is its value plus half the sum of the result at its parents.
 -- Assumes nothing.
 use mathlib.Core.Path.{◌≡◌, refl, ap, sym, ◌∙◌, fun_ext}
 use mathlib.Core.Logic.{◌⊎◌, inl, inr, ⊎_elim}
@@ -9,7 +9,7 @@ use Prim.Native.Nat.{ℕ, zero, suc, ◌≤◌, ◌<◌}
 use native.Mathlib.Nat.{suc_inj}
 use native.Mathlib.Omega.{arith}
 use lib.Dec.{leb}
-use lib.IntN.{ℤ, pos, ◌+ℤ◌, ◌-ℤ◌, -ℤ-+ℤ_cancel}
+use lib.IntN.{ℤ, pos, ◌+ℤ◌, -ℤ-+ℤ_cancel}
 use lib.ListN.{length, set}
 use lib.Seq.{get_or-set_same, get_or-set_other}
 use borrow.Author.Tests.{le-leb, lt-leb}
@@ -19,10 +19,10 @@ use Rattle.integers.specs.Half.{half}
 use Rattle.numbering.specs.declared.Side.TheVariants.{Left, Right}
 use Rattle.hierarchy.specs.Grid.{Neighbours, Still, Late, Grid}
 use Rattle.hierarchy.specs.Turns.{valueAt, valuesOf, sumOn, forward, backward}
-use Rattle.hierarchy.specs.Work.{put, Item, worked, Ready, allWorked, countsAfter, Legal, mixed}
+use Rattle.hierarchy.specs.Work.{put, Item, Ready, allWorked, countsAfter, Legal, mixed}
 use Rattle.hierarchy.proofs.Inverse.{forward-is, forward-zero, forward-of-back}
 use Rattle.hierarchy.proofs.Values.{value-zero, value-suc, values-of-value}
-use Rattle.hierarchy.proofs.Work.{put_same, put_other, Stages, Holds, step-holds, order-of-work}
+use Rattle.hierarchy.proofs.Work.{put_same, put_other, Stages, Holds, order-of-work}
 
 -- ---- a table with two halves
 
@@ -66,7 +66,7 @@ result-at m nb depth grid t k shallow x z p =
     (sym (forward-of-back m nb depth grid t k x z p (shallow p)) ∙ forward-is m nb depth grid t (backward nb k t x) p)
     ∙ -ℤ-+ℤ_cancel (backward nb k t x p) (half (backward nb k t x (nb t Left p) +ℤ backward nb k t x (nb t Right p))))
 
--- ---- forward, from point number k − 1 down, on an axis of a grid where a parent has a smaller number or does not move
+-- ---- forward, from the last point down, on an axis of a grid where a parent has a smaller number or does not move
 
 module _ (m : ℕ) (nb : Neighbours) (depth : ℕ → ℕ → ℕ) (grid : Grid m nb depth) (t : ℕ) (late : Late nb t) where
   -- The tables after each turn of the axis.
@@ -162,42 +162,3 @@ module _ (m : ℕ) (nb : Neighbours) (depth : ℕ → ℕ → ℕ) (grid : Grid 
       (λ p.
       ap (λ (j : ℕ). turns f j p)
       (sym (le-or-lt p from (λ low. not_done from from p low) (λ high. beyond-done from from p high high))))
-
-  -- The table part of the way down: points up to k still hold what they held, those above and up to `from` are turned.
-  pub record Sweeping (f : ℕ → ℤ) (from k : ℕ) (g : ℕ → ℤ) : Type 0 where
-    pub low : (p : ℕ) → p ≤ k → g p ≡ f p
-    pub turned : (p : ℕ) → k < p → p ≤ from → g p ≡ forward nb t f p
-    pub high : (p : ℕ) → from < p → g p ≡ f p
-
-  as-held : (f : ℕ → ℤ) (from k : ℕ) (g : ℕ → ℤ) → k ≤ from → Sweeping f from k g → Holds nb one-axis (turns f) (done from k) g
-  unfolding turns
-  as-held f from k g le s p =
-      le-or-lt p k
-      (λ low. s.low p low ∙ ap (λ (j : ℕ). turns f j p) (sym (not_done from k p low)))
-      (λ high.
-      le-or-lt p from
-      (λ in-range. s.turned p high in-range ∙ ap (λ (j : ℕ). turns f j p) (sym (is-done from k p high in-range)))
-      (λ past. s.high p past ∙ ap (λ (j : ℕ). turns f j p) (sym (beyond-done from k p high past))))
-
-  as-swept : (f : ℕ → ℤ) (from k : ℕ) (g : ℕ → ℤ) → k ≤ from → Holds nb one-axis (turns f) (done from k) g → Sweeping f from k g
-  unfolding turns
-  as-swept f from k g le h =
-      record {
-        low = λ p low. h p ∙ ap (λ (j : ℕ). turns f j p) (not_done from k p low);
-        turned = λ p high in-range. h p ∙ ap (λ (j : ℕ). turns f j p) (is-done from k p high in-range);
-        high = λ p past. h p ∙ ap (λ (j : ℕ). turns f j p) (beyond-done from k p (omega arith) past);
-      }
-
-  pub sweep-starts : (f : ℕ → ℤ) (from : ℕ) → Sweeping f from from f
-  sweep-starts f from = record { low = λ p h. refl; turned = λ p h le. absurd (omega arith); high = λ p h. refl }
-
-  -- One step down, by the theorem on orders of work.
-  pub sweep-steps : (f : ℕ → ℤ) (from k : ℕ) (g : ℕ → ℤ) → f 0 ≡ pos 0 → suc k ≤ from → Sweeping f from (suc k) g →
-      Sweeping f from k (put g (suc k) (g (suc k) -ℤ half (sumOn nb t g (suc k))))
-  unfolding worked one-axis
-  sweep-steps f from k g z le s =
-      as-swept f from k (put g (suc k) (g (suc k) -ℤ half (sumOn nb t g (suc k)))) (omega arith)
-      (λ p.
-      step-holds nb one-axis (turns f) (stages f z) (record { stage = 0; point = suc k }) (done from (suc k)) g (ready from k)
-      (as-held f from (suc k) g le s) p
-      ∙ ap (λ (j : ℕ). turns f j p) (done-put from k le p))

@@ -26,11 +26,11 @@ use Rattle.shapes.specs.declared.Shape.{Shape}
 use Rattle.shapes.specs.Shapes.{pointsOf}
 use Rattle.grids.specs.Grids.{neighbour}
 use Rattle.neighbours.specs.declared.Subspace.{Subspace}
-use Rattle.neighbours.specs.Steps.{sparseOf, Seen, Below}
+use Rattle.neighbours.specs.Steps.{sparseOf, Seen}
 use Rattle.neighbours.proofs.Beside.{bits, end-inside, parent-before, flat}
 use Rattle.neighbours.proofs.Runs.{block-whole}
 use Rattle.lists.specs.Lists.{between, steppedAt, steppedBetween, listWorked}
-use Rattle.lists.specs.Steps.{OnAxis, Within, RunStepped, Stepped}
+use Rattle.lists.specs.Steps.{OnAxis, RunStepped, Stepped}
 use Rattle.lists.proofs.Between.{between-low, between-inside, between-high}
 use Rattle.lists.proofs.Joining.{none-stepped, stepped-few, run-joins, part-joins}
 use Rattle.lists.proofs.Blocks.{table-small}
@@ -104,26 +104,47 @@ flat-stepped {v} s level ahead xs =
 
 -- ---- block after block
 
-module _ {v : Subspace} {starts : List ℕ} {xs : List ℤ} (s : Seen v) (held : Below v starts) (moves : 1 ≤ v.own) (on : OnAxis (sparseOf v.line) v.line.place xs)
-    (within : Within (2 ^ 60) xs) where
-  pub size-is : 1 * 2 ^ (v.low + v.own) % 2 ^ 64 ≡ 2 ^ (v.low + v.own)
+-- The blocks before number `first` are done; there are `beyond` of them.
+pub record BlocksDone (ahead : Bool) (v : Subspace) (beyond first : ℕ) (xs : List ℤ) (k : ℕ) (ys : List ℤ) : Type 0 where
+  pub place : first ≡ v.start + beyond * 2 ^ (v.low + v.own)
+  pub inside : first ≤ v.end
+  pub stepped : Stepped ahead (sparseOf v.line) v.line.place v.start first xs k ys
+
+module _ {v : Subspace} {xs : List ℤ} (s : Seen v) (on : OnAxis (sparseOf v.line) v.line.place xs) where
+  -- The number of points of a block, as the code computes it: no bit is lost.
+  size-is : 1 * 2 ^ (v.low + v.own) % 2 ^ 64 ≡ 2 ^ (v.low + v.own)
   size-is = one_shifted 64 (v.low + v.own) (omega (arith, bits s))
 
-  pub list-small : v.end < 2 ^ 32
+  list-small : v.end < 2 ^ 32
   list-small = omega (arith, end-inside s, on.long, table-small v.line xs on)
 
-  -- The blocks before number `first` are done.
-  module _ {ahead : Bool} {first k : ℕ} {ys : List ℤ} (done : Stepped ahead (sparseOf v.line) v.line.place v.start first xs k ys) where
-    pub odds-small : first ≤ v.end → k ≤ 2 ^ 33
-    odds-small most = omega (arith, stepped-few done, list-small)
+  blocks-few : {ahead : Bool} {beyond first k : ℕ} {ys : List ℤ} → BlocksDone ahead v beyond first xs k ys → k ≤ 2 ^ 33
+  blocks-few done = omega (arith, stepped-few done.stepped, done.inside, list-small)
 
-    module _ (beyond : ℕ) (first-is : first ≡ v.start + beyond * 2 ^ (v.low + v.own)) (more : first < v.end) where
-      pub block-inside : first + 2 ^ (v.low + v.own) ≤ v.end
-      block-inside = omega (arith, first-is, block-whole s beyond (omega (arith, first-is, more)))
+  module _ {ahead : Bool} {beyond first k : ℕ} {ys : List ℤ} (done : BlocksDone ahead v beyond first xs k ys) (more : first < v.end) where
+    abbrev size : ℕ
+    size = 1 * 2 ^ (v.low + v.own) % 2 ^ 64
 
-      pub block-joins : {k' : ℕ} {zs : List ℤ} →
-          Stepped ahead (sparseOf v.line) v.line.place first (first + 2 ^ (v.low + v.own)) ys k' zs →
-          Stepped ahead (sparseOf v.line) v.line.place v.start (first + 2 ^ (v.low + v.own)) xs (k + k') zs
-      block-joins next =
-          part-joins done (omega (arith, first-is)) (omega arith) next
-          (λ p from to b. list-before s p (omega (arith, first-is)) (omega (arith, block-inside)) b)
+    block-inside : first + 2 ^ (v.low + v.own) ≤ v.end
+    block-inside = omega (arith, done.place, block-whole s beyond (omega (arith, done.place, more)))
+
+    pub next-small : first + size < 2 ^ 32
+    next-small = omega (arith, size-is, block-inside, list-small)
+
+    pub next-nearer : v.end - (first + size) < v.end - first
+    next-nearer = omega (arith, size-is, pow_pos (v.low + v.own), more)
+
+    module _ {k' : ℕ} {zs : List ℤ} (next : Stepped ahead (sparseOf v.line) v.line.place first (first + 2 ^ (v.low + v.own)) ys k' zs) where
+      pub next-done : BlocksDone ahead v (beyond + 1) (first + size) xs (k + k') zs
+      next-done =
+          record {
+            place = omega (arith, done.place, size-is);
+            inside = omega (arith, size-is, block-inside);
+            stepped =
+                rw size-is
+                (part-joins done.stepped (omega (arith, done.place)) (omega arith) next
+                (λ p from to b. list-before s p (omega (arith, done.place)) (omega (arith, block-inside)) b));
+          }
+
+      pub next-few : k + k' ≤ 2 ^ 33
+      next-few = blocks-few next-done

@@ -15,14 +15,13 @@ use Rattle.numbering.specs.declared.Side.{Side}
 use Rattle.numbering.specs.declared.Side.TheVariants.{Left, Right}
 use Rattle.numbering.specs.Point.{at}
 use Rattle.hierarchy.specs.Turns.{valueAt, valuesOf, sumOn, forward, backward}
-use Rattle.hierarchy.proofs.Inverse.{backward-zero, backward-past}
-use Rattle.hierarchy.proofs.Values.{value-zero, value-suc, value-past, values-at, value-of-values}
+use Rattle.hierarchy.proofs.Values.{value-zero}
 use Rattle.hierarchy.proofs.Sweeps.{result-at}
 use Rattle.shapes.specs.declared.Shape.{Shape}
 use Rattle.shapes.specs.Shapes.{pointsOf}
 use Rattle.grids.specs.Grids.{neighbour, depth, height}
-use Rattle.grids.specs.Turned.{turnedTable, formerTable}
 use Rattle.grids.proofs.Instance.{grid, shallow}
+use Rattle.grids.proofs.Turned.{turned-holds, former-holds}
 use Rattle.neighbours.specs.declared.Subspace.{Subspace}
 use Rattle.neighbours.specs.Steps.{sparseOf, Seen}
 use Rattle.neighbours.proofs.Beside.{end-inside}
@@ -38,23 +37,15 @@ forward-is : (s : Shape) (t : ℕ) (f : ℕ → ℤ) (q : ℕ) → forward (neig
 unfolding forward
 forward-is s t f q = refl
 
-turned-value : (s : Shape) (t : ℕ) (xs : List ℤ) (p : ℕ) → p < pointsOf s →
-    valueAt (wholeTurn true s t xs) (suc p) ≡ valueAt xs (suc p) -ℤ half (sumOn (neighbour s) t (valueAt xs) (suc p))
-unfolding wholeTurn turnedTable
-turned-value s t xs p h =
-    value-suc (valuesOf (pointsOf s) (forward (neighbour s) t (valueAt xs))) p
-    ∙ values-at (pointsOf s) (forward (neighbour s) t (valueAt xs)) p h
-    ∙ forward-is s t (valueAt xs) (suc p)
+turned-value : (s : Shape) (t : ℕ) (xs : List ℤ) → length xs ≡ pointsOf s → (q : ℕ) →
+    valueAt (wholeTurn true s t xs) q ≡ valueAt xs q -ℤ half (sumOn (neighbour s) t (valueAt xs) q)
+unfolding wholeTurn
+turned-value s t xs long q = ap (λ (f : ℕ → ℤ). f q) (turned-holds s t xs long) ∙ forward-is s t (valueAt xs) q
 
 former-values : (s : Shape) (t : ℕ) (xs : List ℤ) → length xs ≡ pointsOf s →
     valueAt (wholeTurn false s t xs) ≡ backward (neighbour s) (height s) t (valueAt xs)
-unfolding wholeTurn formerTable
-former-values s t xs long =
-    value-of-values (pointsOf s) (backward (neighbour s) (height s) t (valueAt xs))
-    (backward-zero (pointsOf s) (neighbour s) (depth s) (grid s) t (height s) (valueAt xs) (value-zero xs))
-    (λ q past.
-    backward-past (pointsOf s) (neighbour s) (depth s) (grid s) t (height s) (valueAt xs) (value-zero xs) q past
-    ∙ value-past xs q (omega (arith, long)))
+unfolding wholeTurn
+former-values s t xs long = former-holds s t xs long
 
 former-value : (s : Shape) (t : ℕ) (xs : List ℤ) → length xs ≡ pointsOf s → (q : ℕ) →
     valueAt (wholeTurn false s t xs) q ≡ valueAt xs q +ℤ half (sumOn (neighbour s) t (valueAt (wholeTurn false s t xs)) q)
@@ -87,7 +78,7 @@ module _ (s : Shape) (t lo hi k : ℕ) (xs ys zs : List ℤ) (long : length xs �
         ∙ ap₂ (stepped true) (old-up-to (suc p) to)
         (same-sums s t (valueAt ys) (valueAt xs) (suc p) (λ b. old-up-to (neighbour s t b (suc p)) (omega (arith, before p from to b))))
         ∙ stepped-forward (valueAt xs (suc p)) (sumOn (neighbour s) t (valueAt xs) (suc p))
-        ∙ sym (turned-value s t xs p (omega arith))
+        ∙ sym (turned-value s t xs long (suc p))
 
   module _ (came : ys ≡ valuesOf (pointsOf s) (between 0 lo (valueAt (wholeTurn false s t xs)) (valueAt xs)))
       (done : Stepped false s t lo hi ys k zs) where

@@ -121,6 +121,31 @@ fn line(
 
 // ---- a level list
 
+// Block after block, of a level list that moves on the axis.
+fn all_blocks(forward: bool, v: Subspace, starts: &[u64; 9], table: &mut [i64]) -> u64
+    requires { Seen v × Below v starts.now × (1 ≤ v.own) × OnAxis (sparseOf v.line) v.line.place table.old × Within (2 ^ 60) table.old }
+    ensures { Stepped forward (sparseOf v.line) v.line.place v.start v.end table.old result table.new }
+{
+    let size: u64 = 1 << (v.low + v.own);
+    let mut odd: u64 = 0;
+    let mut first = v.start;
+    let mut beyond: u64 = 0;
+    if v.low == 0 {
+        while first < v.end {
+            odd += line(forward, v, starts, table, first, beyond);
+            first += size;
+            beyond += 1;
+        }
+    } else {
+        while first < v.end {
+            odd += block(forward, v, starts, table, first, beyond);
+            first += size;
+            beyond += 1;
+        }
+    }
+    odd
+}
+
 // A step at each point of a level list, forward or back; answers how many of the sums are odd. Where the list has level 0 on the axis nothing moves. In a turn
 // that has come so far, the list's points then hold what the whole turn leaves them, and no other place changes.
 pub fn work(forward: bool, v: Subspace, starts: &[u64; 9], table: &mut [i64]) -> u64
@@ -132,18 +157,5 @@ pub fn work(forward: bool, v: Subspace, starts: &[u64; 9], table: &mut [i64]) ->
     if v.own == 0 {
         return 0;
     }
-    let size: u64 = 1 << (v.low + v.own);
-    let mut odd: u64 = 0;
-    let mut first = v.start;
-    let mut beyond: u64 = 0;
-    while first < v.end {
-        if v.low == 0 {
-            odd += line(forward, v, starts, table, first, beyond);
-        } else {
-            odd += block(forward, v, starts, table, first, beyond);
-        }
-        first += size;
-        beyond += 1;
-    }
-    odd
+    all_blocks(forward, v, starts, table)
 }

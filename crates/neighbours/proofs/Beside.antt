@@ -22,7 +22,7 @@ use Rattle.numbering.specs.Parent.{numerator, isBorder, twos, parentLevel, paren
 use Rattle.numbering.proofs.Position.{position-low}
 use Rattle.numbering.proofs.Numbering.{points-is, start-mono, number-in-shell}
 use Rattle.numbering.proofs.Named.{Named}
-use Rattle.numbering.proofs.Subspaces.{first-is, number-from-first, indicesTo, indices-in, block-point, block-position, block-number, block-below, block-levels, block-indices}
+use Rattle.numbering.proofs.Subspaces.{first-is, number-from-first, indicesTo, indices-in, block-point, block-position, block-below, block-levels, block-indices}
 use Rattle.numbering.proofs.Parents.{border-means, Inside, inside, twos-pos, twos-le, update_other, update-sum, level-zero-border, parent-is-point, parent-sum}
 use Rattle.numbering.proofs.ParentPlaces.{moved-position}
 use Rattle.shapes.specs.Shapes.{pointsOf}
@@ -108,26 +108,6 @@ module _ {v : Subspace} {starts : List ℕ} (s : Seen v) (held : Below v starts)
         block-below v.line.axes v.line.level lowered lowered-rest (omega (arith, lowered-sum, s.sum)) 0 (pow_pos (sumTo lowered v.line.axes)),
         points-is v.line.axes v.line.level,
         start_small v.line.axes (omega (arith, s.axis)) s.few (suc v.line.level) (omega (arith, s.top)),
-      )
-
-  -- Each ends before this one starts, since its level sum is smaller.
-  pub below-ends : at starts j + 2 ^ (sumTo (at v.levels) v.line.axes - j) ≤ v.start
-  below-ends =
-      let sum : ℕ = sumTo lowered v.line.axes in
-      let one : 0 < 2 ^ sum = pow_pos sum in
-      let last : 2 ^ sum - 1 < 2 ^ sum = omega (arith, one) in
-      let small : sum ≤ v.line.level = omega (arith, lowered-sum, s.sum) in
-      let sum-is : sumTo (at v.levels) v.line.axes - j ≡ sum = omega (arith, lowered-sum) in
-      omega (
-        arith,
-        one,
-        ap (λ (a : ℕ). 2 ^ a) sum-is,
-        held.first j some most,
-        block-number v.line.axes v.line.level lowered lowered-rest small (2 ^ sum - 1) last,
-        number-in-shell (block-point v.line.axes v.line.level lowered lowered-rest small (2 ^ sum - 1) last).point,
-        start-mono v.line.axes (suc sum) (sumTo (at v.levels) v.line.axes) (omega (arith, lowered-sum, some)),
-        first-is v.line.axes (at v.levels),
-        s.start,
       )
 
 -- Point number p of a level vector.

@@ -28,14 +28,14 @@ pub struct Subspace {
 }
 
 // A level vector with this sum and first number, for a turn on an axis.
-pub fn subspace_on(line: Line, sum: u32, levels: [u32; 8], start: u64) -> Subspace
-    requires { (line.axes ≤ 8) × (line.level ≤ 8) × (line.place < line.axes) × VectorIn line.axes sum levels × (sum ≤ line.level) × (start ≡ firstOf line.axes (at levels)) }
+pub fn subspace_on(line: Line, sum: u32, levels: &[u32; 8], start: u64) -> Subspace
+    requires { (line.axes ≤ 8) × (line.level ≤ 8) × (line.place < line.axes) × VectorIn line.axes sum levels.now × (sum ≤ line.level) × (start ≡ firstOf line.axes (at levels.now)) }
     ensures { Seen result × (result.line ≡ line) × (result.start ≡ start) × (result.end ≡ start + 2 ^ sum) }
 {
     let place = line.place as usize;
     Subspace {
         line: line,
-        levels: levels,
+        levels: *levels,
         start: start,
         end: start + (1 << sum),
         low: vectors::level_sum(place, levels),

@@ -54,7 +54,7 @@ unfolding byLevels
 levels-suc l m k next = refl
 
 -- A smaller last level, at the same level sum, gives a smaller rank.
-rank_less : (l m : ℕ → ℕ) (k : ℕ) → sumTo l (suc k) ≡ sumTo m (suc k) → l k < m k → rank l (suc k) < rank m (suc k)
+pub rank_less : (l m : ℕ → ℕ) (k : ℕ) → sumTo l (suc k) ≡ sumTo m (suc k) → l k < m k → rank l (suc k) < rank m (suc k)
 rank_less l m k e h =
     let s : ℕ = sumTo l (suc k) in
     let left : s - l k ≡ sumTo l k = omega (arith, sumTo-suc l k) in

@@ -68,7 +68,7 @@ pub fn first_of(axes: u32, levels: [u32; 8]) -> u64
 {
     let rows = shapes::rows();
     let count = axes as usize;
-    let sum = vectors::level_sum(count, levels);
+    let sum = vectors::level_sum(count, &levels);
     let rank = vector_rank(&rows, count, levels);
     shapes::start_of(&rows, axes, sum) + (rank << sum)
 }

@@ -62,7 +62,7 @@ fn next_point(shape: Shape, p: Point) -> Located
             },
         };
     }
-    let sum = vectors::level_sum(axes, levels);
+    let sum = vectors::level_sum(axes, &levels);
     let next = vectors::next_vector(axes, sum, levels);
     if shape.level < next.sum {
         return points::nowhere(Outcome::End);

@@ -17,10 +17,10 @@ use Rattle.numbering.specs.Point.{at}
 use Rattle.numbering.specs.Number.{rank, firstOf}
 use Rattle.numbering.proofs.Numbering.{points-is, start-suc}
 use Rattle.hierarchy.specs.Turns.{valueAt}
-use Rattle.hierarchy.proofs.Values.{values_length}
 use Rattle.shapes.specs.Shapes.{pointsOf}
 use Rattle.grids.specs.Turned.{turnedTable}
 use Rattle.grids.proofs.Sparse.{points-sparse}
+use Rattle.grids.proofs.Turned.{turned-length}
 use Rattle.walks.specs.Walks.{walkDown}
 use Rattle.neighbours.specs.declared.Line.{Line}
 use Rattle.neighbours.specs.declared.Subspace.{Subspace}
@@ -50,8 +50,7 @@ pub record Lowering (line : Line) (xs : List ℤ) (sum b k odd : ℕ) (ys : List
 
 module _ {line : Line} {xs : List ℤ} (on : OnAxis (sparseOf line) line.place xs) where
   turned-long : length (turnedOn line xs) ≡ pointsOf (sparseOf line)
-  unfolding turnedTable
-  turned-long = values_length (pointsOf (sparseOf line)) _
+  turned-long = turned-length (sparseOf line) line.place xs
 
   -- At the start all lists of the top level are left.
   pub lowering-starts : (k : ℕ) → k ≡ pointsOf (sparseOf line) → Lowering line xs line.level (vectors line.axes line.level) k 0 xs

@@ -17,12 +17,12 @@ use Rattle.numbering.specs.Point.{at}
 use Rattle.numbering.specs.Number.{rank, firstOf}
 use Rattle.numbering.proofs.Numbering.{points-is, start-suc}
 use Rattle.hierarchy.specs.Turns.{valueAt}
-use Rattle.hierarchy.proofs.Values.{values_length}
 use Rattle.shapes.specs.Shapes.{pointsOf}
 use Rattle.shapes.proofs.Totals.{start-zero}
 use Rattle.grids.specs.Grids.{height}
 use Rattle.grids.specs.Turned.{formerTable}
 use Rattle.grids.proofs.Sparse.{points-sparse}
+use Rattle.grids.proofs.Turned.{former-length}
 use Rattle.walks.specs.Walks.{walkUp}
 use Rattle.neighbours.specs.declared.Line.{Line}
 use Rattle.neighbours.specs.declared.Subspace.{Subspace}
@@ -52,8 +52,7 @@ pub record Raising (line : Line) (xs : List ℤ) (sum b k odd : ℕ) (ys : List 
 
 module _ {line : Line} {xs : List ℤ} (on : OnAxis (sparseOf line) line.place xs) where
   former-long : length (formerOn line xs) ≡ pointsOf (sparseOf line)
-  unfolding formerTable
-  former-long = values_length (pointsOf (sparseOf line)) _
+  former-long = former-length (sparseOf line) line.place xs
 
   few-levels : height (sparseOf line) ≤ 9
   unfolding height

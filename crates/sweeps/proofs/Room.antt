@@ -1,12 +1,12 @@
 -- How large a turn makes the values of a table. Forward, a value loses half the sum of two others, so it at most doubles. Back, the value at a point is its own
 -- and half the sum of two results that have one parent less above them, so each level adds at most the bound once more, and there are at most nine.
 -- Assumes nothing.
-use mathlib.Core.Path.{◌≡◌, ap, ◌∙◌}
+use mathlib.Core.Path.{◌≡◌, ap}
 use mathlib.Core.List.{List}
-use Prim.Native.Nat.{ℕ, zero, suc, ◌*◌, ◌≤◌, ◌<◌}
+use Prim.Native.Nat.{ℕ, zero, suc, ◌*◌, ◌≤◌}
 use native.Mathlib.Nat.{suc-mul, mul-le-mul_right}
 use native.Mathlib.Omega.{arith}
-use lib.IntN.{ℤ, pos, nat_abs, ◌+ℤ◌}
+use lib.IntN.{ℤ, nat_abs, ◌+ℤ◌}
 use lib.ListN.{length}
 use Rattle.integers.specs.Half.{half}
 use Rattle.integers.proofs.Sizes.{sum-size, difference-size}
@@ -14,13 +14,11 @@ use Rattle.integers.proofs.Steps.{sum-within, half-within}
 use Rattle.numbering.specs.declared.Side.TheVariants.{Left, Right}
 use Rattle.hierarchy.specs.Grid.{Neighbours}
 use Rattle.hierarchy.specs.Turns.{valueAt, sumOn, forward, backward}
-use Rattle.hierarchy.proofs.Inverse.{forward-zero, forward-past, backward-zero, backward-past}
-use Rattle.hierarchy.proofs.Values.{value-zero, value-past, value-of-values}
 use Rattle.shapes.specs.Shapes.{pointsOf}
 use Rattle.shapes.specs.declared.Shape.{Shape}
-use Rattle.grids.specs.Grids.{neighbour, depth, height}
+use Rattle.grids.specs.Grids.{neighbour, height}
 use Rattle.grids.specs.Turned.{turnedTable, formerTable}
-use Rattle.grids.proofs.Instance.{grid}
+use Rattle.grids.proofs.Turned.{turned-holds, former-holds}
 use Rattle.lists.specs.Steps.{Within}
 
 -- ---- tables as functions
@@ -56,29 +54,11 @@ module _ (nb : Neighbours) (t b : ℕ) (f : ℕ → ℤ) (small : (p : ℕ) → 
 -- ---- tables of a shape
 
 module _ (s : Shape) (t : ℕ) (xs : List ℤ) (b : ℕ) (long : length xs ≡ pointsOf s) where
-  past : (p : ℕ) → pointsOf s < p → valueAt xs p ≡ pos 0
-  past p h = value-past xs p (omega arith)
-
-  -- The list holds the turn at every code: at the border and past the points that is 0.
-  turned-held : valueAt (turnedTable s t xs) ≡ forward (neighbour s) t (valueAt xs)
-  unfolding turnedTable
-  turned-held =
-      value-of-values (pointsOf s) (forward (neighbour s) t (valueAt xs))
-      (forward-zero (pointsOf s) (neighbour s) (depth s) (grid s) t (valueAt xs) (value-zero xs))
-      (λ p h. forward-past (pointsOf s) (neighbour s) (depth s) (grid s) t (valueAt xs) (value-zero xs) p h ∙ past p h)
-
-  former-held : valueAt (formerTable s t xs) ≡ backward (neighbour s) (height s) t (valueAt xs)
-  unfolding formerTable
-  former-held =
-      value-of-values (pointsOf s) (backward (neighbour s) (height s) t (valueAt xs))
-      (backward-zero (pointsOf s) (neighbour s) (depth s) (grid s) t (height s) (valueAt xs) (value-zero xs))
-      (λ p h. backward-past (pointsOf s) (neighbour s) (depth s) (grid s) t (height s) (valueAt xs) (value-zero xs) p h ∙ past p h)
-
   pub turned-within : Within b xs → Within (2 * b) (turnedTable s t xs)
   turned-within small code =
       omega (
         arith,
-        ap (λ (f : ℕ → ℤ). nat_abs (f code)) turned-held,
+        ap (λ (f : ℕ → ℤ). nat_abs (f code)) (turned-holds s t xs long),
         forward-size (neighbour s) t b (valueAt xs) small code,
       )
 
@@ -86,7 +66,7 @@ module _ (s : Shape) (t : ℕ) (xs : List ℤ) (b : ℕ) (long : length xs ≡ p
   former-within low small code =
       omega (
         arith,
-        ap (λ (f : ℕ → ℤ). nat_abs (f code)) former-held,
+        ap (λ (f : ℕ → ℤ). nat_abs (f code)) (former-holds s t xs long),
         backward-size (neighbour s) t b (valueAt xs) small (height s) code,
         mul-le-mul_right {m = suc (height s)} {n = 10} b (omega arith),
       )

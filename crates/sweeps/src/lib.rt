@@ -28,18 +28,17 @@ pub fn lower(line: Line, table: &mut [i64]) -> u64
     let mut odd: u64 = 0;
     loop {
         start -= 1 << sum;
-        let v = neighbours::subspace_on(line, sum, levels, start);
+        let v = neighbours::subspace_on(line, sum, &levels, start);
         cursors::pass_back(v, sum, &mut cursors);
         odd += lists::work(true, v, &cursors, table);
         if start == 0 {
             return odd;
         }
-        let before = vectors::previous_vector(line.axes as usize, sum, levels);
-        if before.sum < sum {
-            cursors = cursors::after_last(line, before.sum, &starts);
+        let before = vectors::to_previous(line.axes as usize, sum, &mut levels);
+        if before < sum {
+            cursors = cursors::after_last(line, before, &starts);
         }
-        sum = before.sum;
-        levels = before.levels;
+        sum = before;
     }
 }
 
@@ -57,18 +56,17 @@ pub fn raise(line: Line, table: &mut [i64]) -> u64
     let mut cursors = cursors::before_first(line, sum, &starts);
     let mut odd: u64 = 0;
     loop {
-        let v = neighbours::subspace_on(line, sum, levels, start);
+        let v = neighbours::subspace_on(line, sum, &levels, start);
         odd += lists::work(false, v, &cursors, table);
         start += 1 << sum;
         if start == table.len() as u64 {
             return odd;
         }
         cursors::pass(v, sum, &mut cursors);
-        let next = vectors::next_vector(line.axes as usize, sum, levels);
-        if sum < next.sum {
-            cursors = cursors::before_first(line, next.sum, &starts);
+        let next = vectors::to_next(line.axes as usize, sum, &mut levels);
+        if sum < next {
+            cursors = cursors::before_first(line, next, &starts);
         }
-        sum = next.sum;
-        levels = next.levels;
+        sum = next;
     }
 }

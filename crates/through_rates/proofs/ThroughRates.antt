@@ -19,6 +19,7 @@ use Rattle.shapes.specs.declared.Shape.{Shape}
 use Rattle.shapes.specs.Shapes.{pointsOf}
 use Rattle.shapes.proofs.Checked.{InRange, passed-in-range}
 use Rattle.grids.specs.Grids.{neighbour}
+use Rattle.grids.proofs.Turned.{turned-holds}
 use Rattle.surfaces.specs.Weights.{unit}
 use Rattle.surfaces.specs.Surface.{coordinatesOf, exactValue, Exactly}
 use Rattle.surfaces.specs.Lines.{lineSum}
@@ -29,7 +30,6 @@ use Rattle.states.specs.After.{after}
 use Rattle.tables.specs.Tables.{times}
 use Rattle.turns.specs.Turns.{isAccepted, forwardTurn}
 use Rattle.turns.proofs.Checking.{place_of}
-use Rattle.turns.proofs.Undoing.{turned-holds}
 use Rattle.turns.proofs.BothWays.{went-forward}
 use Rattle.turns.proofs.Lines.{OnLine, along}
 use Rattle.whole.specs.Accepted.{Accepted}

@@ -24,10 +24,10 @@ use Rattle.shapes.specs.Shapes.{pointsOf}
 use Rattle.shapes.specs.declared.Shape.{Shape}
 use Rattle.grids.specs.Grids.{neighbour}
 use Rattle.grids.specs.Turned.{turnedTable}
+use Rattle.grids.proofs.Turned.{turned-length}
 use Rattle.lists.specs.Lists.{oddAt, oddSums}
 use Rattle.lists.specs.Steps.{Within}
 use Rattle.turns.specs.Turns.{isAccepted}
-use Rattle.turns.proofs.Undoing.{turned-length}
 
 -- All values of a table are within the content limit.
 abbrev pub inLimits : List ℤ → Bool

@@ -23,9 +23,10 @@ use Rattle.states.proofs.Bits.{has-marked-same, has-cleared-same, marked-small, 
 use Rattle.states.specs.declared.Answer.TheVariants.{Done, Refused}
 use Rattle.states.specs.After.{After, after, kept}
 use Rattle.grids.specs.Turned.{turnedTable, formerTable}
+use Rattle.grids.proofs.Turned.{turned-length, former-length}
 use Rattle.turns.specs.Turns.{isAccepted, checkTurn, forwardTurn, backTurn}
 use Rattle.turns.proofs.Checking.{MayTurn, place_of, turn-passed, may-turn}
-use Rattle.turns.proofs.Undoing.{turned-length, former-length, turned-of-former, former-of-turned, LeadsTo, only-former, leads-former, none-leads, refused-where-none}
+use Rattle.turns.proofs.Undoing.{turned-of-former, former-of-turned, LeadsTo, only-former, leads-former, none-leads, refused-where-none}
 use Rattle.turns.proofs.Answering.{back_done, back-refused}
 
 -- A call that was done passed its checks, and left what its definition says.

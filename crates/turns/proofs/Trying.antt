@@ -11,12 +11,12 @@ use Rattle.std.specs.Prelude.{if◌then◌else◌}
 use Rattle.shapes.specs.declared.Shape.{Shape}
 use Rattle.grids.specs.Grids.{height}
 use Rattle.grids.specs.Turned.{turnedTable, formerTable}
+use Rattle.grids.proofs.Turned.{turned-length, former-length}
 use Rattle.lists.specs.Steps.{OnAxis, Within}
 use Rattle.sweeps.proofs.Room.{turned-within, former-within}
 use Rattle.turns.specs.Turns.{isAccepted}
 use Rattle.turns.specs.Steps.{Tried, tried, forwardTried, backTried}
 use Rattle.turns.proofs.Accepting.{inLimits, contents-within}
-use Rattle.turns.proofs.Undoing.{turned-length, former-length}
 
 -- What a test chose tells how it came out.
 chose-done : (a : Bool) (zs xs ys : List ℤ) → tried true ys ≡ (if a then tried true zs else tried false xs) → (a ≡ true) × (ys ≡ zs)

@@ -5,58 +5,28 @@ use mathlib.Core.Path.{◌≡◌, ap, sym, ◌∙◌, fun_ext}
 use mathlib.Core.Bool.{true, false, true≢false}
 use mathlib.Core.List.{List}
 use Prim.Native.Nat.{ℕ}
-use native.Mathlib.Omega.{arith}
 use lib.IntN.{ℤ}
 use lib.ListN.{length}
 use Rattle.naturals.proofs.Cases.{true-or-false}
 use Rattle.hierarchy.specs.Turns.{valueAt, valuesOf, forward, backward}
-use Rattle.hierarchy.proofs.Inverse.{forward-zero, forward-past, backward-zero, backward-past, back-of-forward, forward-of-back}
-use Rattle.hierarchy.proofs.Values.{value-zero, value-past, values_length, value-of-values, values-of-value}
+use Rattle.hierarchy.proofs.Inverse.{back-of-forward, forward-of-back}
+use Rattle.hierarchy.proofs.Values.{value-zero, values-of-value}
 use Rattle.shapes.specs.Shapes.{pointsOf}
 use Rattle.shapes.specs.declared.Shape.{Shape}
 use Rattle.grids.specs.Grids.{neighbour, depth, height}
-use Rattle.grids.proofs.Instance.{grid, shallow}
 use Rattle.grids.specs.Turned.{turnedTable, formerTable}
+use Rattle.grids.proofs.Instance.{grid, shallow}
+use Rattle.grids.proofs.Turned.{former-length, turned-holds, former-holds}
 use Rattle.turns.specs.Turns.{isAccepted}
 
 module _ (s : Shape) (t : ℕ) where
-  -- What the lists of the turned and of the former table hold.
-  pub turned-holds : (xs : List ℤ) → length xs ≡ pointsOf s →
-      valueAt (turnedTable s t xs) ≡ forward (neighbour s) t (valueAt xs)
-  unfolding turnedTable
-  turned-holds xs len =
-      let m = pointsOf s in
-      let nb = neighbour s in
-      value-of-values m (forward nb t (valueAt xs))
-      (forward-zero m nb (depth s) (grid s) t (valueAt xs) (value-zero xs))
-      (λ p h. forward-past m nb (depth s) (grid s) t (valueAt xs) (value-zero xs) p h ∙ value-past xs p (omega arith))
-
-  pub former-holds : (xs : List ℤ) → length xs ≡ pointsOf s →
-      valueAt (formerTable s t xs) ≡ backward (neighbour s) (height s) t (valueAt xs)
-  unfolding formerTable
-  former-holds xs len =
-      let m = pointsOf s in
-      let nb = neighbour s in
-      value-of-values m (backward nb (height s) t (valueAt xs))
-      (backward-zero m nb (depth s) (grid s) t (height s) (valueAt xs) (value-zero xs))
-      (λ p h.
-      backward-past m nb (depth s) (grid s) t (height s) (valueAt xs) (value-zero xs) p h ∙ value-past xs p (omega arith))
-
-  pub turned-length : (xs : List ℤ) → length (turnedTable s t xs) ≡ pointsOf s
-  unfolding turnedTable
-  turned-length xs = values_length (pointsOf s) (forward (neighbour s) t (valueAt xs))
-
-  pub former-length : (xs : List ℤ) → length (formerTable s t xs) ≡ pointsOf s
-  unfolding formerTable
-  former-length xs = values_length (pointsOf s) (backward (neighbour s) (height s) t (valueAt xs))
-
   -- Forward of back, and back of forward.
   pub turned-of-former : (xs : List ℤ) → length xs ≡ pointsOf s → turnedTable s t (formerTable s t xs) ≡ xs
   unfolding turnedTable
   turned-of-former xs len =
       let m = pointsOf s in
       let nb = neighbour s in
-      ap (λ (f : ℕ → ℤ). valuesOf m (forward nb t f)) (former-holds xs len)
+      ap (λ (f : ℕ → ℤ). valuesOf m (forward nb t f)) (former-holds s t xs len)
       ∙ ap (valuesOf m)
       (fun_ext λ p.
       forward-of-back m nb (depth s) (grid s) t (height s) (valueAt xs) (value-zero xs) p (shallow s t p))
@@ -67,7 +37,7 @@ module _ (s : Shape) (t : ℕ) where
   former-of-turned xs len =
       let m = pointsOf s in
       let nb = neighbour s in
-      ap (λ (f : ℕ → ℤ). valuesOf m (backward nb (height s) t f)) (turned-holds xs len)
+      ap (λ (f : ℕ → ℤ). valuesOf m (backward nb (height s) t f)) (turned-holds s t xs len)
       ∙ ap (valuesOf m)
       (fun_ext λ p.
       back-of-forward m nb (depth s) (grid s) t (height s) (valueAt xs) (value-zero xs) p (shallow s t p))
@@ -85,7 +55,7 @@ module _ (s : Shape) (t : ℕ) where
 
   -- The contents of a back turn are accepted if and only if there is one.
   pub former-leads : (xs : List ℤ) → length xs ≡ pointsOf s → isAccepted s t (formerTable s t xs) ≡ true → LeadsTo (formerTable s t xs) xs
-  former-leads xs len e = record { long = former-length xs; accepted = e; leads = turned-of-former xs len }
+  former-leads xs len e = record { long = former-length s t xs; accepted = e; leads = turned-of-former xs len }
 
   pub leads-former : (ys xs : List ℤ) → LeadsTo ys xs → isAccepted s t (formerTable s t xs) ≡ true
   leads-former ys xs l = ap (isAccepted s t) (sym (only-former ys xs l)) ∙ l.accepted

@@ -19,9 +19,9 @@ pub struct Vector {
 }
 
 // The sum of the first levels.
-pub fn level_sum(axes: usize, levels: [u32; 8]) -> u32
-    requires { (axes ≤ 8) × (sumTo (at levels) axes ≤ 8) }
-    ensures { result ≡ sumTo (at levels) axes }
+pub fn level_sum(axes: usize, levels: &[u32; 8]) -> u32
+    requires { (axes ≤ 8) × (sumTo (at levels.now) axes ≤ 8) }
+    ensures { result ≡ sumTo (at levels.now) axes }
 {
     let mut sum: u32 = 0;
     let mut t: usize = 0;
@@ -74,59 +74,60 @@ pub fn compare_levels(a: [u32; 8], b: [u32; 8]) -> Order
 
 // ---- the next, and the one before
 
-// The next level vector. Of the same sum: of the first level v above 0 that has an axis after it one moves there, the rest to axis 1. Past the last of a
-// sum, which has it all on the last axis: the first of the next sum, which has it all on axis 1.
-pub fn next_vector(axes: usize, sum: u32, levels: [u32; 8]) -> Vector
-    requires { (1 ≤ axes) × (axes ≤ 8) × (sum ≤ 8) × VectorIn axes sum levels }
-    ensures { NextVector axes sum levels result.sum result.levels }
+// The next level vector, in place; answers its sum. Of the same sum: of the first level v above 0 that has an axis after it one moves there, the rest to axis 1.
+// Past the last of a sum, which has it all on the last axis: the first of the next sum, which has it all on axis 1.
+pub fn to_next(axes: usize, sum: u32, levels: &mut [u32; 8]) -> u32
+    requires { (1 ≤ axes) × (axes ≤ 8) × (sum ≤ 8) × VectorIn axes sum levels.old }
+    ensures { NextVector axes sum levels.old result levels.new }
 {
     let mut k: usize = 0;
     while k + 1 < axes {
         let v = levels[k];
         if 0 < v {
-            let mut next = levels;
-            next[k] = 0;
-            next[0] = v - 1;
-            next[k + 1] += 1;
-            return Vector {
-                sum: sum,
-                levels: next,
-            };
+            levels[k] = 0;
+            levels[0] = v - 1;
+            levels[k + 1] += 1;
+            return sum;
         }
         k += 1;
     }
     let more = sum + 1;
+    *levels = [more, 0, 0, 0, 0, 0, 0, 0];
+    more
+}
+
+// The next level vector by value.
+pub fn next_vector(axes: usize, sum: u32, levels: [u32; 8]) -> Vector
+    requires { (1 ≤ axes) × (axes ≤ 8) × (sum ≤ 8) × VectorIn axes sum levels }
+    ensures { NextVector axes sum levels result.sum result.levels }
+{
+    let mut next = levels;
+    let more = to_next(axes, sum, &mut next);
     Vector {
         sum: more,
-        levels: [more, 0, 0, 0, 0, 0, 0, 0],
+        levels: next,
     }
 }
 
-// The level vector before another: of the same sum or, before the first of a sum, the last of the sum below.
-pub fn previous_vector(axes: usize, sum: u32, levels: [u32; 8]) -> Vector
-    requires { (1 ≤ axes) × (axes ≤ 8) × (sum ≤ 8) × VectorIn axes sum levels × (0 < firstOf axes (at levels)) }
-    ensures { PreviousVector axes sum levels result.sum result.levels }
+// The level vector before another, in place; answers its sum: of the same sum or, before the first of a sum, the last of the sum below.
+pub fn to_previous(axes: usize, sum: u32, levels: &mut [u32; 8]) -> u32
+    requires { (1 ≤ axes) × (axes ≤ 8) × (sum ≤ 8) × VectorIn axes sum levels.old × (0 < firstOf axes (at levels.old)) }
+    ensures { PreviousVector axes sum levels.old result levels.new }
 {
     let mut k: usize = 1;
     while k < axes {
         if 0 < levels[k] {
-            let mut before = levels;
             let v = levels[0];
-            before[0] = 0;
-            before[k] -= 1;
-            before[k - 1] = v + 1;
-            return Vector {
-                sum: sum,
-                levels: before,
-            };
+            levels[0] = 0;
+            levels[k] -= 1;
+            levels[k - 1] = v + 1;
+            return sum;
         }
         k += 1;
     }
     let less = sum - 1;
     let mut last = [0; 8];
     last[axes - 1] = less;
-    Vector {
-        sum: less,
-        levels: last,
-    }
+    *levels = last;
+    less
 }

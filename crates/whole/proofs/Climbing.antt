@@ -19,11 +19,11 @@ use Rattle.shapes.specs.Shapes.{pointsOf}
 use Rattle.shapes.proofs.Checked.{InRange}
 use Rattle.grids.specs.Grids.{neighbour}
 use Rattle.grids.specs.Turned.{turnedTable}
+use Rattle.grids.proofs.Turned.{turned-length, turned-holds}
 use Rattle.tables.specs.Tables.{times}
 use Rattle.lists.specs.Steps.{OnAxis, Within}
 use Rattle.sweeps.proofs.Room.{turned-within}
 use Rattle.turns.proofs.Accepting.{contents-within}
-use Rattle.turns.proofs.Undoing.{turned-holds, turned-length}
 use Rattle.whole.specs.Whole.{coefficientsOf}
 use Rattle.whole.specs.Steps.{InTable, ascent}
 use Rattle.whole.proofs.Loading.{loaded-holds}

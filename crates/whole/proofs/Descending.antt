@@ -20,9 +20,9 @@ use Rattle.shapes.specs.Shapes.{pointsOf}
 use Rattle.shapes.proofs.Checked.{InRange}
 use Rattle.grids.specs.Grids.{neighbour, height}
 use Rattle.grids.specs.Turned.{formerTable}
+use Rattle.grids.proofs.Turned.{former-length, former-holds}
 use Rattle.turns.specs.Turns.{isAccepted}
 use Rattle.turns.proofs.Accepting.{before-refuses}
-use Rattle.turns.proofs.Undoing.{former-holds, former-length}
 use Rattle.whole.specs.Whole.{backAll, ratesOf, hasRates}
 use Rattle.whole.specs.Steps.{InTable, ascent, Gone, gone, descent}
 use Rattle.whole.proofs.AllAxes.{swept-of-back}

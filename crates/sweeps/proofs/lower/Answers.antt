@@ -8,10 +8,10 @@ use Rattle.numbering.specs.Number.{rank}
 use Rattle.cursors.proofs.Below.{cursors-below}
 use Rattle.lists.proofs.Blocks.{table-small}
 use Rattle.sweeps.proofs.Ranks.{Follows}
-use Rattle.sweeps.proofs.Standing.{rank-in, previous-follows, places, some-place, last-standing, last-of-table}
+use Rattle.sweeps.proofs.Standing.{Standing, rank-in, previous-follows, places, some-place, last-standing, last-of-table}
 use Rattle.sweeps.proofs.Meeting.{met-sum}
 use Rattle.sweeps.proofs.Lowering.{Lowering, lowering-starts, lowering-on, lowering-room, lowering-few, lowering-next, lowering-turned, lowering-odds, lowering-walked, lowering-first, lowering-met, lowering-worked}
-use Rattle.sweeps.proofs.lower.Goals.{After-work-odd, After-previous_vector-before, then-before-sum, else-before-sum}
+use Rattle.sweeps.proofs.lower.Goals.{After-work-odd, After-to_previous-before}
 use Rattle.sweeps.proofs.lower.Goals as goal
 
 -- ---- before the loop
@@ -97,41 +97,55 @@ returns-then-start-eq0-clause-odds c =
 
 -- ---- the one before
 
-pub previous_vector-before-requires : goal.previous_vector-before-requires
-previous_vector-before-requires c =
+pub to_previous-before-requires : goal.to_previous-before-requires
+to_previous-before-requires c =
     let on = c.requires.0 in
     let s = c.loop-start.invariant in
     (omega (arith, on.place), on.few, omega (arith, s.0.low, on.low), s.0.vector, omega (arith, lowering-first on s.0 s.2, c.if-start-eq0.false))
 
 -- How it comes before the other.
-follows : (c : After-previous_vector-before) →
+follows : (c : After-to_previous-before) →
     let line = c.args.line in
-    let before = c.previous_vector-before.result in
-    Follows line.axes before.sum (rank (at before.levels) line.axes) c.loop-start.sum (rank (at c.loop-start.levels) line.axes)
-follows c = previous-follows (omega (arith, c.requires.0.place)) c.loop-start.invariant.0.vector c.previous_vector-before.ensures
+    let before = c.to_previous-before in
+    Follows line.axes before.result (rank (at before.new.levels) line.axes) c.loop-start.sum (rank (at c.loop-start.levels) line.axes)
+follows c = previous-follows (omega (arith, c.requires.0.place)) c.loop-start.invariant.0.vector c.to_previous-before.ensures
 
+standing : (c : After-to_previous-before) →
+    let line = c.args.line in
+    let before = c.to_previous-before in
+    Standing line.axes line.level before.result before.new.levels
+standing c =
+    let here = c.loop-start.invariant.0 in
+    record {
+      vector = c.to_previous-before.ensures.vector;
+      low = ⊎_elim (λ same. omega (arith, same.0, here.low)) (λ below. omega (arith, below.0, here.low)) (follows c);
+    }
+
+-- It is the last of the sum below.
+pub loop-start-preserved-then-before-sum : goal.loop-start-preserved-then-before-sum
+loop-start-preserved-then-before-sum c =
+    let seen = goal.at.loop-start-preserved-then-before-sum c in
+    let before = follows seen.After-to_previous-before in (
+      standing seen.After-to_previous-before,
+      ⊎_elim
+          (λ same. absurd (omega (arith, same.0, c.if-before-sum.true)))
+          (λ below. rw below.2 c.after_last-cursors-then-before-sum.ensures)
+          before,
+      lowering-next c.requires.0 (done seen.After-work-odd) before,
+    )
+
+-- It is of the same sum.
 pub loop-start-preserved : goal.loop-start-preserved
 loop-start-preserved c =
     let seen = goal.at.loop-start-preserved c in
     let s = c.loop-start.invariant in
-    let before = follows seen.After-previous_vector-before in
+    let before = follows seen.After-to_previous-before in
     let e = c.subspace_on-v.ensures in
     let m = lowering-met c.requires.0 s.0 s.2 c.subspace_on-v.result e.0 e.1 e.2 in (
-      record {
-        vector = c.previous_vector-before.ensures.vector;
-        low = ⊎_elim (λ same. omega (arith, same.0, s.0.low)) (λ below. omega (arith, below.0, s.0.low)) before;
-      },
-      elim c.if-before-sum.branch [
-        | then-before-sum w ↦ rw w.cursors-is
-            (⊎_elim
-            (λ same. absurd (omega (arith, same.0, w.if-before-sum.true)))
-            (λ below. rw below.2 w.after_last-cursors-then-before-sum.ensures)
-            before)
-        | else-before-sum w ↦ rw w.cursors-is
-            (⊎_elim
-            (λ same. rw (sym same.1, sym same.0) (rw (m.on, m.levels) at c.pass_back.ensures))
-            (λ below. absurd (omega (arith, below.0, w.if-before-sum.false)))
-            before)
-      ],
+      standing seen.After-to_previous-before,
+      ⊎_elim
+          (λ same. rw (sym same.1, sym same.0) (rw (m.on, m.levels) at c.pass_back.ensures))
+          (λ below. absurd (omega (arith, below.0, c.if-before-sum.false)))
+          before,
       lowering-next c.requires.0 (done seen.After-work-odd) before,
     )

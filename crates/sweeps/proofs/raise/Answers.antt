@@ -1,6 +1,7 @@
 use mathlib.Core.Path.{◌∙◌}
 use mathlib.Core.Logic.{⊎_elim}
-use Prim.Native.Nat.{suc, ◌+◌, ◌*◌, ◌%◌, ◌^◌, ◌≤◌}
+use Prim.Native.Nat.{suc, ◌+◌, ◌-◌, ◌*◌, ◌%◌, ◌^◌, ◌≤◌, ◌<◌}
+use lib.ListN.{length}
 use native.Mathlib.Omega.{arith}
 use lib.Pow.{pow_pos}
 use Rattle.numbering.specs.Point.{at}
@@ -8,10 +9,10 @@ use Rattle.numbering.specs.Number.{rank}
 use Rattle.cursors.proofs.Below.{cursors-below}
 use Rattle.lists.proofs.Blocks.{table-small}
 use Rattle.sweeps.proofs.Ranks.{Follows}
-use Rattle.sweeps.proofs.Standing.{rank-in, sum_inside, first-standing, first-rank, next-follows, places}
+use Rattle.sweeps.proofs.Standing.{Standing, rank-in, sum_inside, first-standing, first-rank, next-follows, places}
 use Rattle.sweeps.proofs.Meeting.{met-sum}
 use Rattle.sweeps.proofs.Raising.{Raising, raising-starts, raising-on, raising-room, raising-few, raising-former, raising-odds, raising-next, raising-walked, raising-first, raising-met, raising-end, raising-inside, raising-worked}
-use Rattle.sweeps.proofs.raise.Goals.{After-work-odd, After-next_vector-next, then-sum-next, else-sum-next}
+use Rattle.sweeps.proofs.raise.Goals.{After-work-odd, After-to_next-next}
 use Rattle.sweeps.proofs.raise.Goals as goal
 
 pub loop-start-init : goal.loop-start-init
@@ -84,55 +85,75 @@ pass-requires c =
     (m.seen, met-sum s.0 _ m, rw (m.on, m.levels) s.1)
 
 -- It is one of the shape, since the table goes on.
-next-low : (c : After-next_vector-next) → c.next_vector-next.result.sum ≤ c.args.line.level
+next-low : (c : After-to_next-next) → c.to_next-next.result ≤ c.args.line.level
 next-low c =
     let on = c.requires.0 in
     let s = c.loop-start.invariant in
-    let next = c.next_vector-next.ensures in
+    let next = c.to_next-next.ensures in
     sum_inside next.vector c.args.line.level
     (omega (arith, next.first, raising-end on s.0 s.2, raising-inside on s.0 s.2, on.long, places on, c.if-start-table.false))
 
 -- How it follows the other.
-follows : (c : After-next_vector-next) →
+follows : (c : After-to_next-next) →
     let line = c.args.line in
-    let next = c.next_vector-next.result in
-    Follows line.axes c.loop-start.sum (rank (at c.loop-start.levels) line.axes) next.sum (rank (at next.levels) line.axes)
-follows c = next-follows (omega (arith, c.requires.0.place)) c.loop-start.invariant.0.vector c.next_vector-next.ensures
+    let next = c.to_next-next in
+    Follows line.axes c.loop-start.sum (rank (at c.loop-start.levels) line.axes) next.result (rank (at next.new.levels) line.axes)
+follows c = next-follows (omega (arith, c.requires.0.place)) c.loop-start.invariant.0.vector c.to_next-next.ensures
 
 pub before_first-cursors-requires-then-sum-next : goal.before_first-cursors-requires-then-sum-next
 before_first-cursors-requires-then-sum-next c =
     let on = c.requires.0 in (
       record { few = on.few; low = on.low; place = on.place },
       c.starts-starts.ensures,
-      next-low (goal.at.before_first-cursors-requires-then-sum-next c).After-next_vector-next,
+      next-low (goal.at.before_first-cursors-requires-then-sum-next c).After-to_next-next,
     )
 
-pub loop-start-smaller : goal.loop-start-smaller
-loop-start-smaller c =
+-- Less of the table is left.
+nearer : (c : After-to_next-next) →
+    let rest = length c.args.table.now in
+    rest - (c.loop-start.start + 1 * 2 ^ c.loop-start.sum % 2 ^ 64) < rest - c.loop-start.start
+nearer c =
     let on = c.requires.0 in
     let s = c.loop-start.invariant in
     omega (arith, raising-first on s.0 s.2, raising-end on s.0 s.2, raising-inside on s.0 s.2, on.long, pow_pos c.loop-start.sum)
 
+pub loop-start-smaller : goal.loop-start-smaller
+loop-start-smaller c = nearer (goal.at.loop-start-smaller c).After-to_next-next
+
+pub loop-start-smaller-then-sum-next : goal.loop-start-smaller-then-sum-next
+loop-start-smaller-then-sum-next c = nearer (goal.at.loop-start-smaller-then-sum-next c).After-to_next-next
+
+standing : (c : After-to_next-next) →
+    let line = c.args.line in
+    let next = c.to_next-next in
+    Standing line.axes line.level next.result next.new.levels
+standing c = record { vector = c.to_next-next.ensures.vector; low = next-low c }
+
+-- It is the first of the sum above.
+pub loop-start-preserved-then-sum-next : goal.loop-start-preserved-then-sum-next
+loop-start-preserved-then-sum-next c =
+    let seen = goal.at.loop-start-preserved-then-sum-next c in
+    let next = follows seen.After-to_next-next in (
+      standing seen.After-to_next-next,
+      ⊎_elim
+          (λ same. absurd (omega (arith, same.0, c.if-sum-next.true)))
+          (λ above. rw above.1 c.before_first-cursors-then-sum-next.ensures)
+          next,
+      raising-next c.requires.0 (done seen.After-work-odd) (next-low seen.After-to_next-next) next,
+    )
+
+-- It is of the same sum.
 pub loop-start-preserved : goal.loop-start-preserved
 loop-start-preserved c =
     let seen = goal.at.loop-start-preserved c in
     let s = c.loop-start.invariant in
-    let next = follows seen.After-next_vector-next in
-    let low = next-low seen.After-next_vector-next in
+    let next = follows seen.After-to_next-next in
     let e = c.subspace_on-v.ensures in
     let m = raising-met c.requires.0 s.0 s.2 c.subspace_on-v.result e.0 e.1 e.2 in (
-      record { vector = c.next_vector-next.ensures.vector; low = low },
-      elim c.if-sum-next.branch [
-        | then-sum-next w ↦ rw w.cursors-is
-            (⊎_elim
-            (λ same. absurd (omega (arith, same.0, w.if-sum-next.true)))
-            (λ above. rw above.1 w.before_first-cursors-then-sum-next.ensures)
-            next)
-        | else-sum-next w ↦ rw w.cursors-is
-            (⊎_elim
-            (λ same. rw (same.1, same.0) (rw (m.on, m.levels) at c.pass.ensures))
-            (λ above. absurd (omega (arith, above.0, w.if-sum-next.false)))
-            next)
-      ],
-      raising-next c.requires.0 (done seen.After-work-odd) low next,
+      standing seen.After-to_next-next,
+      ⊎_elim
+          (λ same. rw (same.1, same.0) (rw (m.on, m.levels) at c.pass.ensures))
+          (λ above. absurd (omega (arith, above.0, c.if-sum-next.false)))
+          next,
+      raising-next c.requires.0 (done seen.After-work-odd) (next-low seen.After-to_next-next) next,
     )

@@ -6,10 +6,11 @@ use mathlib.Core.Bool.{false}
 use native.Mathlib.Omega.{arith}
 use Rattle.neighbours.specs.Steps.{sparseOf}
 use Rattle.grids.specs.Turned.{formerTable}
+use Rattle.grids.proofs.Turned.{former-length}
 use Rattle.turns.specs.Turns.{isAccepted}
 use Rattle.turns.proofs.Accepting.{inLimits, accepted-where, before-refuses, odd-refuses}
 use Rattle.turns.proofs.Trying.{back-tried-done, back-tried-refused, back-room, former-room}
-use Rattle.turns.proofs.Undoing.{former-length, turned-of-former}
+use Rattle.turns.proofs.Undoing.{turned-of-former}
 use Rattle.turns.proofs.back_on.Goals.{then-raise-eq0+else-all_in_limit, else-raise-eq0}
 use Rattle.turns.proofs.back_on.Goals as goal
 

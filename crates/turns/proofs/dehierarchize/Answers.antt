@@ -12,12 +12,13 @@ use Rattle.states.specs.States.{has}
 use Rattle.states.specs.declared.Answer.TheVariants.{Done, Refused}
 use Rattle.states.specs.After.{after}
 use Rattle.grids.specs.Turned.{formerTable}
+use Rattle.grids.proofs.Turned.{former-length}
 use Rattle.turns.specs.Turns.{checkTurn}
 use Rattle.turns.proofs.Accepting.{inLimits, after-refuses}
 use Rattle.turns.proofs.Answering.{on-axis, back-unchecked, back-not-forward, back-refused, back_done}
 use Rattle.turns.proofs.Checking.{MayTurn, place_of, turn-passed}
 use Rattle.turns.proofs.Trying.{back-was-done, back-was-refused}
-use Rattle.turns.proofs.Undoing.{former-length, turned-of-former}
+use Rattle.turns.proofs.Undoing.{turned-of-former}
 use Rattle.turns.proofs.dehierarchize.Goals.{Else-not-has_axis, In_default}
 use Rattle.turns.proofs.dehierarchize.Goals as goal
 

@@ -1,6 +1,6 @@
 use mathlib.Core.Path.{refl, ◌∙◌}
 use Rattle.shapes.proofs.Checked.{passed-in-range}
-use Rattle.turns.proofs.Undoing.{turned-length}
+use Rattle.grids.proofs.Turned.{turned-length}
 use Rattle.whole.proofs.Climbing.{up-more, up-ends, room-first, room-next, room-there}
 use Rattle.whole.proofs.climb.Goals as goal
 
