@@ -30,7 +30,7 @@ pub struct Subspace {
 // A level vector with this sum and first number, for a turn on an axis.
 pub fn subspace_on(line: Line, sum: u32, levels: &[u32; 8], start: u64) -> Subspace
     requires { (line.axes ≤ 8) × (line.level ≤ 8) × (line.place < line.axes) × VectorIn line.axes sum levels.now × (sum ≤ line.level) × (start ≡ firstOf line.axes (at levels.now)) }
-    ensures { Seen result × (result.line ≡ line) × (result.start ≡ start) × (result.end ≡ start + 2 ^ sum) }
+    ensures { Seen result × (result.line ≡ line) × (result.start ≡ start) × (result.end ≡ start + 2 ^ sum) × (result.levels ≡ levels.now) }
 {
     let place = line.place as usize;
     Subspace {

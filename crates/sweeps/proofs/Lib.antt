@@ -3,6 +3,8 @@ pub mod Ranks
 pub mod Parted
 pub mod Odds
 pub mod Walking
+pub mod Joined
+pub mod Coming
 pub mod Standing
 pub mod Meeting
 pub mod Lowering

@@ -24,17 +24,18 @@ use Rattle.grids.proofs.Turned.{turned-length}
 use Rattle.walks.specs.Walks.{walkDown}
 use Rattle.neighbours.specs.declared.Line.{Line}
 use Rattle.neighbours.specs.declared.Subspace.{Subspace}
-use Rattle.neighbours.specs.Steps.{sparseOf, Seen}
+use Rattle.neighbours.specs.Steps.{sparseOf}
 use Rattle.lists.specs.Lists.{oddSums, listWorked, firstIn, endOf, wholeTurn, cameTo, ListTurned}
 use Rattle.lists.specs.Steps.{OnAxis, Within}
 use Rattle.sweeps.specs.Sweeps.{listsWorked}
 use Rattle.sweeps.proofs.Ranks.{firstAt, Follows, first-of-all}
 use Rattle.sweeps.proofs.Room.{turned-within}
-use Rattle.sweeps.proofs.Parted.{Parted, all-below, above-only, below-codes, parted-within, from_number, moved-down}
+use Rattle.sweeps.proofs.Parted.{Parted, all-below, above-only, below-codes, parted-within}
 use Rattle.sweeps.proofs.Odds.{odds-none, odds-few}
-use Rattle.sweeps.proofs.Walking.{worked-long, same-walk, first-worked, none-worked, leftDown, down-all, down-first, down-sum, down-none}
+use Rattle.sweeps.proofs.Walking.{same-walk, first-worked, none-worked, leftDown, down-all, down-first, down-sum, down-none}
 use Rattle.sweeps.proofs.Standing.{Standing, first-at, levels-of-rank}
-use Rattle.sweeps.proofs.Meeting.{Met, met, met-odds}
+use Rattle.sweeps.proofs.Coming.{comes-down, goes-down}
+use Rattle.sweeps.proofs.Meeting.{Met, met-odds}
 
 -- The table after the whole turn.
 abbrev pub turnedOn : Line → List ℤ → List ℤ
@@ -119,12 +120,9 @@ module _ {line : Line} {xs : List ℤ} (on : OnAxis (sparseOf line) line.place x
     pub lowering-first : k - 1 * 2 ^ sum % 2 ^ 64 ≡ firstOf line.axes (at ls)
     lowering-first = omega (arith, ends, one_shifted 64 sum (omega (arith, here.low, on.low)))
 
-    pub lowering-met : (v : Subspace) → Seen v → v.line ≡ line → v.start ≡ k - 1 * 2 ^ sum % 2 ^ 64 → Met line ls v
-    lowering-met v seen same starts = met here v seen same (starts ∙ lowering-first)
-
     came : ys ≡ cameTo true (sparseOf line) line.place (at ls) xs
-    unfolding cameTo wholeTurn
-    came = rw (sym ends-list) (from_number _ xs (turnedOn line xs) on.long turned-long k ys s.parted)
+    unfolding wholeTurn
+    came = comes-down line.axes line.level line.place xs on (at ls) ys (rw ends-list at s.parted)
 
     list-first : leftDown line.axes sum (suc (rank (at ls) line.axes)) ≡ at ls ∷ leftDown line.axes sum (rank (at ls) line.axes)
     list-first =
@@ -135,19 +133,15 @@ module _ {line : Line} {xs : List ℤ} (on : OnAxis (sparseOf line) line.place x
         (counted : oddSums (sparseOf line) line.place xs (firstIn (sparseOf line) (at ls)) + more
         ≡ oddSums (sparseOf line) line.place xs (endOf (sparseOf line) (at ls)))
         (turned : ListTurned true (sparseOf line) line.place (at ls) xs ys zs) where
-      holds : (p : ℕ) → firstIn (sparseOf line) (at ls) ≤ p → p < endOf (sparseOf line) (at ls) →
-          valueAt zs (suc p) ≡ valueAt (turnedOn line xs) (suc p)
+      list-parted : Parted (pointsOf (sparseOf line)) (firstIn (sparseOf line) (at ls)) xs (turnedOn line xs) zs
       unfolding wholeTurn
-      holds = turned.holds
+      list-parted = rw worked (goes-down line.axes line.level line.place xs on (at ls) ys (rw ends-list at s.parted) (rw worked at turned))
 
       list-done : Lowering line xs sum (rank (at ls) line.axes) (firstIn (sparseOf line) (at ls)) (odd + more) zs
       list-done =
           record {
             first = first-at here.vector;
-            parted =
-                moved-down _ xs (turnedOn line xs) on.long turned-long _ ys (rw ends-list at s.parted) zs
-                (ap length worked ∙ worked-long true (sparseOf line) line.place (at ls) ys)
-                (firstIn (sparseOf line) (at ls)) (omega arith) holds turned.others;
+            parted = list-parted;
             odds = omega (arith, counted, s.odds, ap (oddSums (sparseOf line) line.place xs) ends-list);
             walked = first-worked true (sparseOf line) line.place ys zs list-first worked ∙ s.walked;
           }

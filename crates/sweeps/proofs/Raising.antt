@@ -26,17 +26,18 @@ use Rattle.grids.proofs.Turned.{former-length}
 use Rattle.walks.specs.Walks.{walkUp}
 use Rattle.neighbours.specs.declared.Line.{Line}
 use Rattle.neighbours.specs.declared.Subspace.{Subspace}
-use Rattle.neighbours.specs.Steps.{sparseOf, Seen}
+use Rattle.neighbours.specs.Steps.{sparseOf}
 use Rattle.lists.specs.Lists.{oddSums, listWorked, firstIn, endOf, wholeTurn, cameTo, ListTurned}
 use Rattle.lists.specs.Steps.{OnAxis, Within}
 use Rattle.sweeps.specs.Sweeps.{listsWorked}
 use Rattle.sweeps.proofs.Ranks.{firstAt, Follows, last-of-all}
 use Rattle.sweeps.proofs.Room.{former-within}
-use Rattle.sweeps.proofs.Parted.{Parted, all-above, below-only, below-codes, parted-within, to-number, moved-up}
+use Rattle.sweeps.proofs.Parted.{Parted, all-above, below-only, below-codes, parted-within}
 use Rattle.sweeps.proofs.Odds.{odds-none, odds-few}
-use Rattle.sweeps.proofs.Walking.{worked-long, same-walk, first-worked, none-worked, leftUp, up-all, up-first, up-sum, up-none}
+use Rattle.sweeps.proofs.Walking.{same-walk, first-worked, none-worked, leftUp, up-all, up-first, up-sum, up-none}
 use Rattle.sweeps.proofs.Standing.{Standing, first-at, rank-in, levels-of-rank, end-inside}
-use Rattle.sweeps.proofs.Meeting.{Met, met, met-odds}
+use Rattle.sweeps.proofs.Coming.{comes-up, goes-up}
+use Rattle.sweeps.proofs.Meeting.{Met, met-odds}
 
 -- The table that the whole turn takes to xs.
 abbrev pub formerOn : Line → List ℤ → List ℤ
@@ -129,9 +130,6 @@ module _ {line : Line} {xs : List ℤ} (on : OnAxis (sparseOf line) line.place x
     pub raising-first : k ≡ firstOf line.axes (at ls)
     raising-first = omega (arith, s.first, first-at here.vector)
 
-    pub raising-met : (v : Subspace) → Seen v → v.line ≡ line → v.start ≡ k → Met line ls v
-    raising-met v seen same starts = met here v seen same (starts ∙ raising-first)
-
     -- Its end, as the code reckons it.
     pub raising-end : k + 1 * 2 ^ sum % 2 ^ 64 ≡ firstOf line.axes (at ls) + 2 ^ sum
     raising-end = omega (arith, raising-first, one_shifted 64 sum (omega (arith, here.low, on.low)))
@@ -143,8 +141,8 @@ module _ {line : Line} {xs : List ℤ} (on : OnAxis (sparseOf line) line.place x
     raising-inside = omega (arith, raising-end, end-inside here, points-sparse line.axes line.level)
 
     came : ys ≡ cameTo false (sparseOf line) line.place (at ls) xs
-    unfolding cameTo wholeTurn
-    came = rw (sym raising-first) (to-number _ (formerOn line xs) xs former-long on.long k ys s.parted)
+    unfolding wholeTurn
+    came = comes-up line.axes line.level line.place xs on (at ls) ys (rw raising-first at s.parted)
 
     list-first : leftUp line.axes line.level sum (rank (at ls) line.axes) ≡ at ls ∷ leftUp line.axes line.level sum (suc (rank (at ls) line.axes))
     list-first =
@@ -155,19 +153,15 @@ module _ {line : Line} {xs : List ℤ} (on : OnAxis (sparseOf line) line.place x
         (counted : oddSums (sparseOf line) line.place (formerOn line xs) (firstIn (sparseOf line) (at ls)) + more
         ≡ oddSums (sparseOf line) line.place (formerOn line xs) (endOf (sparseOf line) (at ls)))
         (turned : ListTurned false (sparseOf line) line.place (at ls) xs ys zs) where
-      holds : (p : ℕ) → firstIn (sparseOf line) (at ls) ≤ p → p < endOf (sparseOf line) (at ls) →
-          valueAt zs (suc p) ≡ valueAt (formerOn line xs) (suc p)
+      list-parted : Parted (pointsOf (sparseOf line)) (endOf (sparseOf line) (at ls)) (formerOn line xs) xs zs
       unfolding wholeTurn
-      holds = turned.holds
+      list-parted = rw worked (goes-up line.axes line.level line.place xs on (at ls) ys (rw raising-first at s.parted) (rw worked at turned))
 
       list-done : Raising line xs sum (suc (rank (at ls) line.axes)) (endOf (sparseOf line) (at ls)) (odd + more) zs
       list-done =
           record {
             first = omega (arith, ends-list, raising-end, first-at here.vector, mul-suc (2 ^ sum) (rank (at ls) line.axes));
-            parted =
-                moved-up _ (formerOn line xs) xs former-long on.long _ ys (rw raising-first at s.parted) zs
-                (ap length worked ∙ worked-long false (sparseOf line) line.place (at ls) ys)
-                (endOf (sparseOf line) (at ls)) (omega arith) holds turned.others;
+            parted = list-parted;
             odds = omega (arith, counted, s.odds, ap (oddSums (sparseOf line) line.place (formerOn line xs)) raising-first);
             walked = first-worked false (sparseOf line) line.place ys zs list-first worked ∙ s.walked;
           }

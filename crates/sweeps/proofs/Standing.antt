@@ -4,7 +4,7 @@
 use mathlib.Core.List.{List}
 use mathlib.Core.Path.{◌≡◌, refl, ap, sym, ◌∙◌, fun_ext}
 use Prim.Native.Nat.{ℕ, zero, suc, ◌+◌, ◌-◌, ◌%◌, ◌^◌, ◌≤◌, ◌<◌}
-use native.Mathlib.Nat.{mod-lt, add-zero}
+use native.Mathlib.Nat.{mod-lt}
 use native.Mathlib.Omega.{arith}
 use lib.IntN.{ℤ}
 use lib.ListN.{length}
@@ -20,7 +20,7 @@ use Rattle.numbering.proofs.Rank.{rank_lt}
 use Rattle.numbering.proofs.Unrank.{level-of-rank, level-past}
 use Rattle.numbering.proofs.Numbering.{points-is, start-mono, level-zero, levels-sum}
 use Rattle.numbering.proofs.Succession.{rank-first}
-use Rattle.numbering.proofs.Subspaces.{first-is, number-behind-first, block-levels}
+use Rattle.numbering.proofs.Subspaces.{first-is, number-behind-first}
 use Rattle.grids.proofs.Sparse.{points-sparse}
 use Rattle.vectors.specs.Steps.{VectorIn, NextVector, PreviousVector}
 use Rattle.vectors.proofs.Following.{first, first-zeros}
@@ -68,11 +68,6 @@ module _ {d n sum : ℕ} {ls : List ℕ} (s : Standing d n sum ls) where
         start-mono d (suc sum) (suc n) (omega (arith, s.low)),
         points-is d n,
       )
-
-  pub levels-at-first : levelAt d n (firstOf d (at ls)) ≡ at ls
-  levels-at-first =
-      ap (levelAt d n) (sym (add-zero (firstOf d (at ls))))
-      ∙ block-levels d n (at ls) s.vector.rest (omega (arith, s.low, s.vector.total)) 0 (pow_pos (sumTo (at ls) d))
 
 -- ---- the first of all, which has no level
 

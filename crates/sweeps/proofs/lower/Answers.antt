@@ -9,8 +9,8 @@ use Rattle.cursors.proofs.Below.{cursors-below}
 use Rattle.lists.proofs.Blocks.{table-small}
 use Rattle.sweeps.proofs.Ranks.{Follows}
 use Rattle.sweeps.proofs.Standing.{Standing, rank-in, previous-follows, places, some-place, last-standing, last-of-table}
-use Rattle.sweeps.proofs.Meeting.{met-sum}
-use Rattle.sweeps.proofs.Lowering.{Lowering, lowering-starts, lowering-on, lowering-room, lowering-few, lowering-next, lowering-turned, lowering-odds, lowering-walked, lowering-first, lowering-met, lowering-worked}
+use Rattle.sweeps.proofs.Meeting.{met, met-sum}
+use Rattle.sweeps.proofs.Lowering.{Lowering, lowering-starts, lowering-on, lowering-room, lowering-few, lowering-next, lowering-turned, lowering-odds, lowering-walked, lowering-first, lowering-worked}
 use Rattle.sweeps.proofs.lower.Goals.{After-work-odd, After-to_previous-before}
 use Rattle.sweeps.proofs.lower.Goals as goal
 
@@ -51,16 +51,14 @@ subspace_on-v-requires c =
 pub pass_back-requires : goal.pass_back-requires
 pass_back-requires c =
     let s = c.loop-start.invariant in
-    let e = c.subspace_on-v.ensures in
-    let m = lowering-met c.requires.0 s.0 s.2 c.subspace_on-v.result e.0 e.1 e.2 in
+    let m = met c.subspace_on-v.ensures in
     (m.seen, met-sum s.0 _ m, rw (m.on, m.levels) s.1)
 
 pub work-odd-requires : goal.work-odd-requires
 work-odd-requires c =
     let pre = c.requires in
     let s = c.loop-start.invariant in
-    let e = c.subspace_on-v.ensures in
-    let m = lowering-met pre.0 s.0 s.2 c.subspace_on-v.result e.0 e.1 e.2 in
+    let m = met c.subspace_on-v.ensures in
     (m.seen, cursors-below m.seen (met-sum s.0 _ m) c.pass_back.ensures, rw m.on (lowering-on pre.0 s.2), lowering-room pre.0 s.2 pre.1)
 
 -- After the work on it.
@@ -71,9 +69,8 @@ done : (c : After-work-odd) →
 done c =
     let on = c.requires.0 in
     let s = c.loop-start.invariant in
-    let e = c.subspace_on-v.ensures in
     let did = c.work-odd.ensures in
-    lowering-worked on s.0 s.2 _ (lowering-met on s.0 s.2 c.subspace_on-v.result e.0 e.1 e.2) _ _ did.worked did.odds did.turned
+    lowering-worked on s.0 s.2 _ (met c.subspace_on-v.ensures) _ _ did.worked did.odds did.turned
 
 pub overflow_add-odd : goal.overflow_add-odd
 overflow_add-odd c =
@@ -140,8 +137,7 @@ loop-start-preserved c =
     let seen = goal.at.loop-start-preserved c in
     let s = c.loop-start.invariant in
     let before = follows seen.After-to_previous-before in
-    let e = c.subspace_on-v.ensures in
-    let m = lowering-met c.requires.0 s.0 s.2 c.subspace_on-v.result e.0 e.1 e.2 in (
+    let m = met c.subspace_on-v.ensures in (
       standing seen.After-to_previous-before,
       ⊎_elim
           (λ same. rw (sym same.1, sym same.0) (rw (m.on, m.levels) at c.pass_back.ensures))

@@ -10,8 +10,8 @@ use Rattle.cursors.proofs.Below.{cursors-below}
 use Rattle.lists.proofs.Blocks.{table-small}
 use Rattle.sweeps.proofs.Ranks.{Follows}
 use Rattle.sweeps.proofs.Standing.{Standing, rank-in, sum_inside, first-standing, first-rank, next-follows, places}
-use Rattle.sweeps.proofs.Meeting.{met-sum}
-use Rattle.sweeps.proofs.Raising.{Raising, raising-starts, raising-on, raising-room, raising-few, raising-former, raising-odds, raising-next, raising-walked, raising-first, raising-met, raising-end, raising-inside, raising-worked}
+use Rattle.sweeps.proofs.Meeting.{met, met-sum}
+use Rattle.sweeps.proofs.Raising.{Raising, raising-starts, raising-on, raising-room, raising-few, raising-former, raising-odds, raising-next, raising-walked, raising-first, raising-end, raising-inside, raising-worked}
 use Rattle.sweeps.proofs.raise.Goals.{After-work-odd, After-to_next-next}
 use Rattle.sweeps.proofs.raise.Goals as goal
 
@@ -35,8 +35,7 @@ pub work-odd-requires : goal.work-odd-requires
 work-odd-requires c =
     let pre = c.requires in
     let s = c.loop-start.invariant in
-    let e = c.subspace_on-v.ensures in
-    let m = raising-met pre.0 s.0 s.2 c.subspace_on-v.result e.0 e.1 e.2 in
+    let m = met c.subspace_on-v.ensures in
     (m.seen, cursors-below m.seen (met-sum s.0 _ m) (rw (m.on, m.levels) s.1), rw m.on (raising-on pre.0 s.2), raising-room pre.0 s.2 pre.1)
 
 -- After the work on it.
@@ -47,9 +46,8 @@ done : (c : After-work-odd) →
 done c =
     let on = c.requires.0 in
     let s = c.loop-start.invariant in
-    let e = c.subspace_on-v.ensures in
     let did = c.work-odd.ensures in
-    raising-worked on s.0 s.2 _ (raising-met on s.0 s.2 c.subspace_on-v.result e.0 e.1 e.2) _ _ did.worked did.odds did.turned
+    raising-worked on s.0 s.2 _ (met c.subspace_on-v.ensures) _ _ did.worked did.odds did.turned
 
 pub overflow_add-odd : goal.overflow_add-odd
 overflow_add-odd c =
@@ -80,8 +78,7 @@ returns-then-start-table-clause-odds c =
 pub pass-requires : goal.pass-requires
 pass-requires c =
     let s = c.loop-start.invariant in
-    let e = c.subspace_on-v.ensures in
-    let m = raising-met c.requires.0 s.0 s.2 c.subspace_on-v.result e.0 e.1 e.2 in
+    let m = met c.subspace_on-v.ensures in
     (m.seen, met-sum s.0 _ m, rw (m.on, m.levels) s.1)
 
 -- It is one of the shape, since the table goes on.
@@ -148,8 +145,7 @@ loop-start-preserved c =
     let seen = goal.at.loop-start-preserved c in
     let s = c.loop-start.invariant in
     let next = follows seen.After-to_next-next in
-    let e = c.subspace_on-v.ensures in
-    let m = raising-met c.requires.0 s.0 s.2 c.subspace_on-v.result e.0 e.1 e.2 in (
+    let m = met c.subspace_on-v.ensures in (
       standing seen.After-to_next-next,
       ⊎_elim
           (λ same. rw (same.1, same.0) (rw (m.on, m.levels) at c.pass.ensures))
