@@ -14,7 +14,7 @@ pub record OnLine (line : Line) : Type 0 where
   pub low : line.level ≤ 8
   pub place : line.place < line.axes
 
--- The number of the first point of each level sum up to the top level, and the count of points after them.
+-- The number of the first point of each level sum from 0 to the top level; in the next place, N. Other places are not read.
 pub record Starts (line : Line) (starts : List ℕ) : Type 0 where
   pub long : length starts ≡ 10
   pub first : (s : ℕ) → s ≤ suc line.level → at starts s ≡ start line.axes s
@@ -28,7 +28,7 @@ unfoldable pub passed : ℕ → ℕ → ℕ → ℕ → ℕ → ℕ
 passed d t s j b = sumTo (reaches d t s j) b
 
 -- Of the level lists of sum s the first b are passed. Those of them with a level of at least j on the axis, each lowered by j there, are the first level lists
--- of sum s − j: cursor j is the number of the first point that comes after these.
+-- of sum s − j: cursor j is the number of the first point that comes after these. Places 0 and past s are not read.
 pub record Cursors (line : Line) (s b : ℕ) (cursors : List ℕ) : Type 0 where
   pub low : s ≤ line.level
   pub long : length cursors ≡ 9

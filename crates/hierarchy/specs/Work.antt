@@ -1,4 +1,4 @@
--- Single steps of work in one table, in some order: what a sweep, a walk by level vector or a list of work items is made of.
+-- Single steps of work in one table, in some order: what a sweep or a list of work items is made of.
 -- Assumes nothing.
 use Rattle.std.specs.Prelude.{◌≡◌, ◌⊎◌, List, [], ◌∷◌, ℕ, suc, leb, eqb, ℤ, ◌-ℤ◌, if◌then◌else◌}
 use Rattle.integers.specs.Half.{half}

@@ -18,7 +18,7 @@ pub fn in_limit(v: i64) -> bool
     v <= LIMIT
 }
 
-// How far a value lies above the lower end of the limit, in 64 bits: below 2^48 within the limit but for its upper end, which it takes for outside.
+// A value plus 2^47, modulo 2^64: below 2^48 only for a value within the limit (and not for the upper end, 2^47 itself).
 fn above(v: i64) -> u64
     ensures { result < 2 ^ 48 → inLimit v ≡ true }
 {

@@ -1,12 +1,13 @@
--- A block, run after run from its first point on: the first e runs are stepped, in the table at the start of the block. What a run asks is there: its points
--- have not moved and their parents stand before the level list, and the numbers of all of them are small.
+-- A block, run after run from its first point on: the first e runs are stepped, in the table at the start of the block. What the next run asks is there: its
+-- points have not moved and its parents stand before the level list, and the numbers of all of them are small. So its sums are those of the table at the
+-- start, and then e + 1 runs are stepped.
 -- Assumes nothing.
 use mathlib.Core.Path.{◌≡◌, refl, ap, ap₂, ◌∙◌}
 use mathlib.Core.Logic.{inl, inr}
 use mathlib.Core.Bool.{Bool}
 use mathlib.Core.List.{List}
 use Prim.Native.Nat.{ℕ, suc, ◌+◌, ◌-◌, ◌*◌, ◌%◌, ◌^◌, ◌≤◌, ◌<◌}
-use native.Mathlib.Nat.{zero-add, mod-eq_of_lt, mul-le-mul_left, mul-le-mul_right}
+use native.Mathlib.Nat.{mod-eq_of_lt, mul-le-mul_left, pow-suc}
 use native.Mathlib.Omega.{arith}
 use lib.IntN.{ℤ, nat_abs, ◌+ℤ◌}
 use lib.ListN.{length}
@@ -27,8 +28,9 @@ use Rattle.neighbours.specs.Steps.{sparseOf, codeFrom}
 use Rattle.neighbours.proofs.Beside.{bits, end-inside, first-small}
 use Rattle.neighbours.proofs.Runs as runs
 use Rattle.lists.specs.Steps.{OnAxis, valueIn, RoomIn, RunStepped, Stepped, Workable, BlockAt}
+use Rattle.lists.proofs.Running.{run-few}
 use Rattle.lists.proofs.Joining.{none-stepped, stepped-few, before-held, run-joins}
-use Rattle.lists.proofs.Sums.{Parents, nearAt, all-digits, block-end, run-inside, first-left, last-right, near-left, near-right, far-left, far-right, run-before, sum-between, sum-from-border, sum-to-border}
+use Rattle.lists.proofs.Sums.{Parents, Borders, nearAt, all-digits, block-end, run-inside, first-left, last-right, near-left, near-right, far-left, far-right, run-before, sum-between, sum-from-border, sum-to-border}
 
 -- A table of the shape is small.
 pub table-small : (line : Line) (xs : List ℤ) → OnAxis (sparseOf line) line.place xs → length xs < 2 ^ 32
@@ -41,27 +43,16 @@ table-small line xs on =
       start_small line.axes (omega (arith, on.place)) on.few (suc line.level) (omega (arith, on.low)),
     )
 
--- The first e runs of a block are done, and the next begins at number x.
-pub record RunsDone (ahead : Bool) (v : Subspace) (first e x : ℕ) (xs : List ℤ) (k : ℕ) (ys : List ℤ) : Type 0 where
-  pub place : x ≡ first + e * 2 ^ v.low
-  pub stepped : Stepped ahead (sparseOf v.line) v.line.place first x xs k ys
-
-pub no-runs : (ahead : Bool) (v : Subspace) (first : ℕ) (xs : List ℤ) → RunsDone ahead v first 0 first xs 0 xs
-no-runs ahead v first xs =
-    record { place = omega arith; stepped = none-stepped ahead (sparseOf v.line) v.line.place first xs }
+-- ---- the numbers that the code computes: no shift loses a bit
 
 module _ {v : Subspace} {starts : List ℕ} {first beyond : ℕ} {xs : List ℤ} (w : Workable v starts first xs) (b : BlockAt v first beyond) where
-  end-small : v.end < 2 ^ 32
-  end-small = omega (arith, end-inside w.seen, w.axis.long, table-small v.line xs w.axis)
-
-  -- The numbers that the code computes: no shift loses a bit.
   pub width-is : 1 * 2 ^ v.low % 2 ^ 64 ≡ 2 ^ v.low
   width-is = one_shifted 64 v.low (omega (arith, bits w.seen))
 
-  pub pairs-is : 1 * 2 ^ (v.own - 1) % 2 ^ 32 ≡ 2 ^ (v.own - 1)
+  pairs-is : 1 * 2 ^ (v.own - 1) % 2 ^ 32 ≡ 2 ^ (v.own - 1)
   pairs-is = one_shifted 32 (v.own - 1) (omega (arith, bits w.seen))
 
-  pub pairs-small : 2 ^ (v.own - 1) ≤ 2 ^ 7
+  pairs-small : 2 ^ (v.own - 1) ≤ 2 ^ 7
   pairs-small = pow_mono {i = v.own - 1} {j = 7} (omega (arith, bits w.seen))
 
   pub beyond-small : beyond < 2 ^ 8
@@ -79,252 +70,223 @@ module _ {v : Subspace} {starts : List ℕ} {first beyond : ℕ} {xs : List ℤ}
   pub start-small : at starts 1 < 2 ^ 32
   start-small = first-small w.seen w.below 1 (omega arith) w.moves
 
-  module _ {ahead : Bool} {e x k : ℕ} {ys : List ℤ} (done : RunsDone ahead v first e x xs k ys) (digit : e < 2 ^ v.own) where
-    from-start : v.start ≤ first
-    from-start = omega (arith, b.first)
+-- ---- the next run
 
-    from-first : first ≤ x
-    from-first = omega (arith, done.place)
+-- A block, and the width of its runs.
+pub record Here (v : Subspace) (starts : List ℕ) (first beyond width : ℕ) (xs : List ℤ) : Type 0 where
+  pub work : Workable v starts first xs
+  pub block : BlockAt v first beyond
+  pub wide : width ≡ 2 ^ v.low
 
-    run-end : x + 2 ^ v.low ≤ length ys
-    run-end =
-        omega (
-          arith,
-          run-inside w.seen w.below w.moves b e x digit done.place,
-          block-end w.seen w.below w.moves b,
-          end-inside w.seen,
-          w.axis.long,
-          done.stepped.long,
-        )
+-- The first e runs of a block are done, and the next begins at number x.
+pub record RunsDone (ahead : Bool) (v : Subspace) (first e x : ℕ) (xs : List ℤ) (k : ℕ) (ys : List ℤ) : Type 0 where
+  pub place : x ≡ first + e * 2 ^ v.low
+  pub stepped : Stepped ahead (sparseOf v.line) v.line.place first x xs k ys
 
-    long-small : length ys < 2 ^ 32
-    long-small = omega (arith, done.stepped.long, table-small v.line xs w.axis)
+-- All that the next one needs: it has the digit e on the axis.
+pub record NextRun (ahead : Bool) (v : Subspace) (first width : ℕ) (xs : List ℤ) (e x k : ℕ) (ys : List ℤ) : Type 0 where
+  pub starts : List ℕ
+  pub beyond : ℕ
+  pub here : Here v starts first beyond width xs
+  pub done : RunsDone ahead v first e x xs k ys
+  pub digit : e < 2 ^ v.own
 
-    -- ---- what a run asks
+abbrev parentsSum : Subspace → List ℤ → ℕ → ℤ
+parentsSum v xs p = sumOn (neighbour (sparseOf v.line)) v.line.place (valueAt xs) (suc p)
 
-    parents-before : {side : Side} {a : ℕ} → Parents v side x a → a + 2 ^ v.low ≤ v.start
-    parents-before {side} {a} parents = run-before w.seen w.below w.moves b e x digit done.place side a parents
+-- It has the border on one side, and its parents on the other are the points from number a on.
+pub record ByBorder (ahead : Bool) (v : Subspace) (first width : ℕ) (xs : List ℤ) (e x a k : ℕ) (ys : List ℤ) : Type 0 where
+  pub next : NextRun ahead v first width xs e x k ys
+  pub before : a + width ≤ v.start
+  pub sums : (i : ℕ) → i < 2 ^ v.low → valueIn xs a i ≡ parentsSum v xs (x + i)
 
-    room-here : RoomIn x (2 ^ v.low) ys
-    room-here i h =
-        omega (arith, ap nat_abs (done.stepped.off (x + i) (inr (omega arith))), w.room (x + i) (inr (omega (arith, from-first))))
+-- Its parents are the points from number a on, and those from number c on.
+pub record Between (ahead : Bool) (v : Subspace) (first width : ℕ) (xs : List ℤ) (e x a c k : ℕ) (ys : List ℤ) : Type 0 where
+  pub next : NextRun ahead v first width xs e x k ys
+  pub left-before : a + width ≤ v.start
+  pub right-before : c + width ≤ v.start
+  pub sums : (i : ℕ) → i < 2 ^ v.low → valueIn xs a i +ℤ valueIn xs c i ≡ parentsSum v xs (x + i)
 
-    room-before : {side : Side} {a : ℕ} → Parents v side x a → RoomIn a (2 ^ v.low) ys
-    room-before {side} {a} parents i h =
-        omega (
-          arith,
-          ap nat_abs (before-held done.stepped (suc (a + i)) (omega (arith, from-start, parents-before parents))),
-          w.room (a + i) (inl (omega (arith, parents-before parents))),
-        )
+module _ {ahead : Bool} {v : Subspace} {first width : ℕ} {xs : List ℤ} {e x k : ℕ} {ys : List ℤ} (r : NextRun ahead v first width xs e x k ys) where
+  from-first : v.start ≤ first
+  from-first = omega (arith, r.here.block.first)
 
-    -- No parent has moved.
-    parents-held : {side : Side} {a : ℕ} → Parents v side x a → (i : ℕ) → i < 2 ^ v.low → valueIn ys a i ≡ valueIn xs a i
-    parents-held {side} {a} parents i h = before-held done.stepped (suc (a + i)) (omega (arith, from-start, parents-before parents))
+  from-here : first ≤ x
+  from-here = omega (arith, r.done.place)
 
-    module _ {width : ℕ} (width-is : width ≡ 2 ^ v.low) where
-      border-asks : {side : Side} {a : ℕ} → Parents v side x a →
-          (a + width ≤ x) × (x + width ≤ length ys) × (length ys < 2 ^ 32) × RoomIn x width ys × RoomIn a width ys
-      border-asks parents =
-          rw width-is (
-            omega (arith, parents-before parents, from-start, from-first),
-            run-end,
-            long-small,
-            room-here,
-            room-before parents,
-          )
+  pub run-end : x + width ≤ length ys
+  run-end =
+      let w = r.here.work in
+      omega (
+        arith,
+        r.here.wide,
+        run-inside w.seen w.below w.moves r.here.block e x r.digit r.done.place,
+        block-end w.seen w.below w.moves r.here.block,
+        end-inside w.seen,
+        w.axis.long,
+        r.done.stepped.long,
+      )
 
-      between-asks : {a c : ℕ} → Parents v Left x a → Parents v Right x c →
-          (a + width ≤ x) × (c + width ≤ x) × (x + width ≤ length ys) × (length ys < 2 ^ 32) × RoomIn x width ys × RoomIn a width ys × RoomIn c width ys
-      between-asks left right =
-          rw width-is (
-            omega (arith, parents-before left, from-start, from-first),
-            omega (arith, parents-before right, from-start, from-first),
-            run-end,
-            long-small,
-            room-here,
-            room-before left,
-            room-before right,
-          )
+  pub long-small : length ys < 2 ^ 32
+  long-small = omega (arith, r.done.stepped.long, table-small v.line xs r.here.work.axis)
 
-      -- The next run is done, its sums taken in the table at the start of the block.
-      run-done : {k' : ℕ} {sum : ℕ → ℤ} {zs : List ℤ} → RunStepped ahead x width sum ys k' zs → (e' : ℕ) → e' ≡ suc e →
-          ((i : ℕ) → i < 2 ^ v.low → sum i ≡ sumOn (neighbour (sparseOf v.line)) v.line.place (valueAt xs) (suc (x + i))) →
-          RunsDone ahead v first e' (x + width) xs (k + k') zs
-      run-done run e' next sums =
-          record {
-            place = rw next (omega (arith, done.place, width-is));
-            stepped = run-joins done.stepped from-first run (λ i h. sums i (omega (arith, width-is)));
-          }
+  pub end-small : x + width < 2 ^ 32
+  end-small = omega (arith, run-end, long-small)
 
-  module _ {ahead : Bool} {e x k : ℕ} {ys : List ℤ} (done : RunsDone ahead v first e x xs k ys) where
+  pub room-here : RoomIn x width ys
+  room-here i h =
+      omega (arith, ap nat_abs (r.done.stepped.off (x + i) (inr (omega arith))), r.here.work.room (x + i) (inr (omega (arith, from-here))))
+
+  -- Its parents stand behind it, and none has moved.
+  module _ (a : ℕ) (before : a + width ≤ v.start) where
+    pub parents-behind : a + width ≤ x
+    parents-behind = omega (arith, before, from-first, from-here)
+
+    pub parents-held : (i : ℕ) → i < width → valueIn ys a i ≡ valueIn xs a i
+    parents-held i h = before-held r.done.stepped (suc (a + i)) (omega (arith, before, from-first))
+
+    pub room-before : RoomIn a width ys
+    room-before i h = omega (arith, ap nat_abs (parents-held i h), r.here.work.room (a + i) (inl (omega (arith, before))))
+
+  module _ {k' : ℕ} {sum : ℕ → ℤ} {zs : List ℤ} (run : RunStepped ahead x width sum ys k' zs) where
     -- There are few odd sums.
-    few-odds : e ≤ 2 ^ v.own → k ≤ 2 ^ 33
-    few-odds most =
-        omega (
-          arith,
-          stepped-few done.stepped,
-          done.place,
-          mul-le-mul_right {m = e} {n = 2 ^ v.own} (2 ^ v.low) most,
-          pow-add 2 v.low v.own,
-          block-end w.seen w.below w.moves b,
-          end-small,
-        )
+    pub odds-few : k + k' ≤ 2 ^ 33
+    odds-few = omega (arith, stepped-few r.done.stepped, run-few run, end-small)
 
-  -- ---- the first run
+    run-done : ((i : ℕ) → i < 2 ^ v.low → sum i ≡ parentsSum v xs (x + i)) → (e' : ℕ) → e' ≡ suc e → RunsDone ahead v first e' (x + width) xs (k + k') zs
+    run-done sums e' more =
+        record {
+          place = rw more (omega (arith, r.done.place, r.here.wide));
+          stepped = run-joins r.done.stepped from-here run (λ i h. sums i (omega (arith, r.here.wide)));
+        }
 
-  first-digit : 0 < 2 ^ v.own
-  first-digit = pow_pos v.own
+-- What a run asks, and what it leaves: a run more is done, its sums taken in the table at the start of the block.
+module _ {ahead : Bool} {v : Subspace} {first width : ℕ} {xs : List ℤ} {e x a k : ℕ} {ys : List ℤ} (r : ByBorder ahead v first width xs e x a k ys) where
+  pub border-asks : (a + width ≤ x) × (x + width ≤ length ys) × (length ys < 2 ^ 32) × RoomIn x width ys × RoomIn a width ys
+  border-asks = (parents-behind r.next a r.before, run-end r.next, long-small r.next, room-here r.next, room-before r.next a r.before)
 
-  -- Its parents are from number `near` on.
-  module _ {near width : ℕ} (near-at : near ≡ nearAt v starts beyond 0) (width-is : width ≡ 2 ^ v.low) (ahead : Bool) where
-    none : RunsDone ahead v first 0 first xs 0 xs
-    none = no-runs ahead v first xs
+  pub border-held : (i : ℕ) → i < 2 ^ v.low → valueIn ys a i ≡ valueIn xs a i
+  border-held i h = parents-held r.next a r.before i (omega (arith, r.next.here.wide))
 
-    first-parents : Parents v Right first near
-    first-parents = near-right w.seen w.below w.moves b 0 first first-digit none.place 0 (pow_pos (v.own - 1)) near near-at refl
+  pub border-done : {k' : ℕ} {sum : ℕ → ℤ} {zs : List ℤ} → RunStepped ahead x width sum ys k' zs → ((i : ℕ) → i < 2 ^ v.low → sum i ≡ valueIn xs a i) →
+      (e' : ℕ) → e' ≡ suc e → RunsDone ahead v first e' (x + width) xs (k + k') zs
+  border-done run held = run-done r.next run (λ i h. held i h ∙ r.sums i h)
 
-    pub first-asks : (near + width ≤ first) × (first + width ≤ length xs) × (length xs < 2 ^ 32) × RoomIn first width xs × RoomIn near width xs
-    first-asks = border-asks none first-digit width-is first-parents
+module _ {ahead : Bool} {v : Subspace} {first width : ℕ} {xs : List ℤ} {e x a c k : ℕ} {ys : List ℤ} (r : Between ahead v first width xs e x a c k ys) where
+  pub between-asks :
+      (a + width ≤ x) × (c + width ≤ x) × (x + width ≤ length ys) × (length ys < 2 ^ 32) × RoomIn x width ys × RoomIn a width ys × RoomIn c width ys
+  between-asks = (
+    parents-behind r.next a r.left-before,
+    parents-behind r.next c r.right-before,
+    run-end r.next,
+    long-small r.next,
+    room-here r.next,
+    room-before r.next a r.left-before,
+    room-before r.next c r.right-before,
+  )
 
-    pub first-before : near + width ≤ v.start
-    first-before = omega (arith, width-is, parents-before none first-digit first-parents)
+  pub between-held : (i : ℕ) → i < 2 ^ v.low → valueIn ys a i +ℤ valueIn ys c i ≡ valueIn xs a i +ℤ valueIn xs c i
+  between-held i h =
+      let inside : i < width = omega (arith, r.next.here.wide) in
+      ap₂ ◌+ℤ◌ (parents-held r.next a r.left-before i inside) (parents-held r.next c r.right-before i inside)
 
-    pub first-done : {k : ℕ} {sum : ℕ → ℤ} {ys : List ℤ} → RunStepped ahead first width sum xs k ys →
-        ((i : ℕ) → i < 2 ^ v.low → sum i ≡ valueIn xs near i) → RunsDone ahead v first 1 (first + width) xs k ys
-    first-done run sums =
-        rw zero-add at (
-        run-done none first-digit width-is run 1 refl
-        (λ i h.
-        sums i h
-        ∙ sum-from-border (valueAt xs) (value-zero xs) (first-left w.seen w.below w.moves b 0 first first-digit none.place refl) first-parents i h)
-        )
+  pub between-done : {k' : ℕ} {sum : ℕ → ℤ} {zs : List ℤ} → RunStepped ahead x width sum ys k' zs →
+      ((i : ℕ) → i < 2 ^ v.low → sum i ≡ valueIn xs a i +ℤ valueIn xs c i) → (e' : ℕ) → e' ≡ suc e → RunsDone ahead v first e' (x + width) xs (k + k') zs
+  between-done run held = run-done r.next run (λ i h. held i h ∙ r.sums i h)
 
-  -- ---- a turn of the loop: the runs with the digits 2j − 1 and 2j
+-- ---- the runs of the code
 
-  module _ {ahead : Bool} {j x near far k : ℕ} {ys : List ℤ} (done : RunsDone ahead v first (2 * j - 1) x xs k ys) (some : 1 ≤ j)
-      (in-row : j < 2 ^ (v.own - 1)) (near-at : near ≡ nearAt v starts beyond (j - 1)) (found : suc far ≡ codeFrom v starts 0 beyond (4 * j))
-      {width : ℕ} (width-is : width ≡ 2 ^ v.low) where
-    up-digit : 2 * j - 1 < 2 ^ v.own
-    up-digit = omega (arith, in-row, all-digits v.own w.moves)
+module _ {v : Subspace} {starts : List ℕ} {first beyond width : ℕ} {xs : List ℤ} (h : Here v starts first beyond width xs) where
+  abbrev w : Workable v starts first xs
+  w = h.work
 
-    up-left : Parents v Left x near
-    up-left =
-        near-left w.seen w.below w.moves b (2 * j - 1) x up-digit done.place (j - 1) (omega (arith, in-row)) near near-at (omega (arith, some))
+  module _ {ahead : Bool} {e x k : ℕ} {ys : List ℤ} (done : RunsDone ahead v first e x xs k ys) (digit : e < 2 ^ v.own) where
+    next-run : NextRun ahead v first width xs e x k ys
+    next-run = record { starts = starts; beyond = beyond; here = h; done = done; digit = digit }
 
-    up-right : Parents v Right x far
-    up-right = far-right w.seen w.below w.moves b (2 * j - 1) x up-digit done.place j in-row some far found (omega (arith, some))
+    behind : {side : Side} {a : ℕ} → Parents v side x a → a + width ≤ v.start
+    behind {side} {a} parents = omega (arith, h.wide, run-before w.seen w.below w.moves h.block e x digit done.place side a parents)
 
-    pub up-asks :
-        (near + width ≤ x)
-        × (far + width ≤ x)
-        × (x + width ≤ length ys)
-        × (length ys < 2 ^ 32)
-        × RoomIn x width ys
-        × RoomIn near width ys
-        × RoomIn far width ys
-    up-asks = between-asks done up-digit width-is up-left up-right
+    from-border : {a : ℕ} → Borders v Left x → Parents v Right x a → ByBorder ahead v first width xs e x a k ys
+    from-border left right =
+        record { next = next-run; before = behind right; sums = sum-from-border (valueAt xs) (value-zero xs) left right }
 
-    pub up-before : (near + width ≤ v.start) × (far + width ≤ v.start)
-    up-before = (omega (arith, width-is, parents-before done up-digit up-left), omega (arith, width-is, parents-before done up-digit up-right))
+    to-border : {a : ℕ} → Parents v Left x a → Borders v Right x → ByBorder ahead v first width xs e x a k ys
+    to-border left right = record { next = next-run; before = behind left; sums = sum-to-border (valueAt xs) (value-zero xs) left right }
 
-    pub up-held : (i : ℕ) → i < 2 ^ v.low → valueIn ys near i +ℤ valueIn ys far i ≡ valueIn xs near i +ℤ valueIn xs far i
-    up-held i h = ap₂ ◌+ℤ◌ (parents-held done up-digit up-left i h) (parents-held done up-digit up-right i h)
+    between : {a c : ℕ} → Parents v Left x a → Parents v Right x c → Between ahead v first width xs e x a c k ys
+    between left right =
+        record { next = next-run; left-before = behind left; right-before = behind right; sums = sum-between (valueAt xs) left right }
 
-    module _ {k' : ℕ} {sum : ℕ → ℤ} {zs : List ℤ} (run : RunStepped ahead x width sum ys k' zs)
-        (sums : (i : ℕ) → i < 2 ^ v.low → sum i ≡ valueIn xs near i +ℤ valueIn xs far i) where
-      pub up-done : RunsDone ahead v first (2 * j) (x + width) xs (k + k') zs
-      up-done =
-          run-done done up-digit width-is run (2 * j) (omega (arith, some)) (λ i h. sums i h ∙ sum-between (valueAt xs) up-left up-right i h)
+  -- The first run has the border at its left, and its parents at the right are from number `near` on.
+  pub first-run : {ahead : Bool} {near : ℕ} → near ≡ nearAt v starts beyond 0 → ByBorder ahead v first width xs 0 first near 0 xs
+  first-run {ahead} {near} near-at =
+      let none : RunsDone ahead v first 0 first xs 0 xs
+      = record { place = omega arith; stepped = none-stepped ahead (sparseOf v.line) v.line.place first xs } in
+      let digit : 0 < 2 ^ v.own = pow_pos v.own in
+      from-border none digit
+      (first-left w.seen w.below w.moves h.block 0 first digit none.place refl)
+      (near-right w.seen w.below w.moves h.block 0 first digit none.place 0 (pow_pos (v.own - 1)) near near-at refl)
 
-      down-digit : 2 * j < 2 ^ v.own
-      down-digit = omega (arith, in-row, all-digits v.own w.moves)
+  pub one-pair : 1 ≤ 1 * 2 ^ (v.own - 1) % 2 ^ 32
+  one-pair = omega (arith, pairs-is w h.block, pow_pos (v.own - 1))
 
-      pub up-few : k + k' ≤ 2 ^ 33
-      up-few = few-odds up-done (omega (arith, down-digit))
+  -- A turn of the loop.
+  module _ {j : ℕ} (some : 1 ≤ j) (more : j < 1 * 2 ^ (v.own - 1) % 2 ^ 32) where
+    in-row : j < 2 ^ (v.own - 1)
+    in-row = omega (arith, more, pairs-is w h.block)
 
-      pub next-near : near + width ≡ nearAt v starts beyond j
-      next-near =
-          let again : suc (j - 1) ≡ j = omega (arith, some) in
-          omega (arith, near-at, width-is, ap (λ (i : ℕ). i * 2 ^ v.low) again)
+    digits : 2 * j < 2 ^ v.own
+    digits = omega (arith, in-row, all-digits v.own w.moves)
 
-      down-left : Parents v Left (x + width) far
-      down-left = far-left w.seen w.below w.moves b (2 * j) (x + width) down-digit up-done.place j in-row some far found refl
+    pub numerator-small : 4 * j < 2 ^ 9
+    numerator-small = omega (arith, in-row, pairs-small w h.block)
 
-      down-right : Parents v Right (x + width) (near + width)
-      down-right = near-right w.seen w.below w.moves b (2 * j) (x + width) down-digit up-done.place j in-row (near + width) next-near refl
+    pub numerator-inside : 4 * j < 2 ^ suc v.own
+    numerator-inside = omega (arith, digits, pow-suc 2 v.own)
 
-      pub down-asks :
-          (far + width ≤ x + width)
-          × (near + width + width ≤ x + width)
-          × (x + width + width ≤ length zs)
-          × (length zs < 2 ^ 32)
-          × RoomIn (x + width) width zs
-          × RoomIn far width zs
-          × RoomIn (near + width) width zs
-      down-asks = between-asks up-done down-digit width-is down-left down-right
+    -- After it `near` is one run on.
+    pub next-near : {near : ℕ} → near ≡ nearAt v starts beyond (j - 1) → near + width ≡ nearAt v starts beyond j
+    next-near near-at =
+        let again : suc (j - 1) ≡ j = omega (arith, some) in
+        omega (arith, near-at, h.wide, ap (λ (i : ℕ). i * 2 ^ v.low) again)
 
-      pub down-before : near + width + width ≤ v.start
-      down-before = omega (arith, width-is, parents-before up-done down-digit down-right)
+    -- The run with the digit 2j − 1 has its left parents at `near` and its right ones at `far`; the one with 2j has its left ones at `far`.
+    module _ {far : ℕ} (found : suc far ≡ codeFrom v starts 0 beyond (4 * j)) {ahead : Bool} {x near k : ℕ} {ys : List ℤ} where
+      pub up-run : RunsDone ahead v first (2 * j - 1) x xs k ys → near ≡ nearAt v starts beyond (j - 1) →
+          Between ahead v first width xs (2 * j - 1) x near far k ys
+      up-run done near-at =
+          let digit : 2 * j - 1 < 2 ^ v.own = omega (arith, digits) in
+          between done digit
+          (near-left w.seen w.below w.moves h.block (2 * j - 1) x digit done.place (j - 1) (omega (arith, in-row)) near near-at (omega (arith, some)))
+          (far-right w.seen w.below w.moves h.block (2 * j - 1) x digit done.place j in-row some far found (omega (arith, some)))
 
-      pub down-held : (i : ℕ) → i < 2 ^ v.low → valueIn zs far i +ℤ valueIn zs (near + width) i ≡ valueIn xs far i +ℤ valueIn xs (near + width) i
-      down-held i h = ap₂ ◌+ℤ◌ (parents-held up-done down-digit down-left i h) (parents-held up-done down-digit down-right i h)
+      pub down-run : RunsDone ahead v first (2 * j) x xs k ys → near ≡ nearAt v starts beyond j → Between ahead v first width xs (2 * j) x far near k ys
+      down-run done near-at =
+          between done digits
+          (far-left w.seen w.below w.moves h.block (2 * j) x digits done.place j in-row some far found refl)
+          (near-right w.seen w.below w.moves h.block (2 * j) x digits done.place j in-row near near-at refl)
 
-      module _ {k'' : ℕ} {sum' : ℕ → ℤ} {us : List ℤ} (run' : RunStepped ahead (x + width) width sum' zs k'' us)
-          (sums' : (i : ℕ) → i < 2 ^ v.low → sum' i ≡ valueIn xs far i +ℤ valueIn xs (near + width) i) where
-        pub down-done : RunsDone ahead v first (2 * (j + 1) - 1) (x + width + width) xs (k + k' + k'') us
-        down-done =
-            run-done up-done down-digit width-is run' (2 * (j + 1) - 1) (omega arith)
-            (λ i h. sums' i h ∙ sum-between (valueAt xs) down-left down-right i h)
+  -- The last run has the border at its right.
+  pub last-run : {ahead : Bool} {j x near k : ℕ} {ys : List ℤ} → 1 ≤ j → j ≤ 1 * 2 ^ (v.own - 1) % 2 ^ 32 → 1 * 2 ^ (v.own - 1) % 2 ^ 32 ≤ j →
+      RunsDone ahead v first (2 * j - 1) x xs k ys → near ≡ nearAt v starts beyond (j - 1) →
+      ByBorder ahead v first width xs (2 ^ v.own - 1) x near k ys
+  last-run {j = j} {x} {near} some most end done near-at =
+      let all : j ≡ 2 ^ (v.own - 1) = omega (arith, most, end, pairs-is w h.block) in
+      let full = all-digits v.own w.moves in
+      let last : 2 * j - 1 ≡ 2 ^ v.own - 1 = omega (arith, all, full) in
+      let done-now = rw last at done in
+      let e : ℕ = 2 ^ v.own - 1 in
+      let digit : e < 2 ^ v.own = omega (arith, some, all, full) in
+      to-border done-now digit
+      (near-left w.seen w.below w.moves h.block e x digit done-now.place (j - 1) (omega (arith, some, all)) near near-at (omega (arith, some, last)))
+      (last-right w.seen w.below w.moves h.block e x digit done-now.place (omega (arith, digit)))
 
-        pub down-few : k + k' + k'' ≤ 2 ^ 33
-        down-few = few-odds down-done (omega (arith, down-digit))
-
-  -- ---- the last run
-
-  module _ {ahead : Bool} {j x near k : ℕ} {ys : List ℤ} (done : RunsDone ahead v first (2 * j - 1) x xs k ys) (last : j ≡ 2 ^ (v.own - 1))
-      (near-at : near ≡ nearAt v starts beyond (j - 1)) {width : ℕ} (width-is : width ≡ 2 ^ v.low) where
-    some-pairs : 1 ≤ j
-    some-pairs = omega (arith, last, pow_pos (v.own - 1))
-
-    last-digit : 2 * j - 1 < 2 ^ v.own
-    last-digit = omega (arith, some-pairs, last, all-digits v.own w.moves)
-
-    last-parents : Parents v Left x near
-    last-parents =
-        near-left w.seen w.below w.moves b (2 * j - 1) x last-digit done.place (j - 1) (omega (arith, some-pairs, last)) near near-at
-        (omega (arith, some-pairs))
-
-    pub last-asks : (near + width ≤ x) × (x + width ≤ length ys) × (length ys < 2 ^ 32) × RoomIn x width ys × RoomIn near width ys
-    last-asks = border-asks done last-digit width-is last-parents
-
-    pub last-before : near + width ≤ v.start
-    last-before = omega (arith, width-is, parents-before done last-digit last-parents)
-
-    pub last-held : (i : ℕ) → i < 2 ^ v.low → valueIn ys near i ≡ valueIn xs near i
-    last-held i h = parents-held done last-digit last-parents i h
-
-    module _ {k' : ℕ} {sum : ℕ → ℤ} {zs : List ℤ} (run : RunStepped ahead x width sum ys k' zs)
-        (sums : (i : ℕ) → i < 2 ^ v.low → sum i ≡ valueIn xs near i) where
-      all-done : RunsDone ahead v first (2 * j) (x + width) xs (k + k') zs
-      all-done =
-          run-done done last-digit width-is run (2 * j) (omega (arith, some-pairs))
-          (λ i h.
-          sums i h
-          ∙ sum-to-border (valueAt xs) (value-zero xs) last-parents
-          (last-right w.seen w.below w.moves b (2 * j - 1) x last-digit done.place (omega (arith, some-pairs, last, all-digits v.own w.moves))) i h)
-
-      pub last-few : k + k' ≤ 2 ^ 33
-      last-few = few-odds all-done (omega (arith, last, all-digits v.own w.moves))
-
-      -- All runs make the block.
-      pub block-done : Stepped ahead (sparseOf v.line) v.line.place first (first + 2 ^ (v.low + v.own)) xs (k + k') zs
-      block-done =
-          let end : x + width ≡ first + 2 ^ (v.low + v.own) =
-          omega (
-            arith,
-            all-done.place,
-            ap (λ (d : ℕ). 2 * d * 2 ^ v.low) last,
-            ap (λ (d : ℕ). d * 2 ^ v.low) (all-digits v.own w.moves),
-            pow-add 2 v.low v.own,
-          ) in
-          rw end at all-done.stepped
+-- With it all runs are done, and they make the block.
+pub block-done : {ahead : Bool} {v : Subspace} {first width : ℕ} {xs : List ℤ} {x a k k' : ℕ} {sum : ℕ → ℤ} {ys zs : List ℤ} →
+    ByBorder ahead v first width xs (2 ^ v.own - 1) x a k ys → RunStepped ahead x width sum ys k' zs → ((i : ℕ) → i < 2 ^ v.low → sum i ≡ valueIn xs a i) →
+    Stepped ahead (sparseOf v.line) v.line.place first (first + 2 ^ (v.low + v.own)) xs (k + k') zs
+block-done {v = v} {first} {width} {x = x} r run held =
+    let all = border-done r run held (2 ^ v.own) (omega (arith, pow_pos v.own)) in
+    let end : x + width ≡ first + 2 ^ (v.low + v.own) = omega (arith, all.place, pow-add 2 v.low v.own) in
+    rw end at all.stepped

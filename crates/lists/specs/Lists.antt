@@ -11,7 +11,7 @@ use Rattle.shapes.specs.Shapes.{pointsOf}
 use Rattle.grids.specs.Grids.{neighbour}
 use Rattle.grids.specs.Turned.{turnedTable, formerTable}
 
--- What a whole turn leaves, forward or back.
+-- What a whole turn leaves, forward (true) or back (false).
 unfoldable pub wholeTurn : Bool → Shape → ℕ → List ℤ → List ℤ
 wholeTurn true s t xs = turnedTable s t xs
 wholeTurn false s t xs = formerTable s t xs
@@ -20,7 +20,7 @@ wholeTurn false s t xs = formerTable s t xs
 unfoldable pub between : ℕ → ℕ → (ℕ → ℤ) → (ℕ → ℤ) → ℕ → ℤ
 between lo hi f g = mixed lo g (mixed hi f g)
 
--- A value after a step, with half of its parents' sum as the table has it.
+-- The value at a code after a step there, its parents' sum read in the same table.
 unfoldable pub steppedAt : Bool → Shape → ℕ → (ℕ → ℤ) → ℕ → ℤ
 steppedAt ahead s t f p = stepped ahead (f p) (sumOn (neighbour s) t f p)
 

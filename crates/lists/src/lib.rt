@@ -1,5 +1,5 @@
-// The work of a turn on one level list, all its points together, in the one lent buffer. Points with the same digit on the axis that follow each other
-// (a run) have parents that follow each other, and so have those of the next run: no search and no test for each point.
+// The work of a turn on one level list, all its points together, in the one lent buffer. Points with the same digit on the axis that follow each other are a
+// run; their parents follow each other too, and half of these parents serve the next run as well: no search and no test for each point.
 #![tactic(auto)]
 
 ghost use Rattle.std.specs.Prelude.{◌≡◌, ◌+◌, ◌^◌, ◌≤◌, ◌<◌, ◌+ℤ◌, List, ℤ, nat_abs, length};
@@ -55,8 +55,8 @@ fn step_at(forward: bool, table: &mut [i64], x: usize, sum: i64) -> u64
 
 // ---- blocks
 
-// The points to which the axes beyond add `beyond`, from number `first` on: run after run. Every second numerator has its parent one level up, so these
-// parents follow each other too; the others are found by `parent_run`, and each serves the runs on both its sides.
+// The points to which the axes beyond add `beyond`, from number `first` on: run after run. The numerators 2, 6, 10, .. have their parents one level up, so
+// these parents follow each other run by run; those at 4, 8, .. are found by `parent_run`, and each serves the runs on both its sides.
 fn block(
     forward: bool,
     v: Subspace,

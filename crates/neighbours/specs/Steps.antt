@@ -29,12 +29,14 @@ pub record Seen (v : Subspace) : Type 0 where
   pub own : v.own ≡ at v.levels v.line.place
 
 -- A list with, for each j from 1 to the level on the axis, the first number of the level vector that is lower by j there and elsewhere has the same levels.
+-- Other places are not read.
 pub record Below (v : Subspace) (starts : List ℕ) : Type 0 where
   pub long : length starts ≡ 9
   pub first : (j : ℕ) → 1 ≤ j → j ≤ v.own → at starts j ≡ firstOf v.line.axes (update (at v.levels) v.line.place (v.own - j))
 
 -- The code of the parent at numerator m of a point, to whose position the axes before this one add `before`, those beyond it `beyond` in units of
--- 2^(sum of the levels up to this axis): the parent's level vector is lower by the factors of two that were dropped, and has so many bits for its index there.
+-- 2^(sum of the levels up to this axis): the parent's level vector is lower on the axis by as many levels as factors of two were dropped, and what the
+-- axes beyond add comes as many bits lower.
 unfoldable pub codeFrom : Subspace → List ℕ → ℕ → ℕ → ℕ → ℕ
 codeFrom v starts before beyond m =
     if isBorder v.own m

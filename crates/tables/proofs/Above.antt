@@ -1,8 +1,13 @@
 -- A value plus 2^31 in 64 bits without sign is below 2^32 only for a rate: below zero the sum wraps where it would be negative, and from zero on it grows past it.
 -- Assumes nothing.
-use Rattle.std.proofs.Common.{◌≡◌, ℕ, suc, ◌^◌, ◌<◌, ◌≤◌, true, false, T, ℤ, pos, negsuc, ◌-ℤ◌, nat_abs, refl, ap, true≢false, arith, w64, SFits, ltb-true, le-ltb, le-leb}
+use Rattle.std.proofs.Common.{◌≡◌, ℕ, suc, ◌^◌, ◌<◌, ◌≤◌, Bool, true, false, T, ℤ, pos, negsuc, ◌-ℤ◌, nat_abs, refl, ap, true≢false, arith, w64, SFits, to_z, of_z, ltb-true, le-ltb, le-leb}
 use lib.Signed.{lt_z, non_neg}
+use mir.ValLaws.{to_z-of_z}
 use Rattle.integers.specs.Half.{isRate}
+
+-- What the code's test for a value below zero says of the value itself.
+pub tested : (z : ℤ) (b : Bool) → SFits w64 z → lt_z (to_z w64 (of_z w64 z)) (pos 0) ≡ b → lt_z z (pos 0) ≡ b
+tested z b f e = rw (to_z-of_z w64 z f) at e
 
 -- How far below −1 a value is.
 pub under : ℤ → ℕ

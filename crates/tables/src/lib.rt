@@ -1,7 +1,7 @@
 // Opening and closing a table: load, adopt and unload, in the one lent buffer.
 #![tactic(auto)]
 
-ghost use Rattle.std.specs.Prelude.{◌≡◌, ◌-◌, ◌^◌, ◌<◌, ◌≤◌, true, map, length};
+ghost use Rattle.std.specs.Prelude.{◌≡◌, ◌+◌, ◌-◌, ◌%◌, ◌^◌, ◌<◌, ◌≤◌, true, map, length};
 ghost use Rattle.naturals.specs.Test.{all};
 ghost use Rattle.naturals.specs.FirstFailing.{Passes};
 ghost use Rattle.integers.specs.Half.{isRate};
@@ -163,11 +163,43 @@ fn is_scaled(axes: u32, v: i64) -> bool
     scaled(axes, rate) == v
 }
 
-// All values are 2^d times a rate.
+// A value plus 2^(31 + d), modulo 2^64: below 2^(32 + d) and divided by 2^d only for 2^d times a rate.
+fn lifted(axes: u32, v: i64) -> u64
+    requires { axes ≤ 8 }
+    ensures { result < 2 ^ (32 + axes) → result % 2 ^ axes ≡ 0 → isScaled axes v ≡ true }
+{
+    let half: u64 = 2147483648 << axes;
+    if v < 0 {
+        return std::num::wrapping_sub_u64(half - 1, (-1 - v) as u64);
+    }
+    v as u64 + half
+}
+
+// All values are 2^d times a rate, seen without a branch for each: the bits gathered are in range and divided by 2^d only where each sum is.
+fn seen_scaled(axes: u32, table: &[i64]) -> bool
+    requires { axes ≤ 8 }
+    ensures { result ≡ true → Passes (scaledAt axes table.now) (length table.now) }
+{
+    let mut bits: u64 = 0;
+    let mut p: usize = 0;
+    while p < table.len() {
+        bits = bits | lifted(axes, table[p]);
+        p += 1;
+    }
+    if bits >> (32 + axes) != 0 {
+        return false;
+    }
+    bits % (1 << axes) == 0
+}
+
+// All values are 2^d times a rate. Where that is not seen for all together, they are looked at one by one.
 fn all_scaled(axes: u32, table: &[i64]) -> bool
     requires { axes ≤ 8 }
     ensures { result ≡ all (scaledAt axes table.now) (length table.now) }
 {
+    if seen_scaled(axes, table) {
+        return true;
+    }
     let mut p: usize = 0;
     while p < table.len() {
         if !is_scaled(axes, table[p]) {

@@ -1,4 +1,4 @@
-// Level vectors (document 01: level lists), eight levels by value: their sum, their order, the next and the one before.
+// Level vectors (document 01: level lists), eight levels: their sum, their order, the next (in place and by value) and the one before (in place).
 #![tactic(auto)]
 
 ghost use Rattle.std.specs.Prelude.{◌≡◌, ◌≤◌, ◌<◌};

@@ -1,12 +1,11 @@
 use mathlib.Core.Path.{◌≡◌, refl}
-use Prim.Native.Nat.{◌+◌, ◌-◌, ◌^◌, ◌<◌}
-use native.Mathlib.Nat.{pow-suc}
+use Prim.Native.Nat.{◌+◌, ◌-◌, ◌*◌, ◌%◌, ◌^◌}
+use native.Mathlib.Nat.{zero-add}
 use native.Mathlib.Omega.{arith}
-use lib.Pow.{pow_pos}
+use Rattle.numbering.specs.Point.{at}
 use Rattle.neighbours.proofs.Beside.{bits}
-use Rattle.lists.proofs.Sums.{all-digits}
-use Rattle.lists.proofs.Blocks.{width-is, pairs-is, pairs-small, beyond-small, shift-small, near-is, start-small, first-asks, first-done, up-asks, up-held, up-few, next-near, down-asks, down-held, down-done, down-few, last-asks, last-held, last-few, block-done}
-use Rattle.lists.proofs.block.Goals.{In-loop-j, After-loop-j}
+use Rattle.lists.proofs.Blocks.{Here, ByBorder, Between, width-is, beyond-small, shift-small, near-is, start-small, end-small, odds-few, border-asks, border-held, border-done, between-asks, between-held, between-done, first-run, one-pair, numerator-small, numerator-inside, up-run, down-run, next-near, last-run, block-done}
+use Rattle.lists.proofs.block.Goals.{Start, After-parent_run-far, After-run_between-odd, After-loop-j}
 use Rattle.lists.proofs.block.Goals as goal
 
 -- ---- shifts
@@ -31,165 +30,113 @@ overflow_add-near-2 c =
 
 -- ---- the first run
 
+here : (c : Start) → let a = c.args in Here a.v a.starts.now a.first a.beyond (1 * 2 ^ a.v.low % 2 ^ 64) a.table.now
+here c = record { work = c.requires.0; block = c.requires.1; wide = width-is c.requires.0 c.requires.1 }
+
+first : (c : Start) →
+    let a = c.args in
+    let near = at a.starts.now 1 + a.beyond * 2 ^ (a.v.low + a.v.own - 1) % 2 ^ 64 in
+    ByBorder a.forward a.v a.first (1 * 2 ^ a.v.low % 2 ^ 64) a.table.now 0 a.first near 0 a.table.now
+first c = first-run (here c) (near-is c.requires.0 c.requires.1)
+
 pub run_by_border-odd-requires : goal.run_by_border-odd-requires
-run_by_border-odd-requires c =
-    let w = c.requires.0 in
-    let b = c.requires.1 in
-    first-asks w b (near-is w b) (width-is w b) c.args.forward
+run_by_border-odd-requires c = border-asks (first (goal.at.run_by_border-odd-requires c).Start)
 
 pub loop-j-init : goal.loop-j-init
 loop-j-init c =
-    let w = c.requires.0 in
-    let b = c.requires.1 in (
-      first-done w b (near-is w b) (width-is w b) c.args.forward c.run_by_border-odd.ensures (λ i h. refl),
-      omega arith,
-      omega (arith, pairs-is w b, pow_pos (c.args.v.own - 1)),
-      near-is w b,
-    )
+    let start = (goal.at.loop-j-init c).Start in
+    let done = border-done (first start) c.run_by_border-odd.ensures (λ i h. refl) 1 refl in
+    (rw zero-add at done, omega arith, one-pair (here start), near-is c.requires.0 c.requires.1)
 
 -- ---- a turn of the loop
 
-in-row : (c : In-loop-j) → c.loop-j.j < 2 ^ (c.args.v.own - 1)
-in-row c = omega (arith, c.loop-j-test.true, pairs-is c.requires.0 c.requires.1)
-
 pub overflow_mul-j : goal.overflow_mul-j
-overflow_mul-j c =
-    let w = c.requires.0 in
-    let b = c.requires.1 in
-    omega (arith, in-row (goal.at.overflow_mul-j c).In-loop-j, pairs-small w b)
+overflow_mul-j c = omega (arith, numerator-small (here (goal.at.overflow_mul-j c).Start) c.loop-j.invariant.1 c.loop-j-test.true)
 
 pub parent_run-far-requires : goal.parent_run-far-requires
 parent_run-far-requires c =
-    let w = c.requires.0 in
-    let b = c.requires.1 in (
-      w.seen,
-      w.below,
-      beyond-small w b,
-      omega arith,
-      omega (arith, c.loop-j.invariant.1),
-      omega (arith, in-row (goal.at.parent_run-far-requires c).In-loop-j, all-digits c.args.v.own w.moves, pow-suc 2 c.args.v.own),
-    )
+    let h = here (goal.at.parent_run-far-requires c).Start in
+    let some = c.loop-j.invariant.1 in
+    let inside = numerator-inside h some c.loop-j-test.true in
+    (h.work.seen, h.work.below, beyond-small h.work h.block, omega arith, omega (arith, some), omega (arith, inside))
+
+-- The run with the digit 2j − 1.
+up : (c : After-parent_run-far) →
+    let a = c.args in
+    let s = c.loop-j in
+    let width = 1 * 2 ^ a.v.low % 2 ^ 64 in
+    Between a.forward a.v a.first width a.table.now (2 * s.j - 1) (s.x + width) s.near c.parent_run-far.result s.odd s.table
+up c =
+    let s = c.loop-j.invariant in
+    up-run (here (goal.at.After-parent_run-far c).Start) s.1 c.loop-j-test.true c.parent_run-far.ensures s.0 s.3
 
 pub overflow_add-x : goal.overflow_add-x
-overflow_add-x c =
-    let row = in-row (goal.at.overflow_add-x c).In-loop-j in
-    let w = c.requires.0 in
-    let b = c.requires.1 in
-    let s = c.loop-j.invariant in
-    let asks = up-asks w b s.0 s.1 row s.3 c.parent_run-far.ensures (width-is w b) in
-    omega (arith, asks.2, asks.3)
+overflow_add-x c = omega (arith, end-small (up (goal.at.overflow_add-x c).After-parent_run-far).next)
 
 pub run_between-odd-requires : goal.run_between-odd-requires
-run_between-odd-requires c =
-    let row = in-row (goal.at.run_between-odd-requires c).In-loop-j in
-    let w = c.requires.0 in
-    let b = c.requires.1 in
-    let s = c.loop-j.invariant in
-    up-asks w b s.0 s.1 row s.3 c.parent_run-far.ensures (width-is w b)
+run_between-odd-requires c = between-asks (up (goal.at.run_between-odd-requires c).After-parent_run-far)
 
 pub overflow_add-odd : goal.overflow_add-odd
-overflow_add-odd c =
-    let row = in-row (goal.at.overflow_add-odd c).In-loop-j in
-    let w = c.requires.0 in
-    let b = c.requires.1 in
+overflow_add-odd c = omega (arith, odds-few (up (goal.at.overflow_add-odd c).After-parent_run-far).next c.run_between-odd.ensures)
+
+-- The run with the digit 2j.
+down : (c : After-run_between-odd) →
+    let a = c.args in
+    let s = c.loop-j in
+    let width = 1 * 2 ^ a.v.low % 2 ^ 64 in
+    let far = c.parent_run-far.result in
+    let run = c.run_between-odd in
+    Between a.forward a.v a.first width a.table.now (2 * s.j) (s.x + width + width) far (s.near + width) (s.odd + run.result) run.new.table
+down c =
     let s = c.loop-j.invariant in
-    let far = c.parent_run-far.ensures in
-    let held = up-held w b s.0 s.1 row s.3 far (width-is w b) in
-    omega (arith, up-few w b s.0 s.1 row s.3 far (width-is w b) c.run_between-odd.ensures held)
+    let before = goal.at.After-run_between-odd c in
+    let r = up before.After-parent_run-far in
+    let done = between-done r c.run_between-odd.ensures (between-held r) (2 * c.loop-j.j) (omega (arith, s.1)) in
+    down-run (here before.Start) s.1 c.loop-j-test.true c.parent_run-far.ensures done (next-near (here before.Start) s.1 c.loop-j-test.true s.3)
 
 pub overflow_add-x-in-loop-j : goal.overflow_add-x-in-loop-j
-overflow_add-x-in-loop-j c =
-    let row = in-row (goal.at.overflow_add-x-in-loop-j c).In-loop-j in
-    let w = c.requires.0 in
-    let b = c.requires.1 in
-    let s = c.loop-j.invariant in
-    let far = c.parent_run-far.ensures in
-    let held = up-held w b s.0 s.1 row s.3 far (width-is w b) in
-    let asks = down-asks w b s.0 s.1 row s.3 far (width-is w b) c.run_between-odd.ensures held in
-    omega (arith, asks.2, asks.3)
+overflow_add-x-in-loop-j c = omega (arith, end-small (down (goal.at.overflow_add-x-in-loop-j c).After-run_between-odd).next)
 
 pub overflow_add-near-in-loop-j : goal.overflow_add-near-in-loop-j
 overflow_add-near-in-loop-j c =
-    let row = in-row (goal.at.overflow_add-near-in-loop-j c).In-loop-j in
-    let w = c.requires.0 in
-    let b = c.requires.1 in
-    let s = c.loop-j.invariant in
-    let asks = up-asks w b s.0 s.1 row s.3 c.parent_run-far.ensures (width-is w b) in
-    omega (arith, asks.0, asks.2, asks.3)
+    let r = down (goal.at.overflow_add-near-in-loop-j c).After-run_between-odd in
+    omega (arith, (between-asks r).1, end-small r.next)
 
 pub run_between-odd-requires-in-loop-j : goal.run_between-odd-requires-in-loop-j
-run_between-odd-requires-in-loop-j c =
-    let row = in-row (goal.at.run_between-odd-requires-in-loop-j c).In-loop-j in
-    let w = c.requires.0 in
-    let b = c.requires.1 in
-    let s = c.loop-j.invariant in
-    let far = c.parent_run-far.ensures in
-    let held = up-held w b s.0 s.1 row s.3 far (width-is w b) in
-    down-asks w b s.0 s.1 row s.3 far (width-is w b) c.run_between-odd.ensures held
+run_between-odd-requires-in-loop-j c = between-asks (down (goal.at.run_between-odd-requires-in-loop-j c).After-run_between-odd)
 
 pub overflow_add-odd-in-loop-j : goal.overflow_add-odd-in-loop-j
 overflow_add-odd-in-loop-j c =
-    let row = in-row (goal.at.overflow_add-odd-in-loop-j c).In-loop-j in
-    let w = c.requires.0 in
-    let b = c.requires.1 in
-    let s = c.loop-j.invariant in
-    let far = c.parent_run-far.ensures in
-    let up = c.run_between-odd.ensures in
-    let held = up-held w b s.0 s.1 row s.3 far (width-is w b) in
-    let held-still = down-held w b s.0 s.1 row s.3 far (width-is w b) up held in
-    omega (arith, down-few w b s.0 s.1 row s.3 far (width-is w b) up held c.run_between-odd-in-loop-j.ensures held-still)
+    omega (arith, odds-few (down (goal.at.overflow_add-odd-in-loop-j c).After-run_between-odd).next c.run_between-odd-in-loop-j.ensures)
 
 pub loop-j-preserved : goal.loop-j-preserved
 loop-j-preserved c =
-    let row = in-row (goal.at.loop-j-preserved c).In-loop-j in
-    let w = c.requires.0 in
-    let b = c.requires.1 in
     let s = c.loop-j.invariant in
-    let far = c.parent_run-far.ensures in
-    let up = c.run_between-odd.ensures in
-    let held = up-held w b s.0 s.1 row s.3 far (width-is w b) in
-    let held-still = down-held w b s.0 s.1 row s.3 far (width-is w b) up held in
-    let same : c.loop-j.j + 1 - 1 ≡ c.loop-j.j = omega arith in (
-      down-done w b s.0 s.1 row s.3 far (width-is w b) up held c.run_between-odd-in-loop-j.ensures held-still,
-      omega arith,
-      omega (arith, c.loop-j-test.true),
-      rw same (next-near w b s.0 s.1 row s.3 far (width-is w b) up held),
-    )
+    let before = goal.at.loop-j-preserved c in
+    let r = down before.After-run_between-odd in
+    let done = between-done r c.run_between-odd-in-loop-j.ensures (between-held r) (2 * (c.loop-j.j + 1) - 1) (omega arith) in
+    let same : c.loop-j.j + 1 - 1 ≡ c.loop-j.j = omega arith in
+    (done, omega arith, omega (arith, c.loop-j-test.true), rw same (next-near (here before.Start) s.1 c.loop-j-test.true s.3))
 
 -- ---- the last run
 
-last-turn : (c : After-loop-j) → c.loop-j.j ≡ 2 ^ (c.args.v.own - 1)
-last-turn c = omega (arith, pairs-is c.requires.0 c.requires.1, c.loop-j.invariant.2, c.loop-j-test.false)
+last : (c : After-loop-j) →
+    let a = c.args in
+    let s = c.loop-j in
+    let width = 1 * 2 ^ a.v.low % 2 ^ 64 in
+    ByBorder a.forward a.v a.first width a.table.now (2 ^ a.v.own - 1) (s.x + width) s.near s.odd s.table
+last c =
+    let s = c.loop-j.invariant in
+    last-run (here (goal.at.After-loop-j c).Start) s.1 s.2 c.loop-j-test.false s.0 s.3
 
 pub overflow_add-x-2 : goal.overflow_add-x-2
-overflow_add-x-2 c =
-    let last = last-turn (goal.at.overflow_add-x-2 c).After-loop-j in
-    let w = c.requires.0 in
-    let b = c.requires.1 in
-    let s = c.loop-j.invariant in
-    let asks = last-asks w b s.0 last s.3 (width-is w b) in
-    omega (arith, asks.1, asks.2)
+overflow_add-x-2 c = omega (arith, end-small (last (goal.at.overflow_add-x-2 c).After-loop-j).next)
 
 pub run_by_border-requires : goal.run_by_border-requires
-run_by_border-requires c =
-    let last = last-turn (goal.at.run_by_border-requires c).After-loop-j in
-    let w = c.requires.0 in
-    let b = c.requires.1 in
-    let s = c.loop-j.invariant in
-    last-asks w b s.0 last s.3 (width-is w b)
+run_by_border-requires c = border-asks (last (goal.at.run_by_border-requires c).After-loop-j)
 
 pub overflow_add-result : goal.overflow_add-result
-overflow_add-result c =
-    let last = last-turn (goal.at.overflow_add-result c).After-loop-j in
-    let w = c.requires.0 in
-    let b = c.requires.1 in
-    let s = c.loop-j.invariant in
-    omega (arith, last-few w b s.0 last s.3 (width-is w b) c.run_by_border.ensures (last-held w b s.0 last s.3 (width-is w b)))
+overflow_add-result c = omega (arith, odds-few (last (goal.at.overflow_add-result c).After-loop-j).next c.run_by_border.ensures)
 
 pub returns : goal.returns
-returns c =
-    let last = last-turn (goal.at.returns c).After-loop-j in
-    let w = c.requires.0 in
-    let b = c.requires.1 in
-    let s = c.loop-j.invariant in
-    block-done w b s.0 last s.3 (width-is w b) c.run_by_border.ensures (last-held w b s.0 last s.3 (width-is w b))
+returns c = let r = last (goal.at.returns c).After-loop-j in block-done r c.run_by_border.ensures (border-held r)

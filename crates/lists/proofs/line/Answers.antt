@@ -1,13 +1,15 @@
-use mathlib.Core.Path.{◌≡◌}
-use Prim.Native.Nat.{◌+◌, ◌-◌, ◌^◌, ◌<◌}
-use native.Mathlib.Nat.{pow-suc}
+use mathlib.Core.Path.{◌≡◌, refl}
+use Prim.Native.Nat.{◌+◌, ◌-◌, ◌*◌, ◌%◌, ◌^◌}
+use native.Mathlib.Nat.{zero-add}
 use native.Mathlib.Omega.{arith}
-use lib.Pow.{pow_pos}
+use mir.Syntax.{w64}
+use mir.Val.{to_z}
+use Rattle.numbering.specs.Point.{at}
 use Rattle.neighbours.proofs.Beside.{bits}
-use Rattle.lists.proofs.Sums.{all-digits}
-use Rattle.lists.proofs.Blocks.{pairs-is, pairs-small, beyond-small, shift-small, start-small}
-use Rattle.lists.proofs.Points.{near-point, first-places, first-read, first-needs, first-stepped, up-places, up-fits, up-needs, up-odd, down-places, next-read, next-at, down-fits, down-needs, down-odd, down-stepped, last-small, last-needs, last-odd, line-done}
-use Rattle.lists.proofs.line.Goals.{In-loop-j, After-loop-j}
+use Rattle.lists.proofs.Sums.{nearAt}
+use Rattle.lists.proofs.Blocks.{Here, beyond-small, shift-small, start-small, long-small, end-small, odds-few, border-done, between-done, first-run, one-pair, numerator-small, numerator-inside, up-run, down-run, next-near, last-run, block-done}
+use Rattle.lists.proofs.Points.{Single, Pair, readAt, one-wide, near-point, parent-inside, read-parent, single-asks, single-held, right-inside, read-right, pair-fits, pair-asks, pair-held}
+use Rattle.lists.proofs.line.Goals.{Start, After-parent_run, After-step_at-odd-in-loop-j, After-loop-j}
 use Rattle.lists.proofs.line.Goals as goal
 
 -- ---- shifts
@@ -26,251 +28,144 @@ overflow_add-near c =
 
 -- ---- the first point
 
+here : (c : Start) → let a = c.args in Here a.v a.starts.now a.first a.beyond 1 a.table.now
+here c = record { work = c.requires.0; block = c.requires.1; wide = one-wide c.requires.2 }
+
+first : (c : Start) →
+    let a = c.args in
+    let near = at a.starts.now 1 + a.beyond * 2 ^ (a.v.own - 1) % 2 ^ 64 in
+    Single a.forward a.v a.first a.table.now 0 a.first near 0 a.table.now (readAt a.table.now near)
+first c = read-parent (first-run (here c) (near-point c.requires.0 c.requires.1 c.requires.2))
+
 pub offset_bounds-table-near : goal.offset_bounds-table-near
-offset_bounds-table-near c =
-    let w = c.requires.0 in
-    let b = c.requires.1 in
-    let at-it = first-places w b c.requires.2 (near-point w b c.requires.2) c.args.forward in
-    omega (arith, at-it.0, at-it.1, at-it.2)
+offset_bounds-table-near c = let r = (first (goal.at.offset_bounds-table-near c).Start).run in omega (arith, parent-inside r, long-small r.next)
 
 pub slice_copy_out-beside : goal.slice_copy_out-beside
-slice_copy_out-beside c =
-    let w = c.requires.0 in
-    let b = c.requires.1 in
-    let at-it = first-places w b c.requires.2 (near-point w b c.requires.2) c.args.forward in
-    omega (arith, at-it.0, at-it.1)
+slice_copy_out-beside c = omega (arith, parent-inside (first (goal.at.slice_copy_out-beside c).Start).run)
 
 pub step_at-odd-requires : goal.step_at-odd-requires
-step_at-odd-requires c =
-    let w = c.requires.0 in
-    let b = c.requires.1 in
-    first-needs w b c.requires.2 (near-point w b c.requires.2) c.args.forward
+step_at-odd-requires c = single-asks (first (goal.at.step_at-odd-requires c).Start)
 
 pub loop-j-init : goal.loop-j-init
 loop-j-init c =
-    let w = c.requires.0 in
-    let b = c.requires.1 in
-    let flat = c.requires.2 in (
-      first-stepped w b flat (near-point w b flat) c.args.forward c.step_at-odd.ensures,
-      omega arith,
-      omega (arith, pairs-is w b, pow_pos (c.args.v.own - 1)),
-      near-point w b flat,
-      first-read w b flat (near-point w b flat) c.args.forward,
-    )
+    let start = (goal.at.loop-j-init c).Start in
+    let r = first start in
+    let done = border-done r.run c.step_at-odd.ensures (single-held r) 1 refl in
+    (rw zero-add at done, omega arith, one-pair (here start), near-point c.requires.0 c.requires.1 c.requires.2, r.held)
 
 -- ---- a turn of the loop
 
-in-row : (c : In-loop-j) → c.loop-j.j < 2 ^ (c.args.v.own - 1)
-in-row c = omega (arith, c.loop-j-test.true, pairs-is c.requires.0 c.requires.1)
-
 pub overflow_mul-j : goal.overflow_mul-j
-overflow_mul-j c =
-    let w = c.requires.0 in
-    let b = c.requires.1 in
-    omega (arith, in-row (goal.at.overflow_mul-j c).In-loop-j, pairs-small w b)
+overflow_mul-j c = omega (arith, numerator-small (here (goal.at.overflow_mul-j c).Start) c.loop-j.invariant.1 c.loop-j-test.true)
 
 pub parent_run-requires : goal.parent_run-requires
 parent_run-requires c =
-    let w = c.requires.0 in
-    let b = c.requires.1 in (
-      w.seen,
-      w.below,
-      beyond-small w b,
-      omega arith,
-      omega (arith, c.loop-j.invariant.1),
-      omega (arith, in-row (goal.at.parent_run-requires c).In-loop-j, all-digits c.args.v.own w.moves, pow-suc 2 c.args.v.own),
-    )
+    let h = here (goal.at.parent_run-requires c).Start in
+    let some = c.loop-j.invariant.1 in
+    let inside = numerator-inside h some c.loop-j-test.true in
+    (h.work.seen, h.work.below, beyond-small h.work h.block, omega arith, omega (arith, some), omega (arith, inside))
+
+-- The point with the digit 2j − 1.
+up : (c : After-parent_run) →
+    let a = c.args in
+    let s = c.loop-j in
+    let far = c.parent_run.result in
+    Pair a.forward a.v a.first a.table.now (2 * s.j - 1) (s.x + 1) s.near far s.odd s.table (to_z w64 s.beside-bits) (readAt s.table far)
+up c =
+    let s = c.loop-j.invariant in
+    read-right (up-run (here (goal.at.After-parent_run c).Start) s.1 c.loop-j-test.true c.parent_run.ensures s.0 s.3) s.4
 
 pub offset_bounds-table-parent_run : goal.offset_bounds-table-parent_run
 offset_bounds-table-parent_run c =
-    let row = in-row (goal.at.offset_bounds-table-parent_run c).In-loop-j in
-    let w = c.requires.0 in
-    let b = c.requires.1 in
-    let flat = c.requires.2 in
-    let s = c.loop-j.invariant in
-    let far = c.parent_run.ensures in
-    let at-it = up-places w b flat s.0 s.1 row s.3 far s.4 in
-    omega (arith, at-it.1, at-it.2, at-it.3)
+    let r = (up (goal.at.offset_bounds-table-parent_run c).After-parent_run).run in
+    omega (arith, right-inside r, long-small r.next)
 
 pub slice_copy_out-far : goal.slice_copy_out-far
-slice_copy_out-far c =
-    let row = in-row (goal.at.slice_copy_out-far c).In-loop-j in
-    let w = c.requires.0 in
-    let b = c.requires.1 in
-    let flat = c.requires.2 in
-    let s = c.loop-j.invariant in
-    let far = c.parent_run.ensures in
-    let at-it = up-places w b flat s.0 s.1 row s.3 far s.4 in
-    omega (arith, at-it.1, at-it.2)
+slice_copy_out-far c = omega (arith, right-inside (up (goal.at.slice_copy_out-far c).After-parent_run).run)
 
 pub overflow_add-x : goal.overflow_add-x
-overflow_add-x c =
-    let row = in-row (goal.at.overflow_add-x c).In-loop-j in
-    let w = c.requires.0 in
-    let b = c.requires.1 in
-    let flat = c.requires.2 in
-    let s = c.loop-j.invariant in
-    let far = c.parent_run.ensures in
-    let at-it = up-places w b flat s.0 s.1 row s.3 far s.4 in
-    omega (arith, at-it.2, at-it.3)
+overflow_add-x c = omega (arith, end-small (up (goal.at.overflow_add-x c).After-parent_run).run.next)
 
 pub overflow_add-beside : goal.overflow_add-beside
-overflow_add-beside c =
-    let row = in-row (goal.at.overflow_add-beside c).In-loop-j in
-    let w = c.requires.0 in
-    let b = c.requires.1 in
-    let flat = c.requires.2 in
-    let s = c.loop-j.invariant in
-    let far = c.parent_run.ensures in
-    up-fits w b flat s.0 s.1 row s.3 far s.4
+overflow_add-beside c = pair-fits (up (goal.at.overflow_add-beside c).After-parent_run)
 
 pub step_at-odd-requires-in-loop-j : goal.step_at-odd-requires-in-loop-j
-step_at-odd-requires-in-loop-j c =
-    let row = in-row (goal.at.step_at-odd-requires-in-loop-j c).In-loop-j in
-    let w = c.requires.0 in
-    let b = c.requires.1 in
-    let flat = c.requires.2 in
-    let s = c.loop-j.invariant in
-    let far = c.parent_run.ensures in
-    up-needs w b flat s.0 s.1 row s.3 far s.4
+step_at-odd-requires-in-loop-j c = pair-asks (up (goal.at.step_at-odd-requires-in-loop-j c).After-parent_run)
 
 pub overflow_add-odd : goal.overflow_add-odd
-overflow_add-odd c =
-    let row = in-row (goal.at.overflow_add-odd c).In-loop-j in
-    let w = c.requires.0 in
-    let b = c.requires.1 in
-    let flat = c.requires.2 in
+overflow_add-odd c = omega (arith, odds-few (up (goal.at.overflow_add-odd c).After-parent_run).run.next c.step_at-odd-in-loop-j.ensures)
+
+-- The point with the digit 2j.
+next-at : (c : After-parent_run) → c.loop-j.near + 1 ≡ nearAt c.args.v c.args.starts.now c.args.beyond c.loop-j.j
+next-at c = let s = c.loop-j.invariant in next-near (here (goal.at.After-parent_run c).Start) s.1 c.loop-j-test.true s.3
+
+down : (c : After-step_at-odd-in-loop-j) →
+    let a = c.args in
+    let s = c.loop-j in
+    let far = c.parent_run.result in
+    let step = c.step_at-odd-in-loop-j in
+    let k = s.odd + step.result in
+    let zs = step.new.table in
+    Pair a.forward a.v a.first a.table.now (2 * s.j) (s.x + 1 + 1) far (s.near + 1) k zs (readAt s.table far) (readAt zs (s.near + 1))
+down c =
     let s = c.loop-j.invariant in
-    let far = c.parent_run.ensures in
-    omega (arith, up-odd w b flat s.0 s.1 row s.3 far s.4 c.step_at-odd-in-loop-j.ensures)
+    let before = goal.at.After-step_at-odd-in-loop-j c in
+    let r = up before.After-parent_run in
+    let done = between-done r.run c.step_at-odd-in-loop-j.ensures (pair-held r) (2 * c.loop-j.j) (omega (arith, s.1)) in
+    read-right (down-run (here before.Start) s.1 c.loop-j-test.true c.parent_run.ensures done (next-at before.After-parent_run)) r.right
 
 pub overflow_add-x-in-loop-j : goal.overflow_add-x-in-loop-j
-overflow_add-x-in-loop-j c =
-    let row = in-row (goal.at.overflow_add-x-in-loop-j c).In-loop-j in
-    let w = c.requires.0 in
-    let b = c.requires.1 in
-    let flat = c.requires.2 in
-    let s = c.loop-j.invariant in
-    let far = c.parent_run.ensures in
-    let at-it = down-places w b flat s.0 s.1 row s.3 far s.4 c.step_at-odd-in-loop-j.ensures in
-    omega (arith, at-it.1, at-it.2)
+overflow_add-x-in-loop-j c = omega (arith, end-small (down (goal.at.overflow_add-x-in-loop-j c).After-step_at-odd-in-loop-j).run.next)
 
 pub overflow_add-near-in-loop-j : goal.overflow_add-near-in-loop-j
 overflow_add-near-in-loop-j c =
-    let row = in-row (goal.at.overflow_add-near-in-loop-j c).In-loop-j in
-    let w = c.requires.0 in
-    let b = c.requires.1 in
-    let flat = c.requires.2 in
-    let s = c.loop-j.invariant in
-    let far = c.parent_run.ensures in
-    let at-it = down-places w b flat s.0 s.1 row s.3 far s.4 c.step_at-odd-in-loop-j.ensures in
-    omega (arith, at-it.0, at-it.1, at-it.2)
+    let r = (down (goal.at.overflow_add-near-in-loop-j c).After-step_at-odd-in-loop-j).run in
+    omega (arith, right-inside r, long-small r.next)
 
 pub offset_bounds-table-near-in-loop-j : goal.offset_bounds-table-near-in-loop-j
 offset_bounds-table-near-in-loop-j c =
-    let row = in-row (goal.at.offset_bounds-table-near-in-loop-j c).In-loop-j in
-    let w = c.requires.0 in
-    let b = c.requires.1 in
-    let flat = c.requires.2 in
-    let s = c.loop-j.invariant in
-    let far = c.parent_run.ensures in
-    let at-it = down-places w b flat s.0 s.1 row s.3 far s.4 c.step_at-odd-in-loop-j.ensures in
-    omega (arith, at-it.0, at-it.1, at-it.2)
+    let r = (down (goal.at.offset_bounds-table-near-in-loop-j c).After-step_at-odd-in-loop-j).run in
+    omega (arith, right-inside r, long-small r.next)
 
 pub slice_copy_out-beside-in-loop-j : goal.slice_copy_out-beside-in-loop-j
-slice_copy_out-beside-in-loop-j c =
-    let row = in-row (goal.at.slice_copy_out-beside-in-loop-j c).In-loop-j in
-    let w = c.requires.0 in
-    let b = c.requires.1 in
-    let flat = c.requires.2 in
-    let s = c.loop-j.invariant in
-    let far = c.parent_run.ensures in
-    let at-it = down-places w b flat s.0 s.1 row s.3 far s.4 c.step_at-odd-in-loop-j.ensures in
-    omega (arith, at-it.0, at-it.1)
+slice_copy_out-beside-in-loop-j c = omega (arith, right-inside (down (goal.at.slice_copy_out-beside-in-loop-j c).After-step_at-odd-in-loop-j).run)
 
 pub overflow_add-far : goal.overflow_add-far
-overflow_add-far c =
-    let row = in-row (goal.at.overflow_add-far c).In-loop-j in
-    let w = c.requires.0 in
-    let b = c.requires.1 in
-    let flat = c.requires.2 in
-    let s = c.loop-j.invariant in
-    let far = c.parent_run.ensures in
-    down-fits w b flat s.0 s.1 row s.3 far s.4 c.step_at-odd-in-loop-j.ensures
+overflow_add-far c = pair-fits (down (goal.at.overflow_add-far c).After-step_at-odd-in-loop-j)
 
 pub step_at-odd-requires-in-loop-j-2 : goal.step_at-odd-requires-in-loop-j-2
-step_at-odd-requires-in-loop-j-2 c =
-    let row = in-row (goal.at.step_at-odd-requires-in-loop-j-2 c).In-loop-j in
-    let w = c.requires.0 in
-    let b = c.requires.1 in
-    let flat = c.requires.2 in
-    let s = c.loop-j.invariant in
-    let far = c.parent_run.ensures in
-    down-needs w b flat s.0 s.1 row s.3 far s.4 c.step_at-odd-in-loop-j.ensures
+step_at-odd-requires-in-loop-j-2 c = pair-asks (down (goal.at.step_at-odd-requires-in-loop-j-2 c).After-step_at-odd-in-loop-j)
 
 pub overflow_add-odd-in-loop-j : goal.overflow_add-odd-in-loop-j
 overflow_add-odd-in-loop-j c =
-    let row = in-row (goal.at.overflow_add-odd-in-loop-j c).In-loop-j in
-    let w = c.requires.0 in
-    let b = c.requires.1 in
-    let flat = c.requires.2 in
-    let s = c.loop-j.invariant in
-    let far = c.parent_run.ensures in
-    omega (arith, down-odd w b flat s.0 s.1 row s.3 far s.4 c.step_at-odd-in-loop-j.ensures c.step_at-odd-in-loop-j-2.ensures)
+    omega (arith, odds-few (down (goal.at.overflow_add-odd-in-loop-j c).After-step_at-odd-in-loop-j).run.next c.step_at-odd-in-loop-j-2.ensures)
 
 pub loop-j-preserved : goal.loop-j-preserved
 loop-j-preserved c =
-    let row = in-row (goal.at.loop-j-preserved c).In-loop-j in
-    let w = c.requires.0 in
-    let b = c.requires.1 in
-    let flat = c.requires.2 in
-    let s = c.loop-j.invariant in
-    let far = c.parent_run.ensures in
-    let same : c.loop-j.j + 1 - 1 ≡ c.loop-j.j = omega arith in (
-      down-stepped w b flat s.0 s.1 row s.3 far s.4 c.step_at-odd-in-loop-j.ensures c.step_at-odd-in-loop-j-2.ensures,
-      omega arith,
-      omega (arith, c.loop-j-test.true),
-      rw same (next-at w b flat s.0 s.1 row s.3 far s.4 c.step_at-odd-in-loop-j.ensures),
-      next-read w b flat s.0 s.1 row s.3 far s.4 c.step_at-odd-in-loop-j.ensures,
-    )
+    let before = goal.at.loop-j-preserved c in
+    let r = down before.After-step_at-odd-in-loop-j in
+    let done = between-done r.run c.step_at-odd-in-loop-j-2.ensures (pair-held r) (2 * (c.loop-j.j + 1) - 1) (omega arith) in
+    let same : c.loop-j.j + 1 - 1 ≡ c.loop-j.j = omega arith in
+    (done, omega arith, omega (arith, c.loop-j-test.true), rw same (next-at before.After-parent_run), r.right)
 
 -- ---- the last point
 
-last-turn : (c : After-loop-j) → c.loop-j.j ≡ 2 ^ (c.args.v.own - 1)
-last-turn c = omega (arith, pairs-is c.requires.0 c.requires.1, c.loop-j.invariant.2, c.loop-j-test.false)
+last : (c : After-loop-j) →
+    let a = c.args in
+    let s = c.loop-j in
+    Single a.forward a.v a.first a.table.now (2 ^ a.v.own - 1) (s.x + 1) s.near s.odd s.table (to_z w64 s.beside-bits)
+last c =
+    let s = c.loop-j.invariant in
+    record { run = last-run (here (goal.at.After-loop-j c).Start) s.1 s.2 c.loop-j-test.false s.0 s.3; held = s.4 }
 
 pub overflow_add-x-2 : goal.overflow_add-x-2
-overflow_add-x-2 c =
-    let last = last-turn (goal.at.overflow_add-x-2 c).After-loop-j in
-    let w = c.requires.0 in
-    let b = c.requires.1 in
-    let flat = c.requires.2 in
-    let s = c.loop-j.invariant in
-    omega (arith, (last-needs w b flat s.0 last s.3 s.4).0, last-small w b flat s.0 last s.3 s.4)
+overflow_add-x-2 c = omega (arith, end-small (last (goal.at.overflow_add-x-2 c).After-loop-j).run.next)
 
 pub step_at-requires : goal.step_at-requires
-step_at-requires c =
-    let last = last-turn (goal.at.step_at-requires c).After-loop-j in
-    let w = c.requires.0 in
-    let b = c.requires.1 in
-    let flat = c.requires.2 in
-    let s = c.loop-j.invariant in
-    last-needs w b flat s.0 last s.3 s.4
+step_at-requires c = single-asks (last (goal.at.step_at-requires c).After-loop-j)
 
 pub overflow_add-result : goal.overflow_add-result
-overflow_add-result c =
-    let last = last-turn (goal.at.overflow_add-result c).After-loop-j in
-    let w = c.requires.0 in
-    let b = c.requires.1 in
-    let flat = c.requires.2 in
-    let s = c.loop-j.invariant in
-    omega (arith, last-odd w b flat s.0 last s.3 s.4 c.step_at.ensures)
+overflow_add-result c = omega (arith, odds-few (last (goal.at.overflow_add-result c).After-loop-j).run.next c.step_at.ensures)
 
 pub returns : goal.returns
-returns c =
-    let last = last-turn (goal.at.returns c).After-loop-j in
-    let w = c.requires.0 in
-    let b = c.requires.1 in
-    let flat = c.requires.2 in
-    let s = c.loop-j.invariant in
-    line-done w b flat s.0 last s.3 s.4 c.step_at.ensures
+returns c = let r = last (goal.at.returns c).After-loop-j in block-done r.run c.step_at.ensures (single-held r)

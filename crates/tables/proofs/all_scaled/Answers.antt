@@ -18,6 +18,11 @@ tested c =
     c.is_scaled.ensures
     ∙ ap (isScaled axes) (to_z-of_z w64 (get_or xs p (pos 0)) (record { sfits = c.is_scaled-arg-1.given }) ∙ sym (value-suc xs p))
 
+pub returns-then-seen_scaled : goal.returns-then-seen_scaled
+returns-then-seen_scaled c =
+    let xs = c.args.table.now in
+    sym (all_from (scaledAt c.args.axes xs) (length xs) (c.seen_scaled.ensures c.if-seen_scaled.true))
+
 pub loop-p-init : goal.loop-p-init
 loop-p-init c = (search rules, λ p h. absurd (omega arith))
 
