@@ -2,7 +2,7 @@
 
 use crate::input;
 use crate::plain::hashed::Hashed;
-use crate::plain::{algorithm7, all_within};
+use crate::plain::{algorithm7, all_within_at_once};
 use crate::table::{head, row};
 use crate::timing::{contest, nanoseconds, Contestant};
 use numolefays::Shape;
@@ -50,17 +50,17 @@ fn measure((axes, level): (u32, u32), seconds: f64) -> (Vec<f64>, usize) {
         Box::new(|| each(&|x| map.estimate(x))),
         Box::new(|| {
             each(&|x| {
-                assert!(all_within(black_box(&table)));
+                assert!(all_within_at_once(black_box(&table)));
                 algorithm7::estimate(d, level, &table, x)
             })
         }),
         Box::new(|| {
             each(&|x| {
-                assert!(all_within(black_box(&table)));
+                assert!(all_within_at_once(black_box(&table)));
                 algorithm7::estimate_tabulated(d, level, &table, x)
             })
         }),
-        Box::new(|| each(&|_| i64::from(all_within(black_box(&table))))),
+        Box::new(|| each(&|_| i64::from(all_within_at_once(black_box(&table))))),
     ];
     (contest(&mut all, seconds, 15), lists.len())
 }
