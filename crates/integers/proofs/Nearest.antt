@@ -2,10 +2,10 @@
 -- than half below; below zero it mirrors that. So it lies within half a divisor of the number, any other multiple lies at least half away, and one that
 -- lies just half away is nearer to zero: it is the nearest in the paper's words, and the only one.
 -- Assumes nothing.
-use mathlib.Core.Path.{◌≡◌, refl, ap, sym, ◌∙◌}
+use mathlib.Core.Path.{◌≡◌, refl, ap, ap₂, sym, ◌∙◌}
 use mathlib.Core.Logic.{⊎_elim}
 use Prim.Native.Nat.{ℕ, zero, suc, ◌+◌, ◌-◌, ◌*◌, ◌/◌, ◌%◌, ◌≤◌, ◌<◌}
-use native.Mathlib.Nat.{suc-mul, mod-lt, div-add-mod', mul-le-mul_right, le_of_mul-le-mul_right, eq-zero-or-pos}
+use native.Mathlib.Nat.{suc-mul, mod-lt, div-add-mod', mul-le-mul, mul-le-mul_right, le_of_mul-le-mul_right, eq_of_mul-eq-mul_right, eq-zero-or-pos}
 use native.Mathlib.Omega.{arith}
 use lib.IntN.{ℤ, pos, negsuc, neg_ℤ, nat_abs, ◌+ℤ◌, ◌-ℤ◌, ◌*ℤ◌, neg_ℤ-neg_ℤ, +ℤ_idr}
 use borrow.Author.Tests.{le-leb, lt-leb, lt-ltb, le-ltb}
@@ -13,7 +13,7 @@ use Rattle.naturals.proofs.Cases.{le-or-lt}
 use Rattle.integers.specs.Nearest.{nearestUp, nearest, apart, Nearest, stepUp}
 use Rattle.integers.proofs.Linear.{leaf, ◌⊕◌, ⊖◌, equal, difference}
 use Rattle.integers.proofs.Floors.{still-below}
-use Rattle.integers.proofs.Products.{plus_times, neg-times, size-neg, size-negated, size-times, no_difference}
+use Rattle.integers.proofs.Products.{times-times, plus_times, neg-times, size-neg, size-negated, size-times, no_difference}
 use Rattle.integers.proofs.Sizes.{sum-size, difference-size}
 
 -- ---- natural numbers
@@ -160,6 +160,25 @@ module _ (m : ℕ) (z : ℤ) (some : 0 < m) where
       same-side (negsuc i) (pos zero) size close = absurd (omega arith)
       same-side (negsuc i) (pos (suc j)) size close = absurd (omega arith)
       same-side (negsuc i) (negsuc j) size close = ap negsuc (omega arith)
+
+-- Where divisor and number are f times others, the nearest is theirs: all distances are f times as large.
+apart-finer : (m f : ℕ) (z q : ℤ) → apart (m * f) (z *ℤ pos f) q ≡ apart m z q * f
+apart-finer m f z q =
+    ap nat_abs
+    (ap₂ (λ (a b : ℤ). a +ℤ b) (times-times q m f) (sym (neg-times z f)) ∙ sym (plus_times (q *ℤ pos m) (neg_ℤ z) f))
+    ∙ size-times (q *ℤ pos m -ℤ z) f
+
+pub nearest-finer : (m f : ℕ) (z : ℤ) → 0 < m → 0 < f → nearest (m * f) (z *ℤ pos f) ≡ nearest m z
+nearest-finer m f z some more =
+    let q : ℤ = nearest m z in
+    let nearest-there : Nearest m z q = nearest-is m z some in
+    sym (nearest-only (m * f) (z *ℤ pos f) (omega (arith, mul-le-mul some more)) q
+    (record {
+      near = λ p. rw (apart-finer m f z q, apart-finer m f z p) (mul-le-mul_right f (nearest-there.near p));
+      away = λ p level.
+          nearest-there.away p
+          (eq_of_mul-eq-mul_right f more (apart m z p) (apart m z q) (sym (apart-finer m f z p) ∙ level ∙ apart-finer m f z q));
+    }))
 
 -- ---- by quotient and remainder
 
