@@ -1,4 +1,4 @@
--- The shifts of weights and cells lose nothing: coordinates are at most 2^16, levels at most 8 and indices below 2^9, so all stays far below 2^64.
+-- The shifts of weights and cells lose nothing: coordinates are at most the unit, levels at most 8 and indices below 2^9, so all stays far below 2^64.
 -- Assumes nothing.
 use mathlib.Core.Path.{◌≡◌, ap, sym, ◌∙◌}
 use Prim.Native.Nat.{ℕ, suc, ◌+◌, ◌*◌, ◌/◌, ◌%◌, ◌^◌, ◌≤◌, ◌<◌}
@@ -9,19 +9,19 @@ use lib.Pow.{pow_pos, shl_exact}
 use borrow.Author.Tests.{lt-ltb, le-ltb}
 use Rattle.naturals.proofs.Cases.{le-or-lt}
 use Rattle.surfaces.specs.Weights.{unit}
-use Rattle.surfaces.proofs.Unit.{unit-is}
+use Rattle.surfaces.proofs.Unit.{unitBits, unit-is}
 use Rattle.axis_weights.specs.Steps.{cellOf, indexOfCell}
 
 module _ (x l : ℕ) (small : x ≤ unit) (low : l ≤ 8) where
   pub here-shifted : x * 2 ^ (l + 1) % 2 ^ 64 ≡ x * 2 ^ suc l
   here-shifted =
-      shl_exact {a = x} 17 (l + 1) 64 (omega (arith, unit-is)) (omega arith) ∙ ap (λ (k : ℕ). x * 2 ^ k) (add-one l)
+      shl_exact {a = x} (suc unitBits) (l + 1) 64 (omega (arith, unit-is)) (omega arith) ∙ ap (λ (k : ℕ). x * 2 ^ k) (add-one l)
 
   pub cell-shifted : x * 2 ^ l % 2 ^ 64 ≡ x * 2 ^ l
-  cell-shifted = shl_exact {a = x} 17 l 64 (omega (arith, unit-is)) (omega arith)
+  cell-shifted = shl_exact {a = x} (suc unitBits) l 64 (omega (arith, unit-is)) (omega arith)
 
-pub centre-shifted : (l i : ℕ) → l ≤ 8 → i < 2 ^ suc l → i * 2 ^ 16 % 2 ^ 64 ≡ i * unit
-centre-shifted l i low below = shl_exact {a = i} (suc l) 16 64 below (omega arith) ∙ ap (λ (u : ℕ). i * u) (sym unit-is)
+pub centre-shifted : (l i : ℕ) → l ≤ 8 → i < 2 ^ suc l → i * 2 ^ unitBits % 2 ^ 64 ≡ i * unit
+centre-shifted l i low below = shl_exact {a = i} (suc l) unitBits 64 below (omega arith) ∙ ap (λ (u : ℕ). i * u) (sym unit-is)
 
 -- The cell is one of its level, and its index one of the level's.
 module _ (x l : ℕ) where

@@ -9,7 +9,7 @@ use surfaces::BITS;
 
 // A coordinate, from 0 to the unit.
 pub fn is_coordinate(x: u32) -> bool
-    ensures { result ≡ isCoordinate x }
+    ensures { result ≡ isCoordinate unit x }
 {
     x <= 1 << BITS
 }
@@ -27,7 +27,7 @@ fn distance(a: u64, b: u64) -> u64
 // The weight at x of a point of this level and index on one axis.
 pub fn weight(x: u64, level: u32, index: u64) -> u64
     requires { (x ≤ unit) × (level ≤ 8) × (index < 2 ^ suc level) }
-    ensures { result ≡ weight x level index }
+    ensures { result ≡ weight unit x level index }
 {
     let apart = distance(x << (level + 1), index << BITS);
     if 1 << BITS < apart {

@@ -20,7 +20,7 @@ use Rattle.component_grids.proofs.Numbering.{numbering}
 use Rattle.interpolation.specs.Hats.{Hats}
 use Rattle.surfaces.specs.Weights.{unit}
 use Rattle.surfaces.specs.Surface.{coordinatesIn, Exactly, exactValueIn}
-use Rattle.surfaces.proofs.Unit.{WholeCoordinates}
+use Rattle.surfaces.proofs.Unit.{unitBits, unit-is, WholeCoordinates}
 use Rattle.surfaces.proofs.Instance.{gridWeight, gridSame, hats-in}
 use Rattle.surfaces.proofs.Interpolates.{surface-through-in, only-surface-in}
 use Rattle.tables.specs.Tables.{times}
@@ -40,16 +40,16 @@ module _ (ls : List ℕ) where
   unfolding componentTable grids.neighbour
   coefficient-at rs q h = value-suc (componentTable ls rs) q ∙ values-at (gridPoints ls) _ q h
 
-  levels-whole : LevelsIn ls → WholeCoordinates (component (length ls) (topsIn ls))
+  levels-whole : LevelsIn ls → WholeCoordinates unitBits (component (length ls) (topsIn ls))
   unfolding levelAt
   levels-whole range p t p-in axis = omega (arith, level-le (topsIn ls t) (placeAt (topsIn ls) p t), range.tops t)
 
   -- The points of a grid that passes have hat functions.
   pub component-hats : checkGrid ls ≡ Passed →
-      Hats (gridPoints ls) (length ls) unit (neighbour (component (length ls) (topsIn ls))) (gridWeight (component (length ls) (topsIn ls)))
+      Hats (gridPoints ls) (length ls) unit (neighbour (component (length ls) (topsIn ls))) (gridWeight unit (component (length ls) (topsIn ls)))
       (gridSame (component (length ls) (topsIn ls)))
   unfolding gridPoints
-  component-hats passed = hats-in (numbering (length ls) (topsIn ls)) (levels-whole (levels-passed ls (grid-levels ls passed)))
+  component-hats passed = hats-in unit (numbering (length ls) (topsIn ls)) unitBits unit-is (levels-whole (levels-passed ls (grid-levels ls passed)))
 
 module _ (ls : List ℕ) (rs : List ℤ) (a : AcceptedOn ls rs) where
   range : LevelsIn ls
@@ -58,18 +58,18 @@ module _ (ls : List ℕ) (rs : List ℤ) (a : AcceptedOn ls rs) where
   -- The surface passes through every rate, times 2 to the number of axes.
   pub surface-of-component : (q : ℕ) → q < gridPoints ls →
       Exactly
-      (exactValueIn (component (length ls) (topsIn ls)) (valueAt (componentTable ls rs)) (coordinatesIn (component (length ls) (topsIn ls)) q))
+      (exactValueIn unit (component (length ls) (topsIn ls)) (valueAt (componentTable ls rs)) (coordinatesIn unit (component (length ls) (topsIn ls)) q))
       (times (length ls) (get_or rs q (pos 0)))
   unfolding times gridPoints
   surface-of-component q h =
-      surface-through-in (numbering (length ls) (topsIn ls)) range.low (levels-whole ls range) (valueAt (componentTable ls rs)) (valueAt rs) (value-zero rs)
+      surface-through-in unit unitBits unit-is (numbering (length ls) (topsIn ls)) range.low (levels-whole ls range) (valueAt (componentTable ls rs)) (valueAt rs) (value-zero rs)
       (coefficient-at ls rs) q h
       ∙ ap (λ (z : ℤ). z *ℤ pos (2 ^ length ls) *ℤ pos (unit ^ length ls)) (value-suc rs q)
 
   -- No other coefficients have such a surface.
   pub only-component-through : (xs : List ℤ) → length xs ≡ gridPoints ls →
       ((q : ℕ) → q < gridPoints ls →
-      Exactly (exactValueIn (component (length ls) (topsIn ls)) (valueAt xs) (coordinatesIn (component (length ls) (topsIn ls)) q))
+      Exactly (exactValueIn unit (component (length ls) (topsIn ls)) (valueAt xs) (coordinatesIn unit (component (length ls) (topsIn ls)) q))
       (times (length ls) (get_or rs q (pos 0)))) →
       xs ≡ componentTable ls rs
   unfolding times gridPoints
@@ -80,7 +80,7 @@ module _ (ls : List ℕ) (rs : List ℤ) (a : AcceptedOn ls rs) where
       at_place : (i : ℕ) → i < gridPoints ls → get_or xs i (pos 0) ≡ get_or (componentTable ls rs) i (pos 0)
       at_place i h =
           sym (value-suc xs i)
-          ∙ only-surface-in (numbering (length ls) (topsIn ls)) range.low (levels-whole ls range) (valueAt xs) (valueAt rs) (value-zero rs)
+          ∙ only-surface-in unit unitBits unit-is (numbering (length ls) (topsIn ls)) range.low (levels-whole ls range) (valueAt xs) (valueAt rs) (value-zero rs)
           (λ q lt. through q lt ∙ ap (λ (z : ℤ). z *ℤ pos (2 ^ length ls) *ℤ pos (unit ^ length ls)) (sym (value-suc rs q)))
           i h
           ∙ sym (coefficient-at ls rs i h)

@@ -29,16 +29,16 @@ use Rattle.states.specs.States.{checkState}
 use Rattle.states.proofs.Checked.{Stands, state-passed}
 use Rattle.evaluation.specs.Steps.{Listed, Evaluable}
 use Rattle.estimates.specs.declared.Estimated.TheVariants.{Value, Refused}
-use Rattle.estimates.specs.Estimates.{checkForward, insideAt, firstOutside, checkCoordinates, checkEstimate, estimate}
+use Rattle.estimates.specs.Estimates.{checkForward, insideAt, firstOutside, checkCoordinates, checkEstimate, estimateInUnit, estimate}
 
 -- Where no coordinate is outside, each is at most the unit.
-each-inside : (d : ℕ) (cs : List ℕ) → d ≤ firstOutside d cs → (t : ℕ) → t < d → at cs t ≤ unit
+each-inside : (d : ℕ) (cs : List ℕ) → d ≤ firstOutside unit d cs → (t : ℕ) → t < d → at cs t ≤ unit
 unfolding firstOutside insideAt isCoordinate
-each-inside d cs le t h = leb-true (at cs t) unit (none_first (insideAt cs) d le t h)
+each-inside d cs le t h = leb-true (at cs t) unit (none_first (insideAt unit cs) d le t h)
 
 module _ (s : State) (xs : List ℤ) (cs : List ℕ) where
   pub unchecked : (r : Refusal) → checkState s (length xs) ≡ verdict.Refused r → estimate s xs cs ≡ Refused r
-  unfolding estimate checkEstimate
+  unfolding estimateInUnit checkEstimate
   unchecked r e = rw e
 
   module _ (e : checkState s (length xs) ≡ verdict.Passed) where
@@ -49,17 +49,17 @@ module _ (s : State) (xs : List ℤ) (cs : List ℕ) where
     in-range = stands.range
 
     pub half-turned : (r : Refusal) → checkForward s ≡ verdict.Refused r → estimate s xs cs ≡ Refused r
-    unfolding estimate checkEstimate
+    unfolding estimateInUnit checkEstimate
     half-turned r f = rw (e, f)
 
     module _ (f : checkForward s ≡ verdict.Passed) where
-      pub outside : (r : Refusal) → checkCoordinates s.shape.axes cs ≡ verdict.Refused r → estimate s xs cs ≡ Refused r
-      unfolding estimate checkEstimate
+      pub outside : (r : Refusal) → checkCoordinates unit s.shape.axes cs ≡ verdict.Refused r → estimate s xs cs ≡ Refused r
+      unfolding estimateInUnit checkEstimate
       outside r g = rw (e, f, g)
 
-      module _ (g : checkCoordinates s.shape.axes cs ≡ verdict.Passed) where
+      module _ (g : checkCoordinates unit s.shape.axes cs ≡ verdict.Passed) where
         pub past-limit : all (contentAt xs) (length xs) ≡ false → estimate s xs cs ≡ Refused Contents
-        unfolding estimate checkEstimate
+        unfolding estimateInUnit checkEstimate
         past-limit h = rw (e, f, g, h)
 
         listed : Listed s.shape.axes cs
@@ -67,14 +67,14 @@ module _ (s : State) (xs : List ℤ) (cs : List ℕ) where
         listed =
             let d = s.shape.axes in
             let lengths = unless (eqb (length cs) d) ListLength in
-            let places = unless (leb d (firstOutside d cs)) (Coordinate (suc (firstOutside d cs))) in
+            let places = unless (leb d (firstOutside unit d cs)) (Coordinate (suc (firstOutside unit d cs))) in
             record {
               few = in-range.high;
               long = eqb-true (length cs) d (test-passed (eqb (length cs) d) ListLength (first-passed lengths places g));
               coordinates =
                   each-inside d cs
-                  (leb-true d (firstOutside d cs)
-                  (test-passed (leb d (firstOutside d cs)) (Coordinate (suc (firstOutside d cs))) (next-passed lengths places g)));
+                  (leb-true d (firstOutside unit d cs)
+                  (test-passed (leb d (firstOutside unit d cs)) (Coordinate (suc (firstOutside unit d cs))) (next-passed lengths places g)));
             }
 
         module _ (h : all (contentAt xs) (length xs) ≡ true) where
@@ -90,5 +90,5 @@ module _ (s : State) (xs : List ℤ) (cs : List ℕ) where
               }
 
           pub estimated : estimate s xs cs ≡ Value (estimateAt s.shape (valueAt xs) (at cs))
-          unfolding estimate checkEstimate
+          unfolding estimateInUnit checkEstimate
           estimated = rw (e, f, g, h)

@@ -1,2 +1,4 @@
 pub mod Answering
 pub mod Rounding
+pub mod Finer
+pub mod Border

@@ -23,7 +23,7 @@ use Rattle.surfaces.proofs.Rounding.{estimate-nearest, estimate-half, estimate-o
 use Rattle.states.specs.declared.State.{State}
 use Rattle.estimates.specs.declared.Estimated.{Estimated}
 use Rattle.estimates.specs.declared.Estimated.TheVariants.{Value, Refused}
-use Rattle.estimates.specs.Estimates.{checkEstimate, estimate}
+use Rattle.estimates.specs.Estimates.{checkEstimate, estimateInUnit, estimate}
 use Rattle.estimates.specs.Negated.{negated, negatedAnswer}
 
 module _ (s : State) (table : List ℤ) (xs : List ℕ) where
@@ -39,10 +39,10 @@ module _ (s : State) (table : List ℤ) (xs : List ℕ) where
   holds-answered P z holds verdict.Passed = holds
   holds-answered P z holds (verdict.Refused r) = tt
 
-  answered : (P : ℤ → Type 0) → P (estimateAt s.shape (valueAt table) (at xs)) → (v : ℤ) → estimate s table xs ≡ Value v → P v
-  unfolding estimate
+  pub answered : (P : ℤ → Type 0) → P (estimateAt s.shape (valueAt table) (at xs)) → (v : ℤ) → estimate s table xs ≡ Value v → P v
+  unfolding estimateInUnit
   answered P holds v e =
-      subst (Holds P) e (holds-answered P (estimateAt s.shape (valueAt table) (at xs)) holds (checkEstimate s table xs))
+      subst (Holds P) e (holds-answered P (estimateAt s.shape (valueAt table) (at xs)) holds (checkEstimate unit s table xs))
 
   -- The estimate is the whole number nearest to the quotient, of two as near the one further from zero.
   pub answer-nearest : (v : ℤ) → estimate s table xs ≡ Value v → Nearest unit sum v
@@ -63,7 +63,7 @@ module _ (s : State) (table : List ℤ) (xs : List ℕ) where
       fun_ext λ p.
       ap (λ (n : ℕ). leb n limit) (ap nat_abs (get_or-map neg_ℤ table p (pos 0)) ∙ size-negated (get_or table p (pos 0)))
 
-  negated-checks : checkEstimate s (negated table) xs ≡ checkEstimate s table xs
+  negated-checks : checkEstimate unit s (negated table) xs ≡ checkEstimate unit s table xs
   unfolding checkEstimate
   negated-checks = rw (negated-length, negated-contents)
 
@@ -77,7 +77,7 @@ module _ (s : State) (table : List ℤ) (xs : List ℕ) where
 
   -- The estimate of the negated table is the negated estimate, and it is refused alike.
   pub estimate-negated : estimate s (negated table) xs ≡ negatedAnswer (estimate s table xs)
-  unfolding estimate
+  unfolding estimateInUnit
   estimate-negated =
       rw (negated-checks, negated-values, estimate-odd s.shape (valueAt table) (at xs))
-      (answer-negated (estimateAt s.shape (valueAt table) (at xs)) (checkEstimate s table xs))
+      (answer-negated (estimateAt s.shape (valueAt table) (at xs)) (checkEstimate unit s table xs))

@@ -9,8 +9,9 @@ use Rattle.refusals.specs.Checks.{unless, ◌andThen◌, answer}
 use Rattle.integers.specs.Half.{contentAt}
 use Rattle.numbering.specs.Point.{at}
 use Rattle.hierarchy.specs.Turns.{valueAt}
-use Rattle.surfaces.specs.Weights.{isCoordinate}
-use Rattle.surfaces.specs.Surface.{estimateAt}
+use Rattle.grids.specs.Grids.{numbered}
+use Rattle.surfaces.specs.Weights.{unit, isCoordinate}
+use Rattle.surfaces.specs.Surface.{estimateIn}
 use Rattle.states.specs.declared.State.{State}
 use Rattle.states.specs.States.{checkAxes, checkState}
 use Rattle.estimates.specs.declared.Estimated.{Estimated}
@@ -20,28 +21,35 @@ use Rattle.estimates.specs.declared.Estimated.TheVariants.{Value, Refused}
 unfoldable pub checkForward : State → Verdict
 checkForward s = checkAxes false StillSampled s
 
+-- What reads a coordinate is said of any unit u (document 02, e, speaks of two).
+
 -- The coordinate on axis t, counted from 0, is at most the unit.
-unfoldable pub insideAt : List ℕ → ℕ → Bool
-insideAt xs t = isCoordinate (at xs t)
+unfoldable pub insideAt : ℕ → List ℕ → ℕ → Bool
+insideAt u xs t = isCoordinate u (at xs t)
 
 -- The first axis where it is not, counted from 0, or d.
-unfoldable pub firstOutside : ℕ → List ℕ → ℕ
-firstOutside d xs = firstFailing (insideAt xs) d
+unfoldable pub firstOutside : ℕ → ℕ → List ℕ → ℕ
+firstOutside u d xs = firstFailing (insideAt u xs) d
 
 -- There is a coordinate for each axis, else refused with 7; each is at most the unit, else with 8 and the first axis where it is not.
-unfoldable pub checkCoordinates : ℕ → List ℕ → Verdict
-checkCoordinates d xs =
+unfoldable pub checkCoordinates : ℕ → ℕ → List ℕ → Verdict
+checkCoordinates u d xs =
     unless (eqb (length xs) d) ListLength
-    andThen unless (leb d (firstOutside d xs)) (Coordinate (suc (firstOutside d xs)))
+    andThen unless (leb d (firstOutside u d xs)) (Coordinate (suc (firstOutside u d xs)))
 
 -- The checks of an estimate: 1, 2, 14, 3, 17, 7, 8, and 10 where any value is past the content limit.
-unfoldable pub checkEstimate : State → List ℤ → List ℕ → Verdict
-checkEstimate s table xs =
+unfoldable pub checkEstimate : ℕ → State → List ℤ → List ℕ → Verdict
+checkEstimate u s table xs =
     checkState s (length table)
     andThen checkForward s
-    andThen checkCoordinates s.shape.axes xs
+    andThen checkCoordinates u s.shape.axes xs
     andThen unless (all (contentAt table) (length table)) Contents
 
--- The estimate, where no check refuses.
-unfoldable pub estimate : State → List ℤ → List ℕ → Estimated
-estimate s table xs = answer Refused (checkEstimate s table xs) (Value (estimateAt s.shape (valueAt table) (at xs)))
+-- The answer in the unit u: the estimate, or the refusal of the first check that refuses.
+unfoldable pub estimateInUnit : ℕ → State → List ℤ → List ℕ → Estimated
+estimateInUnit u s table xs =
+    answer Refused (checkEstimate u s table xs) (Value (estimateIn u (numbered s.shape) (valueAt table) (at xs)))
+
+-- What the call answers.
+abbrev pub estimate : State → List ℤ → List ℕ → Estimated
+estimate = estimateInUnit unit

@@ -1,2 +1,3 @@
 pub mod Estimates
 pub mod Negated
+pub mod Finer

@@ -2,6 +2,7 @@
 #![tactic(auto)]
 
 ghost use Rattle.std.specs.Prelude.{◌≡◌, ◌≤◌};
+ghost use Rattle.surfaces.specs.Weights.{unit};
 ghost use Rattle.estimates.specs.Estimates.{checkForward, checkCoordinates, estimate};
 
 use refusals::{Refusal, Verdict};
@@ -29,7 +30,7 @@ fn check_forward(state: State) -> Verdict
 
 // A coordinate for each axis, else refused with 7; none too large, else with 8 and the first axis where it is.
 fn check_coordinates(axes: u32, coordinates: &[u32]) -> Verdict
-    ensures { result ≡ checkCoordinates axes coordinates.now }
+    ensures { result ≡ checkCoordinates unit axes coordinates.now }
 {
     if coordinates.len() as u64 != axes as u64 {
         return Verdict::Refused(Refusal::ListLength);

@@ -31,7 +31,7 @@ use Rattle.axis_weights.proofs.Weighing.{cell-inside, index_below as taken-withi
 
 -- The weight on axis t at the coordinates x of a point of the levels l and indices i.
 abbrev pub weightsOf : (ℕ → ℕ) → (ℕ → ℕ) → (ℕ → ℕ) → ℕ → ℕ
-weightsOf x l i t = weight (x t) (l t) (i t)
+weightsOf x l i t = weight unit (x t) (l t) (i t)
 
 -- The points of a shape are those before the level sum past its top level.
 pub count-is : (s : Shape) → pointsOf s ≡ start s.axes (suc s.level)
@@ -42,13 +42,13 @@ module _ (s : Shape) (l : ℕ → ℕ) (rest : (t : ℕ) → s.axes ≤ t → l 
   pub block_within : firstOf s.axes l + j < pointsOf s
   block_within = omega (arith, block-below s.axes s.level l rest low j j-in, points-is s.axes s.level, count-is s)
 
-  block-joint : (x : ℕ → ℕ) → jointAt s x (firstOf s.axes l + j) ≡ joint (weightsOf x l (indexOf l j)) s.axes
+  block-joint : (x : ℕ → ℕ) → jointAt s x (firstOf s.axes l + j) ≡ joint unit (weightsOf x l (indexOf l j)) s.axes
   unfolding jointIn weightIn
   block-joint x =
       let p : ℕ = firstOf s.axes l + j in
-      joint-cong (weightOn s x p) (weightsOf x l (indexOf l j)) s.axes
+      joint-cong unit (weightOn s x p) (weightsOf x l (indexOf l j)) s.axes
       (λ t h.
-      ap₂ (weight (x t))
+      ap₂ (weight unit (x t))
       (ap (λ (m : ℕ → ℕ). m t) (levels-sparse s.axes s.level p ∙ block-levels s.axes s.level l rest low j j-in))
       (ap (λ (i : ℕ → ℕ). i t) (indices-sparse s.axes s.level p ∙ block-indices s.axes s.level l rest low j j-in)
       ∙ indices-in s.axes l j t h))
@@ -86,14 +86,14 @@ module _ (x l : ℕ → ℕ) where
   taken-index d t h = ap (λ (q : ℕ). indexOf l q t) (sym (taken-position d)) ∙ index-of-position (taken-point d) t h
 
 module _ (s : Shape) (x l : ℕ → ℕ) (rest : (t : ℕ) → s.axes ≤ t → l t ≡ 0) (low : sumTo l s.axes ≤ s.level) where
-  pub taken-joint : jointAt s x (firstOf s.axes l + takenAt x l s.axes) ≡ joint (weightsOf x l (takenIndex x l)) s.axes
+  pub taken-joint : jointAt s x (firstOf s.axes l + takenAt x l s.axes) ≡ joint unit (weightsOf x l (takenIndex x l)) s.axes
   taken-joint =
       block-joint s l rest low (takenAt x l s.axes) (taken-below x l s.axes) x
-      ∙ joint-cong _ _ s.axes (λ t h. ap (weight (x t) (l t)) (taken-index x l s.axes t h))
+      ∙ joint-cong unit _ _ s.axes (λ t h. ap (weight unit (x t) (l t)) (taken-index x l s.axes t h))
 
   module _ (inside : (t : ℕ) → t < s.axes → x t ≤ unit) (j : ℕ) (j-in : j < 2 ^ sumTo l s.axes) where
     -- On each axis a weight above 0 is that of the cell's index.
-    index-taken : (t : ℕ) → t < s.axes → 0 < weight (x t) (l t) (indexOf l j t) → indexOf l j t ≡ takenIndex x l t
+    index-taken : (t : ℕ) → t < s.axes → 0 < weight unit (x t) (l t) (indexOf l j t) → indexOf l j t ≡ takenIndex x l t
     unfolding takenIndex
     index-taken t h some =
         le-or-lt unit (x t)
@@ -101,25 +101,25 @@ module _ (s : Shape) (x l : ℕ → ℕ) (rest : (t : ℕ) → s.axes ≤ t → 
         let e : x t ≡ unit = omega (arith, inside t h) in
         absurd (omega (
           arith,
-          ap (λ (y : ℕ). weight y (l t) (indexOf l j t)) e,
-          weight-high (l t) (indexOf l j t) (index_below l j t),
+          ap (λ (y : ℕ). weight unit y (l t) (indexOf l j t)) e,
+          weight-high unit (l t) (indexOf l j t) (index_below l j t),
         )))
         (λ within.
         omega (
           arith,
           index-odd l j t,
-          only-half (x t) (l t) (indexOf l j t) (index-odd l j t) some,
+          only-half unit (x t) (l t) (indexOf l j t) (index-odd l j t) some,
           cell-inside (x t) (l t) within,
         ))
 
     pub block-zero : (j ≡ takenAt x l s.axes → ⊥) → jointAt s x (firstOf s.axes l + j) ≡ 0
     block-zero other =
         block-joint s l rest low j j-in x
-        ∙ ⊎_elim (λ none. none) (λ some. absurd (other (same some))) (eq-zero-or-pos (joint (weightsOf x l (indexOf l j)) s.axes))
+        ∙ ⊎_elim (λ none. none) (λ some. absurd (other (same some))) (eq-zero-or-pos (joint unit (weightsOf x l (indexOf l j)) s.axes))
       where
-        same : 0 < joint (weightsOf x l (indexOf l j)) s.axes → j ≡ takenAt x l s.axes
+        same : 0 < joint unit (weightsOf x l (indexOf l j)) s.axes → j ≡ takenAt x l s.axes
         same some =
             sym (position-of-index l j s.axes j-in)
             ∙ position-cong l (indexOf l j) l (takenIndex x l) s.axes (λ t h. refl)
-            (λ t h. index-taken t h (joint-above (weightsOf x l (indexOf l j)) s.axes some t h))
+            (λ t h. index-taken t h (joint-above unit (weightsOf x l (indexOf l j)) s.axes some t h))
             ∙ taken-position x l s.axes

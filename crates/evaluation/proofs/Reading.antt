@@ -6,7 +6,7 @@ use Prim.Native.Nat.{ℕ, ◌*◌, ◌^◌, ◌≤◌, ◌<◌}
 use native.Mathlib.Omega.{arith}
 use Rattle.naturals.specs.Sum.{sumTo}
 use Rattle.naturals.proofs.Sums.{sumTo-cong, term-le}
-use Rattle.surfaces.specs.Weights.{joint}
+use Rattle.surfaces.specs.Weights.{unit, joint}
 use Rattle.surfaces.proofs.Joint.{joint-cong}
 use Rattle.evaluation.specs.Steps.{Tabulated, read, jointOf, stepOf, positionOf}
 use Rattle.evaluation.proofs.Blocks.{weightsOf, takenIndex, takenStep, takenAt}
@@ -27,5 +27,5 @@ module _ (x l : ℕ → ℕ) (d : ℕ) (ws cells : List ℕ) (table : Tabulated 
   unfolding read takenIndex
   weight-taken t h = table.weight t (l t) (below t h) (omega (arith, below t h))
 
-  pub joint-taken : jointOf ws l d ≡ joint (weightsOf x l (takenIndex x l)) d
-  joint-taken = joint-cong (read ws l) (weightsOf x l (takenIndex x l)) d weight-taken
+  pub joint-taken : jointOf ws l d ≡ joint unit (weightsOf x l (takenIndex x l)) d
+  joint-taken = joint-cong unit (read ws l) (weightsOf x l (takenIndex x l)) d weight-taken

@@ -5,7 +5,7 @@ use mathlib.Core.List.{List}
 use mathlib.Core.Path.{◌≡◌}
 use Prim.Native.Nat.{ℕ, ◌*◌, ◌≤◌, ◌<◌}
 use native.Mathlib.Omega.{arith}
-use Rattle.surfaces.specs.Weights.{weight}
+use Rattle.surfaces.specs.Weights.{unit}
 use Rattle.surfaces.proofs.Cells.{weight-le}
 use Rattle.axis_weights.specs.Steps.{cellOf, indexOfCell}
 use Rattle.evaluation.specs.Steps.{entry, Tabulated, Bounded}
@@ -24,6 +24,6 @@ tabulated-bounded {x} {d} few table =
       few = few;
       long-weights = table.long-weights;
       long-cells = table.long-cells;
-      weight = λ t l h small. rw (table.weight t l small (omega arith)) (weight-le (x t) l (indexOfCell (cellOf (x t) l)));
+      weight = λ t l h small. rw (table.weight t l small (omega arith)) (weight-le unit (x t) l (indexOfCell (cellOf (x t) l)));
       cell = λ t l h small. rw (table.cell t l small (omega arith)) (cell_below (x t) l);
     }

@@ -15,7 +15,7 @@ use Rattle.naturals.proofs.Sums.{sumTo-zero, sumTo-suc, sumTo-mono}
 use Rattle.numbering.specs.Point.{at}
 use Rattle.numbering.proofs.Position.{pow-sum}
 use Rattle.surfaces.specs.Weights.{unit}
-use Rattle.surfaces.proofs.Unit.{unit-is}
+use Rattle.surfaces.proofs.Unit.{unitBits, unit-is}
 use Rattle.surfaces.proofs.Joint.{joint-zero, joint-suc, joint-le}
 use Rattle.evaluation.specs.Steps.{entry, read, jointOf, stepOf, positionOf, Bounded}
 
@@ -39,7 +39,7 @@ module _ {d : ℕ} {ws cells : List ℕ} (bounded : Bounded d ws cells) (l : ℕ
 
   joint-small : (k : ℕ) → k ≤ d → jointOf ws l k ≤ unit
   unfolding read
-  joint-small k h = joint-le (read ws l) k (λ t lt. weight-le t (omega arith))
+  joint-small k h = joint-le unit (read ws l) k (λ t lt. weight-le t (omega arith))
 
   pub position-lt : (k : ℕ) → k ≤ d → positionOf cells l k < 2 ^ sumTo l k
   position-lt zero h = omega (arith, position-zero cells l, pow_pos (sumTo l 0))
@@ -58,13 +58,13 @@ pub record Taken (ws cells : List ℕ) (l : ℕ → ℕ) (d t position joint sum
   pub packed : position ≡ positionOf cells l t
   pub weighed : joint ≡ jointOf ws l t
 
-pub taken-starts : (ws cells : List ℕ) (l : ℕ → ℕ) (d : ℕ) → Taken ws cells l d 0 0 (2 ^ 16) 0
+pub taken-starts : (ws cells : List ℕ) (l : ℕ → ℕ) (d : ℕ) → Taken ws cells l d 0 0 (2 ^ unitBits) 0
 taken-starts ws cells l d =
     record {
       axis = omega arith;
       total = sym (sumTo-zero l);
       packed = sym (position-zero cells l);
-      weighed = sym (joint-zero (read ws l) ∙ unit-is);
+      weighed = sym (joint-zero unit (read ws l) ∙ unit-is);
     }
 
 module _ {d : ℕ} {ws cells : List ℕ} {l : ℕ → ℕ} {t position joint sum : ℕ} (bounded : Bounded d ws cells) (few : sumTo l d ≤ 8)
@@ -93,13 +93,13 @@ module _ {d : ℕ} {ws cells : List ℕ} {l : ℕ → ℕ} {t position joint sum
         pow_mono {i = sumTo l (suc t)} {j = 8} (omega (arith, sumTo-mono l (suc t) d h)),
       )
 
-  pub joint-fits : joint * at ws (entry t (l t)) ≤ 2 ^ 32
+  pub joint-fits : joint * at ws (entry t (l t)) ≤ 2 ^ (unitBits + unitBits)
   joint-fits =
       let small : joint ≤ unit = omega (arith, joint-small bounded l few t state.axis) in
       omega (arith, mul-le-mul small (weight-le bounded l few t h), ap₂ (λ (a b : ℕ). a * b) unit-is unit-is)
 
   pub taken-steps :
-      Taken ws cells l d (t + 1) (position + at cells (entry t (l t)) * 2 ^ sum % 2 ^ 64) (joint * at ws (entry t (l t)) / 2 ^ 16) (sum + l t)
+      Taken ws cells l d (t + 1) (position + at cells (entry t (l t)) * 2 ^ sum % 2 ^ 64) (joint * at ws (entry t (l t)) / 2 ^ unitBits) (sum + l t)
   unfolding read
   taken-steps =
       record {
@@ -107,5 +107,5 @@ module _ {d : ℕ} {ws cells : List ℕ} {l : ℕ → ℕ} {t position joint sum
         total = rw add-one (omega (arith, sumTo-suc l t));
         packed = rw add-one turned;
         weighed =
-            rw (add-one, joint-suc (read ws l) t, ← state.weighed) (ap (λ (u : ℕ). joint * at ws (entry t (l t)) / u) (sym unit-is));
+            rw (add-one, joint-suc unit (read ws l) t, ← state.weighed) (ap (λ (u : ℕ). joint * at ws (entry t (l t)) / u) (sym unit-is));
       }

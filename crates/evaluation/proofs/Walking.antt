@@ -42,7 +42,7 @@ use Rattle.surfaces.specs.Weights.{unit}
 use Rattle.surfaces.specs.Surface.{weightIn, jointIn, jointSumIn, rounded, estimateIn, weightOn, jointAt, estimateAt}
 use Rattle.surfaces.proofs.Cells.{weight-le}
 use Rattle.surfaces.proofs.Joint.{joint-le}
-use Rattle.surfaces.proofs.Unit.{unit-pos}
+use Rattle.surfaces.proofs.Unit.{unitBits, unit-pos}
 use Rattle.vectors.specs.Steps.{VectorIn, vectorsBefore, NextVector}
 use Rattle.evaluation.proofs.Blocks.{count-is, block_within, takenAt, taken-below, block-zero}
 use Rattle.wide_sums.proofs.Parts.{high-size, low-size}
@@ -86,13 +86,13 @@ module _ (s : Shape) (xs : List ℤ) (x : ℕ → ℕ) where
 
   pub weight-small : (p : ℕ) → jointAt s x p ≤ unit
   unfolding jointIn weightIn
-  weight-small p = joint-le (weightOn s x p) s.axes (λ t h. weight-le (x t) (levelOn s p t) (indexOn s p t))
+  weight-small p = joint-le unit (weightOn s x p) s.axes (λ t h. weight-le unit (x t) (levelOn s p t) (indexOn s p t))
 
   high-term : (p : ℕ) → inLimit (valueAt xs (suc p)) ≡ true → nat_abs (highTerm p) ≤ 2 ^ 47
   unfolding highTerm
   high-term p e = high-size (valueAt xs (suc p)) (jointAt s x p) e (weight-small p)
 
-  low-term : (p : ℕ) → lowTerm p ≤ 2 ^ 32
+  low-term : (p : ℕ) → lowTerm p ≤ 2 ^ (unitBits + unitBits)
   unfolding lowTerm
   low-term p = low-size (valueAt xs (suc p)) (jointAt s x p) (weight-small p)
 
@@ -123,9 +123,9 @@ module _ (s : Shape) (xs : List ℤ) (x : ℕ → ℕ) where
       (sym (plus_times (total highTerm m) (highTerm m) unit) ∙ ap (λ (z : ℤ). z *ℤ pos unit) (sym (total-suc highTerm m)))
       (sym (sumTo-suc lowTerm m))
 
-  parts-joined : rounded (total highTerm (pointsOf s) *ℤ pos unit +ℤ pos (sumTo lowTerm (pointsOf s))) ≡ estimateAt s (valueAt xs) x
+  parts-joined : rounded unit (total highTerm (pointsOf s) *ℤ pos unit +ℤ pos (sumTo lowTerm (pointsOf s))) ≡ estimateAt s (valueAt xs) x
   unfolding estimateIn jointSumIn weightedSum
-  parts-joined = sym (ap rounded (whole_sum (pointsOf s)))
+  parts-joined = sym (ap (rounded unit) (whole_sum (pointsOf s)))
 
 -- ---- the walk
 
@@ -137,7 +137,7 @@ pub record Walked (s : Shape) (xs : List ℤ) (x : ℕ → ℕ) (high : ℤ) (lo
   pub lows : low ≡ sumTo (lowTerm s xs x) first
   pub few : vectorsBefore s.axes (at ls) ≤ 12870
   pub high_small : nat_abs high ≤ vectorsBefore s.axes (at ls) * 2 ^ 47
-  pub low_small : low ≤ vectorsBefore s.axes (at ls) * 2 ^ 32
+  pub low_small : low ≤ vectorsBefore s.axes (at ls) * 2 ^ (unitBits + unitBits)
 
 -- The walk starts at the vector of zeros.
 module _ (s : Shape) (xs : List ℤ) (x : ℕ → ℕ) (ls : List ℕ) (long : length ls ≡ 8) (zeros : (t : ℕ) → at ls t ≡ 0) where
@@ -172,7 +172,7 @@ module _ {s : Shape} {xs : List ℤ} {x : ℕ → ℕ} {high : ℤ} {low first s
   high-room = omega (arith, w.high_small, mul-le-mul_right (2 ^ 47) w.few)
 
   pub low-room : low ≤ 2 ^ 62
-  low-room = omega (arith, w.low_small, mul-le-mul_right (2 ^ 32) w.few)
+  low-room = omega (arith, w.low_small, mul-le-mul_right (2 ^ (unitBits + unitBits)) w.few)
 
   -- Before the last point the level sum is at most the top level.
   pub sum_low : first < pointsOf s → sum ≤ s.level
@@ -258,18 +258,18 @@ module _ {s : Shape} {xs : List ℤ} {x : ℕ → ℕ} {high : ℤ} {low first s
               omega (
                 arith,
                 next.count,
-                suc-mul (vectorsBefore s.axes (at ls)) (2 ^ 32),
+                suc-mul (vectorsBefore s.axes (at ls)) (2 ^ (unitBits + unitBits)),
                 w.low_small,
                 low-term s xs x p,
-                ap (λ (k : ℕ). k * 2 ^ 32) next.count,
+                ap (λ (k : ℕ). k * 2 ^ (unitBits + unitBits)) next.count,
               );
         }
 
 -- Past the last point both sums are over all points.
 pub walked-ends : {s : Shape} {xs : List ℤ} {x : ℕ → ℕ} {high : ℤ} {low first sum : ℕ} {ls : List ℕ} → Walked s xs x high low first sum ls →
-    pointsOf s ≤ first → rounded (high *ℤ pos unit +ℤ pos low) ≡ estimateAt s (valueAt xs) x
+    pointsOf s ≤ first → rounded unit (high *ℤ pos unit +ℤ pos low) ≡ estimateAt s (valueAt xs) x
 walked-ends {s} {xs} {x} {high} {low} {first} w h =
     let all-points : first ≡ pointsOf s = omega (arith, w.within) in
-    ap₂ (λ (z : ℤ) (k : ℕ). rounded (z *ℤ pos unit +ℤ pos k)) w.highs w.lows
-    ∙ ap (λ (m : ℕ). rounded (total (highTerm s xs x) m *ℤ pos unit +ℤ pos (sumTo (lowTerm s xs x) m))) all-points
+    ap₂ (λ (z : ℤ) (k : ℕ). rounded unit (z *ℤ pos unit +ℤ pos k)) w.highs w.lows
+    ∙ ap (λ (m : ℕ). rounded unit (total (highTerm s xs x) m *ℤ pos unit +ℤ pos (sumTo (lowTerm s xs x) m))) all-points
     ∙ parts-joined s xs x

@@ -19,7 +19,7 @@ pub record Tabulated (x : ℕ → ℕ) (b : ℕ) (weights cells : List ℕ) : Ty
   pub long-weights : length weights ≡ 72
   pub long-cells : length cells ≡ 72
   pub cell : (t l : ℕ) → l < 9 → entry t l < b → at cells (entry t l) ≡ cellOf (x t) l
-  pub weight : (t l : ℕ) → l < 9 → entry t l < b → at weights (entry t l) ≡ weight (x t) l (indexOfCell (cellOf (x t) l))
+  pub weight : (t l : ℕ) → l < 9 → entry t l < b → at weights (entry t l) ≡ weight unit (x t) l (indexOfCell (cellOf (x t) l))
 
 -- What the tables hold for the level that a level vector has on axis t.
 unfoldable pub read : List ℕ → (ℕ → ℕ) → ℕ → ℕ
@@ -27,7 +27,7 @@ read table l t = at table (entry t (l t))
 
 -- Joint weight and position of the point of a level vector that they give, over the first k axes.
 abbrev pub jointOf : List ℕ → (ℕ → ℕ) → ℕ → ℕ
-jointOf weights l k = joint (read weights l) k
+jointOf weights l k = joint unit (read weights l) k
 
 unfoldable pub stepOf : List ℕ → (ℕ → ℕ) → ℕ → ℕ
 stepOf cells l t = read cells l t * 2 ^ sumTo l t

@@ -15,22 +15,23 @@ use Rattle.surfaces.proofs.Joint.{joint-above}
 
 -- ---- one axis
 
-pub weight_is : (x l i : ℕ) → weight x l i ≡ unit - distance (x * 2 ^ suc l) (i * unit)
-unfolding weight
-weight_is x l i = refl
+module _ (u x l i : ℕ) where
+  pub weight_is : weight u x l i ≡ u - distance (x * 2 ^ suc l) (i * u)
+  unfolding weight
+  weight_is = refl
 
-pub weight-le : (x l i : ℕ) → weight x l i ≤ unit
-weight-le x l i = omega (arith, weight_is x l i)
+  pub weight-le : weight u x l i ≤ u
+  weight-le = omega (arith, weight_is)
 
-pub only-half : (x l i : ℕ) → i % 2 ≡ 1 → 0 < weight x l i → (i - 1) / 2 ≡ x * 2 ^ l / unit
-unfolding distance
-only-half x l i odd some =
-    let index : i ≡ 2 * ((i - 1) / 2) + 1 = omega arith in
-    sym (in_cell (x * 2 ^ l) ((i - 1) / 2) unit
-    (omega (arith, weight_is x l i, ap (λ (j : ℕ). j * unit) index, ap (λ (m : ℕ). x * m) (pow-suc 2 l))))
-  where
-    in_cell : (y h u : ℕ) → 0 < u - ((2 * y - (2 * h + 1) * u) + ((2 * h + 1) * u - 2 * y)) → y / u ≡ h
-    in_cell y h u near = div-eq_of_lt-le u (omega arith) (omega arith)
+  pub only-half : i % 2 ≡ 1 → 0 < weight u x l i → (i - 1) / 2 ≡ x * 2 ^ l / u
+  unfolding distance
+  only-half odd some =
+      let index : i ≡ 2 * ((i - 1) / 2) + 1 = omega arith in
+      sym (in_cell (x * 2 ^ l) ((i - 1) / 2) u
+      (omega (arith, weight_is, ap (λ (j : ℕ). j * u) index, ap (λ (m : ℕ). x * m) (pow-suc 2 l))))
+    where
+      in_cell : (y h v : ℕ) → 0 < v - ((2 * y - (2 * h + 1) * v) + ((2 * h + 1) * v - 2 * y)) → y / v ≡ h
+      in_cell y h v near = div-eq_of_lt-le v (omega arith) (omega arith)
 
 -- ---- the points of a shape
 
@@ -42,7 +43,7 @@ module _ (s : Shape) (x : ℕ → ℕ) where
   unfolding jointIn weightIn
   which-point p p-in some t h =
       let odd = index-odd s p p-in t h in
-      omega (arith, odd, only-half (x t) (levelOn s p t) (indexOn s p t) odd (joint-above (weightOn s x p) s.axes some t h))
+      omega (arith, odd, only-half unit (x t) (levelOn s p t) (indexOn s p t) odd (joint-above unit (weightOn s x p) s.axes some t h))
 
   pub one-for-each-vector : (p q : ℕ) → p < pointsOf s → q < pointsOf s → ((t : ℕ) → t < s.axes → levelOn s p t ≡ levelOn s q t) →
       0 < jointAt s x p → 0 < jointAt s x q → p ≡ q

@@ -7,6 +7,7 @@ use Prim.Native.Nat.{ℕ, zero, suc, ◌+◌, ◌*◌, ◌^◌, ◌≤◌, ◌<�
 use native.Mathlib.Nat.{pow-zero, pow-suc, one-le-pow, mul_comm}
 use native.Mathlib.Omega.{arith}
 use lib.IntN.{ℤ, pos, ◌*ℤ◌}
+use lib.Pow.{pow_pos}
 use borrow.Author.Tests.{eq-eqb, ne_eqb}
 use Rattle.std.specs.Prelude.{if◌then◌else◌}
 use Rattle.naturals.specs.Test.{all}
@@ -36,7 +37,7 @@ use Rattle.interpolation.proofs.Through.{others, others-in, others-out, passes-t
 use Rattle.surfaces.specs.Weights.{unit}
 use Rattle.surfaces.specs.Surface.{coordinatesIn, productIn, surfaceIn, jointSumIn, rounded, estimateIn, coordinatesOf, weightOn, surface, estimateAt}
 use Rattle.surfaces.specs.Lines.{sameBeside, onLine, lineWeight, lineSum}
-use Rattle.surfaces.proofs.Unit.{unitBits, WholeCoordinates, unit-pos}
+use Rattle.surfaces.proofs.Unit.{unitBits, unit-is, WholeCoordinates}
 use Rattle.surfaces.proofs.Instance.{gridWeight, gridSame, hats-in, shape-coordinates, hats}
 use Rattle.surfaces.proofs.GridPoints.{WholeWeights, whole-coordinates, shape-weights}
 use Rattle.surfaces.proofs.Exact.{weighted-exact-in}
@@ -58,52 +59,57 @@ double-times z u d = ap (λ (x : ℕ). z *ℤ pos x) (double-pow u d) ∙ times-
 times-swap : (z : ℤ) (a b : ℕ) → z *ℤ pos a *ℤ pos b ≡ z *ℤ pos b *ℤ pos a
 times-swap z a b = sym (times-times z a b) ∙ ap (λ (x : ℕ). z *ℤ pos x) (mul_comm a b) ∙ times-times z b a
 
-module _ {g : Numbered} {Point : (ℕ → ℕ) → (ℕ → ℕ) → Type 0} (n : Numbering g Point) where
-  -- The surface at a point is the sum that interpolation speaks of.
-  surface-factors : (c : ℕ → ℤ) (q : ℕ) →
-      surfaceIn g c (coordinatesIn g q) ≡ weightedSum g.count c (factors (gridWeight g) (gridSame g) g.axes noAxis (suc q))
-  unfolding surfaceIn productIn factors factor gridWeight
-  surface-factors c q = refl
+-- In a unit of so many factors of two.
+module _ (u bits : ℕ) (binary : u ≡ 2 ^ bits) where
+  some : 0 < u
+  some = omega (arith, binary, pow_pos bits)
 
-  module _ (dim : 1 ≤ g.axes) (whole : WholeCoordinates g) where
-    -- The surface of the coefficients of rates passes through every rate.
-    pub surface-through-in : (c r : ℕ → ℤ) → r 0 ≡ pos 0 →
+  module _ {g : Numbered} {Point : (ℕ → ℕ) → (ℕ → ℕ) → Type 0} (n : Numbering g Point) where
+    -- The surface at a point is the sum that interpolation speaks of.
+    surface-factors : (c : ℕ → ℤ) (q : ℕ) →
+        surfaceIn u g c (coordinatesIn u g q) ≡ weightedSum g.count c (factors (gridWeight u g) (gridSame g) g.axes noAxis (suc q))
+    unfolding surfaceIn productIn factors factor gridWeight
+    surface-factors c q = refl
+
+    module _ (dim : 1 ≤ g.axes) (whole : WholeCoordinates bits g) where
+      -- The surface of the coefficients of rates passes through every rate.
+      pub surface-through-in : (c r : ℕ → ℤ) → r 0 ≡ pos 0 →
+          ((q : ℕ) → q < g.count → c (suc q) ≡ tableOf (neighbour g) g.axes everyAxis r (suc q)) →
+          (q : ℕ) → q < g.count → surfaceIn u g c (coordinatesIn u g q) ≡ r (suc q) *ℤ pos (2 ^ g.axes) *ℤ pos (u ^ g.axes)
+      surface-through-in c r z coefficients q point =
+          surface-factors c q
+          ∙ passes-through g.count g.axes u (neighbour g) (depth g) (zero-border n) (gridWeight u g) (gridSame g)
+          (hats-in u n bits binary whole) c r dim z
+          (λ p lt. coefficients p lt ∙ ap (λ (f : ℕ → ℤ). f (suc p)) (table-closed (neighbour g) g.axes everyAxis r))
+          q point
+          ∙ double-times (r (suc q)) u g.axes
+
+      -- Only the coefficients of the rates have such a surface.
+      pub only-surface-in : (c r : ℕ → ℤ) → r 0 ≡ pos 0 →
+          ((q : ℕ) → q < g.count → surfaceIn u g c (coordinatesIn u g q) ≡ r (suc q) *ℤ pos (2 ^ g.axes) *ℤ pos (u ^ g.axes)) →
+          (q : ℕ) → q < g.count → c (suc q) ≡ tableOf (neighbour g) g.axes everyAxis r (suc q)
+      only-surface-in c r z through q point =
+          only-coefficients g.count g.axes u (neighbour g) (depth g) (zero-border n) (gridWeight u g) (gridSame g)
+          (hats-in u n bits binary whole) c r some dim z
+          (λ p lt. sym (surface-factors c p) ∙ through p lt ∙ sym (double-times (r (suc p)) u g.axes))
+          q point
+          ∙ sym (ap (λ (f : ℕ → ℤ). f (suc q)) (table-closed (neighbour g) g.axes everyAxis r))
+
+    -- The estimate at a point is the rate times 2^d.
+    pub estimate-through-in : 1 ≤ g.axes → WholeWeights bits g → (c r : ℕ → ℤ) → r 0 ≡ pos 0 →
         ((q : ℕ) → q < g.count → c (suc q) ≡ tableOf (neighbour g) g.axes everyAxis r (suc q)) →
-        (q : ℕ) → q < g.count → surfaceIn g c (coordinatesIn g q) ≡ r (suc q) *ℤ pos (2 ^ g.axes) *ℤ pos (unit ^ g.axes)
-    surface-through-in c r z coefficients q point =
-        surface-factors c q
-        ∙ passes-through g.count g.axes unit (neighbour g) (depth g) (zero-border n) (gridWeight g) (gridSame g)
-        (hats-in n whole) c r dim z
-        (λ p lt. coefficients p lt ∙ ap (λ (f : ℕ → ℤ). f (suc p)) (table-closed (neighbour g) g.axes everyAxis r))
-        q point
-        ∙ double-times (r (suc q)) unit g.axes
-
-    -- Only the coefficients of the rates have such a surface.
-    pub only-surface-in : (c r : ℕ → ℤ) → r 0 ≡ pos 0 →
-        ((q : ℕ) → q < g.count → surfaceIn g c (coordinatesIn g q) ≡ r (suc q) *ℤ pos (2 ^ g.axes) *ℤ pos (unit ^ g.axes)) →
-        (q : ℕ) → q < g.count → c (suc q) ≡ tableOf (neighbour g) g.axes everyAxis r (suc q)
-    only-surface-in c r z through q point =
-        only-coefficients g.count g.axes unit (neighbour g) (depth g) (zero-border n) (gridWeight g) (gridSame g)
-        (hats-in n whole) c r unit-pos dim z
-        (λ p lt. sym (surface-factors c p) ∙ through p lt ∙ sym (double-times (r (suc p)) unit g.axes))
-        q point
-        ∙ sym (ap (λ (f : ℕ → ℤ). f (suc q)) (table-closed (neighbour g) g.axes everyAxis r))
-
-  -- The estimate at a point is the rate times 2^d.
-  pub estimate-through-in : 1 ≤ g.axes → WholeWeights g → (c r : ℕ → ℤ) → r 0 ≡ pos 0 →
-      ((q : ℕ) → q < g.count → c (suc q) ≡ tableOf (neighbour g) g.axes everyAxis r (suc q)) →
-      (q : ℕ) → q < g.count → estimateIn g c (coordinatesIn g q) ≡ r (suc q) *ℤ pos (2 ^ g.axes)
-  unfolding estimateIn
-  estimate-through-in dim whole c r z coefficients q point =
-      ap rounded sum_is ∙ rounded-whole (r (suc q) *ℤ pos (2 ^ g.axes))
-    where
-      sum_is : jointSumIn g c (coordinatesIn g q) ≡ r (suc q) *ℤ pos (2 ^ g.axes) *ℤ pos unit
-      sum_is =
-          times-cancel (jointSumIn g c (coordinatesIn g q)) (r (suc q) *ℤ pos (2 ^ g.axes) *ℤ pos unit) (unit ^ g.axes)
-          (one-le-pow g.axes unit unit-pos)
-          (weighted-exact-in n whole c q point
-          ∙ ap (λ (v : ℤ). v *ℤ pos unit) (surface-through-in dim (whole-coordinates g whole) c r z coefficients q point)
-          ∙ times-swap (r (suc q) *ℤ pos (2 ^ g.axes)) (unit ^ g.axes) unit)
+        (q : ℕ) → q < g.count → estimateIn u g c (coordinatesIn u g q) ≡ r (suc q) *ℤ pos (2 ^ g.axes)
+    unfolding estimateIn
+    estimate-through-in dim whole c r z coefficients q point =
+        ap (rounded u) sum_is ∙ rounded-whole u some (r (suc q) *ℤ pos (2 ^ g.axes))
+      where
+        sum_is : jointSumIn u g c (coordinatesIn u g q) ≡ r (suc q) *ℤ pos (2 ^ g.axes) *ℤ pos u
+        sum_is =
+            times-cancel (jointSumIn u g c (coordinatesIn u g q)) (r (suc q) *ℤ pos (2 ^ g.axes) *ℤ pos u) (u ^ g.axes)
+            (one-le-pow g.axes u some)
+            (weighted-exact-in u bits binary n whole c q point
+            ∙ ap (λ (v : ℤ). v *ℤ pos u) (surface-through-in dim (whole-coordinates bits g whole) c r z coefficients q point)
+            ∙ times-swap (r (suc q) *ℤ pos (2 ^ g.axes)) (u ^ g.axes) u)
 
 -- ---- the points of a shape
 
@@ -112,23 +118,23 @@ module _ (s : Shape) where
     pub surface-through : (c r : ℕ → ℤ) → r 0 ≡ pos 0 →
         ((q : ℕ) → q < pointsOf s → c (suc q) ≡ tableOf (grids.neighbour s) s.axes everyAxis r (suc q)) →
         (q : ℕ) → q < pointsOf s → surface s c (coordinatesOf s q) ≡ r (suc q) *ℤ pos (2 ^ s.axes) *ℤ pos (unit ^ s.axes)
-    surface-through = rw neighbours-of (surface-through-in (numbering s) dim (shape-coordinates s few))
+    surface-through = rw neighbours-of (surface-through-in unit unitBits unit-is (numbering s) dim (shape-coordinates s few))
 
     pub only-surface : (c r : ℕ → ℤ) → r 0 ≡ pos 0 →
         ((q : ℕ) → q < pointsOf s → surface s c (coordinatesOf s q) ≡ r (suc q) *ℤ pos (2 ^ s.axes) *ℤ pos (unit ^ s.axes)) →
         (q : ℕ) → q < pointsOf s → c (suc q) ≡ tableOf (grids.neighbour s) s.axes everyAxis r (suc q)
-    only-surface = rw neighbours-of (only-surface-in (numbering s) dim (shape-coordinates s few))
+    only-surface = rw neighbours-of (only-surface-in unit unitBits unit-is (numbering s) dim (shape-coordinates s few))
 
   pub estimate-through : 1 ≤ s.axes → s.level + s.axes ≤ unitBits → (c r : ℕ → ℤ) → r 0 ≡ pos 0 →
       ((q : ℕ) → q < pointsOf s → c (suc q) ≡ tableOf (grids.neighbour s) s.axes everyAxis r (suc q)) →
       (q : ℕ) → q < pointsOf s → estimateAt s c (coordinatesOf s q) ≡ r (suc q) *ℤ pos (2 ^ s.axes)
-  estimate-through dim few = rw neighbours-of (estimate-through-in (numbering s) dim (shape-weights s few))
+  estimate-through dim few = rw neighbours-of (estimate-through-in unit unitBits unit-is (numbering s) dim (shape-weights s few))
 
   -- ---- one axis
 
   module _ (t : ℕ) (axis : t < s.axes) (p q : ℕ) where
     others-factor : ℕ → ℕ
-    others-factor = factor (gridWeight (numbered s)) (gridSame (numbered s)) (others t) p (suc q)
+    others-factor = factor (gridWeight unit (numbered s)) (gridSame (numbered s)) (others t) p (suc q)
 
     own-factor : others-factor t ≡ weightOn s (coordinatesOf s q) p t
     unfolding others-factor factor gridWeight
@@ -143,7 +149,7 @@ module _ (s : Shape) where
     same-there = rw (eq-eqb t t refl)
 
     -- The weight on a line is the weight on its axis and agreement on the others.
-    line-factors : lineWeight s t q p ≡ factors (gridWeight (numbered s)) (gridSame (numbered s)) s.axes (others t) (suc q) p
+    line-factors : lineWeight s t q p ≡ factors (gridWeight unit (numbered s)) (gridSame (numbered s)) s.axes (others t) (suc q) p
     unfolding lineWeight onLine factors others-factor
     line-factors =
         sym
@@ -170,5 +176,5 @@ module _ (s : Shape) where
   unfolding lineSum
   line-through few t axis f z even q point =
       weightedSum-cong (pointsOf s) (forward (grids.neighbour s) t f) _ _ (λ p lt. line-factors t axis p q)
-      ∙ line-sums (pointsOf s) s.axes unit (grids.neighbour s) (grids.depth s) (grid s) (gridWeight (numbered s)) (gridSame (numbered s))
+      ∙ line-sums (pointsOf s) s.axes unit (grids.neighbour s) (grids.depth s) (grid s) (gridWeight unit (numbered s)) (gridSame (numbered s))
       (hats s few) t f axis z even q point

@@ -7,3 +7,5 @@ pub mod Exact
 pub mod Cells
 pub mod Rounding
 pub mod Interpolates
+pub mod Finer
+pub mod Border

@@ -2,7 +2,7 @@
 -- of it, and it is odd in the coefficients. True since all of this holds of division to the nearest, and a sum is odd in its terms.
 -- Assumes nothing.
 use mathlib.Core.Path.{◌≡◌, ap, ◌∙◌}
-use Prim.Native.Nat.{ℕ, ◌*◌, ◌≤◌}
+use Prim.Native.Nat.{ℕ, ◌*◌, ◌≤◌, ◌<◌}
 use lib.IntN.{ℤ, pos, neg_ℤ, nat_abs, ◌-ℤ◌, ◌*ℤ◌}
 use Rattle.integers.specs.Nearest.{Nearest}
 use Rattle.integers.proofs.Nearest.{nearest-odd, nearest-half, nearest-is, nearest-whole}
@@ -13,9 +13,9 @@ use Rattle.surfaces.specs.Weights.{unit}
 use Rattle.surfaces.specs.Surface.{jointSumIn, rounded, estimateIn, jointAt, jointSum, estimateAt}
 use Rattle.surfaces.proofs.Unit.{unit-pos}
 
-pub rounded-whole : (z : ℤ) → rounded (z *ℤ pos unit) ≡ z
+pub rounded-whole : (u : ℕ) → 0 < u → (z : ℤ) → rounded u (z *ℤ pos u) ≡ z
 unfolding rounded
-rounded-whole z = nearest-whole unit unit-pos z
+rounded-whole u some z = nearest-whole u some z
 
 module _ (s : Shape) (c : ℕ → ℤ) (x : ℕ → ℕ) where
   -- The estimate is the whole number nearest to the quotient, of two as near the one further from zero.
@@ -31,4 +31,4 @@ module _ (s : Shape) (c : ℕ → ℤ) (x : ℕ → ℕ) where
   -- The estimate of the negated coefficients is the negated estimate.
   pub estimate-odd : estimateAt s (λ p. neg_ℤ (c p)) x ≡ neg_ℤ (estimateAt s c x)
   unfolding estimateIn rounded jointSumIn
-  estimate-odd = ap rounded (weightedSum-negated (pointsOf s) c (jointAt s x)) ∙ nearest-odd unit (jointSum s c x) unit-pos
+  estimate-odd = ap (rounded unit) (weightedSum-negated (pointsOf s) c (jointAt s x)) ∙ nearest-odd unit (jointSum s c x) unit-pos

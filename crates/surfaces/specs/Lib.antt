@@ -1,3 +1,4 @@
 pub mod Weights
 pub mod Surface
 pub mod Lines
+pub mod Border

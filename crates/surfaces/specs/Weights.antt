@@ -2,17 +2,19 @@
 -- Assumes nothing.
 use Rattle.std.specs.Prelude.{Bool, ℕ, zero, suc, ◌+◌, ◌-◌, ◌*◌, ◌/◌, ◌^◌, leb}
 
--- The unit: a coordinate x is a whole number from 0 to 65,536, meaning x / 65,536, and weights are counted in the same unit.
+-- The unit: a coordinate x is a whole number from 0 to 1,048,576, meaning x / 1,048,576, and weights are counted in the same unit.
 unfoldable pub unit : ℕ
-unit = 65536
+unit = 1048576
 
--- A coordinate.
-unfoldable pub isCoordinate : ℕ → Bool
-isCoordinate x = leb x unit
+-- The rest is said of any unit u (document 02, e, speaks of two).
 
--- The coordinate of a point on one axis: i / 2^(l+1) in units. For levels below 16 the division loses nothing, since 2^(l+1) divides the unit.
-unfoldable pub coordinate : ℕ → ℕ → ℕ
-coordinate l i = i * unit / 2 ^ suc l
+-- x is a coordinate: at most the unit.
+unfoldable pub isCoordinate : ℕ → ℕ → Bool
+isCoordinate u x = leb x u
+
+-- The coordinate of a point on one axis: i / 2^(l+1) in units. The division loses nothing where 2^(l+1) divides the unit.
+unfoldable pub coordinate : ℕ → ℕ → ℕ → ℕ
+coordinate u l i = i * u / 2 ^ suc l
 
 -- How far apart two numbers are, |a − b|. (A difference of natural numbers stops at 0.)
 unfoldable pub distance : ℕ → ℕ → ℕ
@@ -20,11 +22,11 @@ distance a b = (a - b) + (b - a)
 
 -- The weight at x of a point of level l and index i on one axis: the unit − |x × 2^(l+1) − i × the unit|, or 0 where that is negative. (The hat function
 -- of the point.)
-unfoldable pub weight : ℕ → ℕ → ℕ → ℕ
-weight x l i = unit - distance (x * 2 ^ suc l) (i * unit)
+unfoldable pub weight : ℕ → ℕ → ℕ → ℕ → ℕ
+weight u x l i = u - distance (x * 2 ^ suc l) (i * u)
 
 -- The joint weight over the first k axes, w t being the weight on axis t: it starts at the unit; for each axis in turn it is multiplied by the axis weight,
 -- divided by the unit and rounded down.
-unfoldable pub joint : (ℕ → ℕ) → ℕ → ℕ
-joint w zero = unit
-joint w (suc k) = joint w k * w k / unit
+unfoldable pub joint : ℕ → (ℕ → ℕ) → ℕ → ℕ
+joint u w zero = u
+joint u w (suc k) = joint u w k * w k / u

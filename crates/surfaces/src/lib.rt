@@ -3,4 +3,4 @@
 #![tactic(auto)]
 
 // The unit of coordinates and weights is 2 to this.
-pub const BITS: u32 = 16;
+pub const BITS: u32 = 20;

@@ -98,18 +98,18 @@ module _ (s : Shape) (q : ℕ) where
       (mul-le-mul_right unit (omega (arith, index_below s q h t axis)))
 
   module _ (h : q < pointsOf s) where
-    is-coordinate : (t : ℕ) → t < s.axes → insideAt (coordinateList s q) t ≡ true
+    is-coordinate : (t : ℕ) → t < s.axes → insideAt unit (coordinateList s q) t ≡ true
     unfolding insideAt isCoordinate
     is-coordinate t axis =
-        ap (λ (x : ℕ → ℕ). isCoordinate (x t)) list-holds
+        ap (λ (x : ℕ → ℕ). isCoordinate unit (x t)) list-holds
         ∙ le-leb (coordinatesOf s q t) unit (coordinate-small h t axis)
 
-    coordinates-pass : checkCoordinates s.axes (coordinateList s q) ≡ Passed
+    coordinates-pass : checkCoordinates unit s.axes (coordinateList s q) ≡ Passed
     unfolding checkCoordinates firstOutside
     coordinates-pass =
         rw (
           eq-eqb (length (coordinateList s q)) s.axes list_length,
-          first-none (insideAt (coordinateList s q)) s.axes is-coordinate,
+          first-none (insideAt unit (coordinateList s q)) s.axes is-coordinate,
           le-leb s.axes s.axes (omega arith),
         )
 

@@ -36,7 +36,7 @@ module _ (s : Shape) (few : s.level < unitBits) (t : ℕ) (axis : t < s.axes) wh
 
   -- ---- one point and one other
 
-  on-weight : (p q : ℕ) → onLine s t p q ≡ true → weightAt (suc q) p ≡ gridWeight (numbered s) t p (suc q)
+  on-weight : (p q : ℕ) → onLine s t p q ≡ true → weightAt (suc q) p ≡ gridWeight unit (numbered s) t p (suc q)
   unfolding weightAt lineWeight gridWeight
   on-weight p q e = rw e
 
@@ -49,7 +49,7 @@ module _ (s : Shape) (few : s.level < unitBits) (t : ℕ) (axis : t < s.axes) wh
   border-weight p = refl
 
   -- A neighbour's line is the point's.
-  neighbour-weight : (b : Side) (p q : ℕ) → q < pointsOf s → onLine s t p q ≡ true → weightAt (neighbour s t b (suc q)) p ≡ gridWeight (numbered s) t p (neighbour s t b (suc q))
+  neighbour-weight : (b : Side) (p q : ℕ) → q < pointsOf s → onLine s t p q ≡ true → weightAt (neighbour s t b (suc q)) p ≡ gridWeight unit (numbered s) t p (neighbour s t b (suc q))
   neighbour-weight b p q h e =
       ⊎_elim
       (λ border. rw border (border-weight p ∙ sym ((hats s few).none t p)))

@@ -39,7 +39,7 @@ fn divided(high: i64, low: u64) -> i64
 // is added, so that halves go away from zero.
 pub fn joined(high: i64, low: u64) -> i64
     requires { (nat_abs high ≤ 2 ^ 62) × (low ≤ 2 ^ 62) }
-    ensures { result ≡ rounded (high *ℤ pos unit +ℤ pos low) }
+    ensures { result ≡ rounded unit (high *ℤ pos unit +ℤ pos low) }
 {
     if divided(high, low) < 0 {
         return divided(high, low + (HALF - 1));

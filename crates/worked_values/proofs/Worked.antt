@@ -28,11 +28,11 @@ use Rattle.numbers.specs.Numbers.{numberOfPoint}
 use Rattle.states.specs.States.{has, isOther, firstAxis, checkAxes, checkBits, checkState}
 use Rattle.tables.specs.Tables.{checkTable, rateAt, checkRates, adopt}
 use Rattle.whole.specs.Whole.{coefficientsOf, ratesToCoefficients}
-use Rattle.estimates.specs.Estimates.{checkForward, insideAt, firstOutside, checkCoordinates, checkEstimate, estimate}
+use Rattle.estimates.specs.Estimates.{checkForward, insideAt, firstOutside, checkCoordinates, checkEstimate, estimateInUnit}
 use Rattle.worked_values.specs.Worked.{AllHold, examples}
 
 pub worked-values : AllHold examples
-unfolding sumTo all choose vectors shell start points isIndex indexed isPoint ending rank digit position firstOf number checkShape pointsOf checkLength counted numberOf levelOn indexOn checkLists checkPoint numberOfPoint half isRate block lastLevel levelOf sumAt within levelAt indexOf indexAt isBorder twos parentLevel parentIndex update parent count_trailing_zeros valueAt valuesOf sumOn forward scaled swept tableOf codeOf zero-border.neighbour neighbour firstFailing checkTable rateAt checkRates coefficientsOf ratesToCoefficients total nearestUp nearest inLimit weighted weightedSum unit isCoordinate distance weight weightIn joint jointIn jointSumIn rounded estimateIn has isOther firstAxis checkAxes checkBits checkState contentAt adopt checkForward insideAt firstOutside checkCoordinates checkEstimate estimate
+unfolding sumTo all choose vectors shell start points isIndex indexed isPoint ending rank digit position firstOf number checkShape pointsOf checkLength counted numberOf levelOn indexOn checkLists checkPoint numberOfPoint half isRate block lastLevel levelOf sumAt within levelAt indexOf indexAt isBorder twos parentLevel parentIndex update parent count_trailing_zeros valueAt valuesOf sumOn forward scaled swept tableOf codeOf zero-border.neighbour neighbour firstFailing checkTable rateAt checkRates coefficientsOf ratesToCoefficients total nearestUp nearest inLimit weighted weightedSum unit isCoordinate distance weight weightIn joint jointIn jointSumIn rounded estimateIn has isOther firstAxis checkAxes checkBits checkState contentAt adopt checkForward insideAt firstOutside checkCoordinates checkEstimate estimateInUnit
 worked-values = (
   refl,
   (refl, (refl, (refl, (refl, (refl, (refl, (refl, ((refl, refl), ((refl, refl), ((refl, refl), ((refl, refl), ((refl, refl), ((refl, refl), ((refl, refl), tt)))))))))))))),

@@ -1,5 +1,5 @@
--- The starred lines of document 01, "Worked tables", with the cases of document 02, b): a sort of example for each sort of line, what it says, and the
--- list of them.
+-- The starred lines of document 01, "Worked tables", with the cases of document 02, b), at the coordinates of e): a sort of example for each sort of line,
+-- what it says, and the list of them.
 -- Assumes nothing.
 use Rattle.std.specs.Prelude.{◌≡◌, List, [], ◌∷◌, map, ℕ, ℤ, pos, negsuc, replicate}
 use Rattle.refusals.specs.declared.Verdict.TheVariants.{Passed}
@@ -48,11 +48,11 @@ examples =
     ∷ coefficients (sparse 2 1) (pos 4 ∷ pos 3 ∷ pos 5 ∷ pos 2 ∷ pos 6 ∷ []) (pos 16 ∷ pos 4 ∷ pos 12 ∷ pos 0 ∷ pos 16 ∷ [])
     ∷ coefficients (sparse 2 2) (replicate 17 (pos 1))
     (map pos (4 ∷ 2 ∷ 2 ∷ 2 ∷ 2 ∷ 2 ∷ 0 ∷ 0 ∷ 2 ∷ 1 ∷ 1 ∷ 1 ∷ 1 ∷ 2 ∷ 0 ∷ 0 ∷ 2 ∷ []))
-    ∷ estimate (sparse 1 1) (pos 6 ∷ pos 7 ∷ pos 11 ∷ []) (16384 ∷ []) (pos 10)
-    ∷ estimate (sparse 1 1) (pos 6 ∷ pos 7 ∷ pos 11 ∷ []) (8192 ∷ []) (pos 5)
+    ∷ estimate (sparse 1 1) (pos 6 ∷ pos 7 ∷ pos 11 ∷ []) (262144 ∷ []) (pos 10)
+    ∷ estimate (sparse 1 1) (pos 6 ∷ pos 7 ∷ pos 11 ∷ []) (131072 ∷ []) (pos 5)
     ∷ estimate (sparse 1 1) (pos 6 ∷ pos 7 ∷ pos 11 ∷ []) (0 ∷ []) (pos 0)
     ∷ estimate (sparse 1 1) (pos 6 ∷ pos 7 ∷ pos 11 ∷ []) (1 ∷ []) (pos 0)
     ∷ estimate (sparse 1 1) (negsuc 5 ∷ negsuc 6 ∷ negsuc 10 ∷ []) (1 ∷ []) (pos 0)
-    ∷ estimate (sparse 1 0) (pos 1 ∷ []) (16384 ∷ []) (pos 1)
-    ∷ estimate (sparse 1 0) (negsuc 0 ∷ []) (16384 ∷ []) (negsuc 0)
+    ∷ estimate (sparse 1 0) (pos 1 ∷ []) (262144 ∷ []) (pos 1)
+    ∷ estimate (sparse 1 0) (negsuc 0 ∷ []) (262144 ∷ []) (negsuc 0)
     ∷ []

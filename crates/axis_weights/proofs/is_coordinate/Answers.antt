@@ -1,9 +1,12 @@
 -- `axis_weights::is_coordinate` meets its contract: a one shifted by the bits is the unit.
 -- Assumes nothing.
-use mathlib.Core.Path.{refl}
-use Rattle.surfaces.specs.Weights.{unit, isCoordinate}
+use mathlib.Core.Path.{ap, sym}
+use Prim.Native.Nat.{ℕ}
+use lib.Dec.{leb}
+use Rattle.surfaces.specs.Weights.{isCoordinate}
+use Rattle.surfaces.proofs.Unit.{unit-is}
 use Rattle.axis_weights.proofs.is_coordinate.Goals as goal
 
 pub returns : goal.returns
-unfolding isCoordinate unit
-returns c = refl
+unfolding isCoordinate
+returns c = ap (λ (u : ℕ). leb c.args.x u) (sym unit-is)

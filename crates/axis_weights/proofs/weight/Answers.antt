@@ -19,7 +19,7 @@ apart c =
     (centre-shifted a.level a.index c.requires.1 c.requires.2)
 
 pub returns-then-apart : goal.returns-then-apart
-returns-then-apart c = let a = c.args in omega (arith, weight_is a.x a.level a.index, apart (goal.at.returns-then-apart c).After-distance-apart, unit-is)
+returns-then-apart c = let a = c.args in omega (arith, weight_is unit a.x a.level a.index, apart (goal.at.returns-then-apart c).After-distance-apart, unit-is)
 
 pub returns : goal.returns
-returns c = let a = c.args in omega (arith, weight_is a.x a.level a.index, apart (goal.at.returns c).After-distance-apart, unit-is)
+returns c = let a = c.args in omega (arith, weight_is unit a.x a.level a.index, apart (goal.at.returns c).After-distance-apart, unit-is)

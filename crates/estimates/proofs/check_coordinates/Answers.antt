@@ -7,6 +7,7 @@ use borrow.Author.Rules.{rules}
 use borrow.Author.Tests.{eq-eqb, ne_eqb, le-leb, lt-leb}
 use Rattle.naturals.specs.FirstFailing.{firstFailing}
 use Rattle.naturals.proofs.FirstFailing.{first-none, first-at}
+use Rattle.surfaces.specs.Weights.{unit}
 use Rattle.estimates.specs.Estimates.{insideAt, firstOutside, checkCoordinates}
 use Rattle.estimates.proofs.check_coordinates.Goals.{After-is_coordinate}
 use Rattle.estimates.proofs.check_coordinates.Goals as goal
@@ -19,7 +20,7 @@ returns-then-coordinates-axes c =
 
 -- the test's answer
 tested : (c : After-is_coordinate) →
-    insideAt c.args.coordinates.now c.loop-t.t ≡ c.is_coordinate.result
+    insideAt unit c.args.coordinates.now c.loop-t.t ≡ c.is_coordinate.result
 unfolding insideAt
 tested c = sym c.is_coordinate.ensures
 
@@ -28,8 +29,8 @@ unfolding checkCoordinates firstOutside
 returns-then-not-is_coordinate c =
     let loop = c.loop-t in
     let a = c.args in
-    let first : firstFailing (insideAt a.coordinates.now) a.axes ≡ loop.t =
-    first-at (insideAt a.coordinates.now) a.axes loop.t loop.invariant.1 (tested (goal.at.returns-then-not-is_coordinate c).After-is_coordinate ∙ c.if-not-is_coordinate.true) (omega arith) in
+    let first : firstFailing (insideAt unit a.coordinates.now) a.axes ≡ loop.t =
+    first-at (insideAt unit a.coordinates.now) a.axes loop.t loop.invariant.1 (tested (goal.at.returns-then-not-is_coordinate c).After-is_coordinate ∙ c.if-not-is_coordinate.true) (omega arith) in
     rw (
       eq-eqb (length a.coordinates.now) a.axes (omega (arith, c.if-coordinates-axes.false)),
       first,
@@ -49,6 +50,6 @@ returns c =
     let a = c.args in
     rw (
       eq-eqb (length a.coordinates.now) a.axes (omega (arith, c.if-coordinates-axes.false)),
-      first-none (insideAt a.coordinates.now) a.axes (λ k h. c.loop-t.invariant.1 k (omega arith)),
+      first-none (insideAt unit a.coordinates.now) a.axes (λ k h. c.loop-t.invariant.1 k (omega arith)),
       le-leb a.axes a.axes (omega arith),
     )

@@ -7,6 +7,7 @@ use mir.ValLaws.{to_z-of_z}
 use Rattle.refusals.specs.declared.Verdict.TheVariants.{Passed}
 use Rattle.states.specs.States.{checkState}
 use Rattle.estimates.specs.declared.Estimated.TheVariants.{Value}
+use Rattle.surfaces.specs.Weights.{unit}
 use Rattle.estimates.specs.Estimates.{checkForward, checkCoordinates}
 use Rattle.estimates.proofs.Answering.{unchecked, in-range, half-turned, outside, past-limit, evaluable, estimated}
 use Rattle.estimates.proofs.estimate.Goals.{In_default, In_default-check_coordinates, In_default-check_forward}
@@ -20,7 +21,7 @@ forward : (c : In_default-check_forward) → checkForward c.args.state ≡ Passe
 forward c = sym c.check_forward.ensures ∙ c.in_default-check_forward.is
 
 listed : (c : In_default-check_coordinates) →
-    let a = c.args in checkCoordinates a.state.shape.axes a.coordinates.now ≡ Passed
+    let a = c.args in checkCoordinates unit a.state.shape.axes a.coordinates.now ≡ Passed
 listed c = sym c.check_coordinates.ensures ∙ c.in_default-check_coordinates.is
 
 pub returns-in-Refused : goal.returns-in-Refused
