@@ -49,7 +49,7 @@ enum numolefays_refusal {
     NUMOLEFAYS_POINT_NUMBER = 6,     /* point number N or more */
     NUMOLEFAYS_LIST_LENGTH = 7,      /* a list of coordinates, levels or indices not of length d
                                         (run: lists not of one length) */
-    NUMOLEFAYS_COORDINATE = 8,       /* a coordinate above 65,536; place: first such axis */
+    NUMOLEFAYS_COORDINATE = 8,       /* a coordinate above 1,048,576; place: first such axis */
     NUMOLEFAYS_NO_POINT = 9,         /* levels and indices that name no point of the shape */
     NUMOLEFAYS_CONTENTS = 10,        /* the contents do not allow the call; see each function */
     NUMOLEFAYS_FILE_ENDS = 11,       /* the file ends inside or before a number */
@@ -182,9 +182,12 @@ uint32_t numolefays_run(uint32_t axes, uint32_t level, uint8_t *forward, int64_t
 
 /* ---- estimates [11] ---- */
 
+/* A coordinate of this is 1; coordinates run from 0 to this. */
+#define NUMOLEFAYS_UNIT UINT32_C(1048576)
+
 /*
- * The estimate at a list of coordinates, one for each axis, each from 0 to 65,536 and meaning that many
- * 65,536ths: in the table's unit, 2^d times a rate, rounded to the nearest whole number, halves away from zero.
+ * The estimate at a list of coordinates, one for each axis, each from 0 to 1,048,576 and meaning that many
+ * 1,048,576ths: in the table's unit, 2^d times a rate, rounded to the nearest whole number, halves away from zero.
  * The table is only read, and every axis must be forward.
  * Refused: 1, 2, 14, 3, 17 (the first axis that is not forward), 7, 8 (the first axis with such a coordinate),
  * 10 (a value past 2^47).

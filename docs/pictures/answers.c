@@ -76,12 +76,12 @@ static void cut(void)
     must(numolefays_load(AXES, TOP, half, POINTS, &forward, &place));
     must(numolefays_forward(AXES, TOP, &forward, half, POINTS, 1, &place));
     /* here an estimate is refused with 17, place 2 */
-    const uint32_t middle[AXES] = {32768, 32768};
+    const uint32_t middle[AXES] = {NUMOLEFAYS_UNIT / 2, NUMOLEFAYS_UNIT / 2};
     uint32_t number = numolefays_estimate(AXES, TOP, forward, half, POINTS, middle, AXES, &estimate, &place);
     printf("half %u %" PRIu64 "\n", (unsigned)number, place);
 
     for (uint32_t k = 0; k <= STEPS; k++) {
-        const uint32_t at[AXES] = {k * (65536 / STEPS), 16384};
+        const uint32_t at[AXES] = {k * (NUMOLEFAYS_UNIT / STEPS), NUMOLEFAYS_UNIT / 4};
         int64_t right, wrong;
         must(numolefays_adopt(AXES, TOP, full, POINTS, &forward, &place));
         must(numolefays_estimate(AXES, TOP, forward, full, POINTS, at, AXES, &right, &place));

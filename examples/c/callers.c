@@ -123,15 +123,15 @@ static void analyst(const struct kept *half, const struct kept *whole)
     struct kept k = *whole;
     uint64_t place;
 
-    ask(half, 32768, 32768);
+    ask(half, NUMOLEFAYS_UNIT / 2, NUMOLEFAYS_UNIT / 2);
     k.forward = 0;
     tell("adopt", numolefays_adopt(k.axes, k.level, k.table, POINTS, &k.forward, &place), &place);
-    ask(&k, 32768, 32768); /* point 0, rate 4 */
-    ask(&k, 16384, 32768); /* point 1, rate 3 */
-    ask(&k, 32768, 49152); /* point 4, rate 6 */
-    ask(&k, 10000, 50000);
-    ask(&k, 65536, 50000);
-    ask(&k, 10000, 65537);
+    ask(&k, NUMOLEFAYS_UNIT / 2, NUMOLEFAYS_UNIT / 2);     /* point 0, rate 4 */
+    ask(&k, NUMOLEFAYS_UNIT / 4, NUMOLEFAYS_UNIT / 2);     /* point 1, rate 3 */
+    ask(&k, NUMOLEFAYS_UNIT / 2, 3 * NUMOLEFAYS_UNIT / 4); /* point 4, rate 6 */
+    ask(&k, 160000, 800000);
+    ask(&k, NUMOLEFAYS_UNIT, 800000);
+    ask(&k, 160000, NUMOLEFAYS_UNIT + 1);
 }
 
 /* The rates as a house file, the same for every such table, and read back; a longer file of the same table has this one as its form. */

@@ -13,7 +13,7 @@
 //! callers beside this, right pointers and lengths, Rust's slices and references are by their types.
 //!
 //! ```
-//! use numolefays::Shape;
+//! use numolefays::{Shape, UNIT};
 //!
 //! let shape = Shape::new(2, 1);
 //! let mut table = [4, 3, 5, 2, 6]; // rates, in point order
@@ -21,7 +21,7 @@
 //! state.forward(&mut table, 1)?;
 //! state.forward(&mut table, 2)?;
 //! assert_eq!(table, [16, 4, 12, 0, 16]); // the coefficients
-//! assert_eq!(state.estimate(&table, &[32768, 32768])?, 16); // the rate at the middle point, 4, times 4
+//! assert_eq!(state.estimate(&table, &[UNIT / 2, UNIT / 2])?, 16); // the rate at the middle point, 4, times 4
 //! # Ok::<(), numolefays::Refusal>(())
 //! ```
 
@@ -51,4 +51,4 @@ pub use turn::Turn;
 pub const MOST: u32 = 8;
 
 /// A coordinate of this is 1; coordinates run from 0 to this.
-pub const UNIT: u32 = 65_536;
+pub const UNIT: u32 = 1_048_576;

@@ -1,5 +1,6 @@
 //! Why a call was refused.
 
+use crate::UNIT;
 use std::fmt;
 
 /// Why a call was refused: a case for each number of docs/MANUAL.md, section 14, with its place where it names one.
@@ -21,7 +22,7 @@ pub enum Refusal {
     PointNumber,
     /// 7: a list is not as long as there are axes, or the lists of a run differ in length.
     ListLength,
-    /// 8: a coordinate is above 65,536; the first such axis.
+    /// 8: a coordinate is above 1,048,576; the first such axis.
     Coordinate(u32),
     /// 9: the levels and indices name no point of the shape.
     NoPoint,
@@ -150,7 +151,7 @@ impl fmt::Display for Refusal {
             Refusal::Axis(axis) => write!(f, "there is no axis {axis}"),
             Refusal::PointNumber => write!(f, "there is no point of this number"),
             Refusal::ListLength => write!(f, "a list has the wrong length"),
-            Refusal::Coordinate(axis) => write!(f, "the coordinate on axis {axis} is above 65536"),
+            Refusal::Coordinate(axis) => write!(f, "the coordinate on axis {axis} is above {UNIT}"),
             Refusal::NoPoint => write!(f, "the levels and indices name no point"),
             Refusal::Contents => write!(f, "the contents do not allow the call"),
             Refusal::FileEnds => write!(f, "the file ends too early"),

@@ -97,9 +97,9 @@ impl State {
         Refusal::checked(number, place)
     }
 
-    /// The surface at these coordinates, one for each axis, 0 to 65,536, in units of 1/2^d of a rate, to the nearest whole
-    /// number, halves away from zero; from a table that is forward on every axis. Section 11. Refused with 1, 2, 14, 3, 17,
-    /// 7, 8, 10.
+    /// The surface at these coordinates, one for each axis, each from 0 to 1,048,576 ([`UNIT`](crate::UNIT)), in units of
+    /// 1/2^d of a rate, to the nearest whole number, halves away from zero; from a table that is forward on every axis.
+    /// Section 11. Refused with 1, 2, 14, 3, 17, 7, 8, 10.
     pub fn estimate(self, table: &[i64], coordinates: &[u32]) -> Result<i64, Refusal> {
         let (mut estimate, mut place) = (0, 0);
         let number = boundary::estimate(
