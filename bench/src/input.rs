@@ -1,5 +1,7 @@
 //! The tables that all contestants are given.
 
+use crate::plain::UNIT;
+
 /// Rates from a fixed seed.
 pub fn rates(count: usize) -> Vec<i64> {
     let mut x: u64 = 0x2545_f491_4f6c_dd1d;
@@ -20,6 +22,6 @@ pub fn numbers(count: usize, below: u64) -> Vec<u64> {
 
 /// Lists of coordinates.
 pub fn coordinates(count: usize, axes: usize) -> Vec<Vec<u32>> {
-    let all = numbers(count * axes, 65_537);
+    let all = numbers(count * axes, UNIT + 1);
     all.chunks(axes).map(|list| list.iter().map(|&x| x as u32).collect()).collect()
 }

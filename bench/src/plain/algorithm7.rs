@@ -1,9 +1,7 @@
 //! Estimates by algorithm 7 of document 001 with document 01's integers: one point for each level vector.
 
 use super::grid::{first, next, Levels};
-
-const BITS: u32 = 16;
-const UNIT: u64 = 1 << BITS;
+use super::{BITS, UNIT};
 
 /// Which point of a level can have a weight at x, as (index − 1)/2, and its weight.
 fn hat(x: u64, level: u32) -> (u64, u64) {

@@ -4,6 +4,7 @@
 use super::algorithm7::{hat_of, nearest};
 use super::grid::{vectors, Levels};
 use super::points::point;
+use super::{BITS, UNIT};
 use std::collections::HashMap;
 use std::hash::{BuildHasherDefault, Hash, Hasher};
 
@@ -97,11 +98,11 @@ impl Hashed {
     pub fn estimate(&self, coordinates: &[u32]) -> i64 {
         let mut total: i128 = 0;
         for levels in &self.vectors {
-            let mut joint: u64 = 65_536;
+            let mut joint = UNIT;
             let mut key = Key { levels: levels.map(|l| l as u8), indices: [0; 8] };
             for t in 0..self.axes {
                 let (place, weight) = hat_of(coordinates[t], levels[t]);
-                joint = (joint * weight) >> 16;
+                joint = (joint * weight) >> BITS;
                 key.indices[t] = (2 * place + 1) as u16;
             }
             total += i128::from(self.map[&key]) * i128::from(joint);

@@ -27,6 +27,10 @@ pub fn all_within_at_once(table: &[i64]) -> bool {
     table.iter().fold(0, |all, &v| all | v.wrapping_add(LIMIT) as u64) >> 48 == 0 || all_within(table)
 }
 
+/// The bits of the unit of coordinates and weights, and the unit.
+pub const BITS: u32 = 20;
+pub const UNIT: u64 = 1 << BITS;
+
 /// The rate range.
 pub fn is_rate(v: i64) -> bool {
     i32::try_from(v).is_ok()
