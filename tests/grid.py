@@ -1,5 +1,6 @@
-"""Document 01's points, turns and estimates, these rounded as in document 02, on fractions and unbounded whole numbers, for the scripts beside it. Nothing
-here is the library's: points are tuples of fractions in a sorted list, parents are found by adding a step to a coordinate, tables are dictionaries."""
+"""Document 01's points, turns and estimates, these rounded as in document 02 and in the unit of request e, on fractions and unbounded whole numbers, for the
+scripts beside it. Nothing here is the library's: points are tuples of fractions in a sorted list, parents are found by adding a step to a coordinate, tables
+are dictionaries."""
 from decimal import ROUND_HALF_UP, Context, Inexact
 from fractions import Fraction
 from functools import lru_cache
@@ -7,7 +8,8 @@ from itertools import product
 
 LIMIT = 2 ** 47
 LEAST, MOST = -2 ** 31, 2 ** 31 - 1
-UNIT = 65536
+UNIT = 2 ** 20  # of coordinates and weights
+OLD_UNIT = 2 ** 16  # the same before request e
 
 
 # ---- points
@@ -125,10 +127,10 @@ def rates_of(d, n, coefficients):
 
 # ---- estimates
 
-def joint(point, at):
-    weight = UNIT
+def joint(point, at, unit=UNIT):
+    weight = unit
     for c, x in zip(point, at):
-        weight = weight * max(0, UNIT - abs(x * c.denominator - c.numerator * UNIT)) // UNIT
+        weight = weight * max(0, unit - abs(x * c.denominator - c.numerator * unit)) // unit
         if weight == 0:
             break
     return weight
@@ -137,11 +139,11 @@ def joint(point, at):
 EXACT = Context(prec=99, traps=[Inexact])
 
 
-def nearest(total):
+def nearest(total, unit):
     """The total in units, as a decimal number with all its places: to the nearest whole number, halves away from zero, is what they call half up."""
-    return int(EXACT.divide(total, UNIT).to_integral_value(ROUND_HALF_UP))
+    return int(EXACT.divide(total, unit).to_integral_value(ROUND_HALF_UP))
 
 
-def estimate(d, n, table, at):
+def estimate(d, n, table, at, unit=UNIT):
     """The sum over all points, to the nearest unit."""
-    return nearest(sum(c * joint(p, at) for p, c in zip(points(d, n), table)))
+    return nearest(sum(c * joint(p, at, unit) for p, c in zip(points(d, n), table)), unit)

@@ -1,13 +1,13 @@
 #!/usr/bin/env python3
 """The calls that crates/sample_calls is handed (its stdin) and what it has to print (its stdout), made without its code by the rules of documents 01 and 02
-(grid.py): the worked values, the edges of the types, then pseudo-random calls. `sample_calls.py FOLDER` writes both files."""
+and request e (grid.py): the worked values, the edges of the types, then pseudo-random calls. `sample_calls.py FOLDER` writes both files."""
 import os
 import sys
 from bisect import bisect_right
 from fractions import Fraction
 from functools import lru_cache
 
-from grid import LEAST, LIMIT, MOST, UNIT, back, estimate, forward, joint, key, points, position, rates_of, size, table_of_set, vectors
+from grid import LEAST, LIMIT, MOST, OLD_UNIT, UNIT, back, estimate, forward, joint, key, points, position, rates_of, size, table_of_set, vectors
 
 PAST = LIMIT + 1
 # what a division leaves: nothing, a half, and one to either side of both
@@ -269,14 +269,23 @@ def worked(sheet):
         sheet.to_rates()
         sheet.show()
         assert sheet.table == rates
-    for sign, x, value in [(1, 16384, 10), (1, 8192, 5), (1, 0, 0), (1, 1, 0), (-1, 1, 0), (1, 65536, 0), (1, 65537, "refused 8 1")]:
+    for sign, x, value in [(1, 262144, 10), (1, 131072, 5), (1, 0, 0), (1, 1, 0), (-1, 1, 0), (1, 1048576, 0), (1, 1048577, "refused 8 1")]:
         sheet.state(1, 1, 1, [x], (), [6 * sign, 7 * sign, 11 * sign])
         sheet.estimate()
         printed(str(value))
     for coefficient, value in [(1, 1), (-1, -1), (3, 2), (-3, -2), (5, 3), (-5, -3)]:
-        sheet.state(1, 0, 1, [16384], (), [coefficient])
+        sheet.state(1, 0, 1, [262144], (), [coefficient])
         sheet.estimate()
         printed(str(value))
+    # an old coordinate times 16: on one axis the old estimate, on more it may differ
+    for d, n, coefficients, at, old, new in [
+            (1, 1, [6, 7, 11], [16384], 10, 10), (1, 1, [6, 7, 11], [OLD_UNIT], 0, 0), (2, 0, [7], [5900, 13000], 0, 1), (3, 0, [22], [5000, 8000, 20000], 0, 1)]:
+        for sign in 1, -1:
+            table = [sign * c for c in coefficients]
+            assert estimate(d, n, table, at, OLD_UNIT) == sign * old
+            sheet.state(d, n, 2 ** d - 1, [16 * x for x in at], (), table)
+            sheet.estimate()
+            printed(str(sign * new))
     for coefficient, answer in [(3, "refused 10 0"), (4, "d")]:
         sheet.state(1, 0, 0, (), (), [coefficient])
         sheet.to_rates()
@@ -362,15 +371,23 @@ def edges_of_turns(sheet):
 def edges_of_estimates(sheet):
     worst = [PAST, -PAST]
     for d, n, bits, table, at in [
-            (0, 9, 255, worst, [65537]), (8, TOP, 0, worst, [65537]), (7, 8, 128, worst, [65537]), (2, 1, 0, worst, [65537]), (2, 1, 3, [], [65537]),
-            (2, 1, 1, [PAST] * 5, [65537]), (8, 0, 127, [PAST], [65537]), (8, 0, 160, [PAST], []), (2, 1, 3, [PAST] * 5, [65537]), (8, 0, 255, [0], [1] * 9),
-            (2, 1, 3, [PAST] * 5, [65536, TOP]), (2, 1, 3, [PAST] * 5, [65537, 65537]), (1, 1, 1, [0, 0, -PAST], [16384]), (1, 1, 1, [MIN, 0, 0], [0]),
-            (1, 1, 1, [LIMIT] * 3, [21845]), (1, 1, 1, [-LIMIT] * 3, [21845]), (2, 0, 3, [LIMIT], [1, 1]), (2, 0, 3, [-LIMIT], [1, 1]),
-            (8, 0, 255, [256], [65535] * 8), (8, 0, 255, [-LIMIT], [32768] * 3 + [65535] + [32768] * 3 + [1])]:
+            (0, 9, 255, worst, [UNIT + 1]), (8, TOP, 0, worst, [UNIT + 1]), (7, 8, 128, worst, [UNIT + 1]), (2, 1, 0, worst, [UNIT + 1]),
+            (2, 1, 3, [], [UNIT + 1]), (2, 1, 1, [PAST] * 5, [UNIT + 1]), (8, 0, 127, [PAST], [UNIT + 1]), (8, 0, 160, [PAST], []),
+            (2, 1, 3, [PAST] * 5, [UNIT + 1]), (8, 0, 255, [0], [1] * 9), (2, 1, 3, [PAST] * 5, [UNIT, TOP]), (2, 1, 3, [PAST] * 5, [UNIT + 1, UNIT + 1]),
+            (1, 1, 1, [0, 0, -PAST], [UNIT // 4]), (1, 1, 1, [MIN, 0, 0], [0]), (1, 1, 1, [LIMIT] * 3, [UNIT // 3]), (1, 1, 1, [-LIMIT] * 3, [UNIT // 3]),
+            (2, 0, 3, [LIMIT], [1, 1]), (2, 0, 3, [-LIMIT], [1, 1]), (8, 0, 255, [256], [UNIT - 1] * 8),
+            (8, 0, 255, [-LIMIT], [UNIT // 2] * 3 + [UNIT - 1] + [UNIT // 2] * 3 + [1]),
+            (2, 1, 3, [LIMIT] * 5, [OLD_UNIT, OLD_UNIT + 1]), (8, 0, 255, [LIMIT], [OLD_UNIT + 1] * 8)]:
         sheet.state(d, n, bits, at, (), table)
         sheet.estimate()
+    # each axis at the end and past it, the others at points
+    for d in 1, 2, 3, 8:
+        for t in range(d):
+            for x in OLD_UNIT + 1, UNIT - 1, UNIT, UNIT + 1, 2 ** 31, TOP:
+                sheet.state(d, 0, 2 ** d - 1, [UNIT // 2] * t + [x] + [UNIT // 2] * (d - 1 - t), (), [-LIMIT])
+                sheet.estimate()
     # one point of joint weight 1, so that its coefficient is the sum
-    for d, at in (2, [1, 16384]), (3, [49152, 32768, 65535]), (8, [65535] + [32768] * 6 + [16384]):
+    for d, at in (2, [1, UNIT // 4]), (3, [UNIT // 4 * 3, UNIT // 2, UNIT - 1]), (8, [UNIT - 1] + [UNIT // 2] * 6 + [UNIT // 4]):
         for whole in 0, 1, 2, LIMIT // UNIT - 1:
             for left in LEFT:
                 for sign in 1, -1:
@@ -416,7 +433,8 @@ def random_points(draw, sheet, d, n):
 
 
 def coordinate(draw):
-    return draw.of(0, 1, 65535, 65536, 21845, 43691, draw.below(513) * 128, draw.below(513) * 128, draw.below(65537), draw.below(65537))
+    on_grid, old = draw.below(513) * (UNIT // 512), draw.of(draw.below(OLD_UNIT + 1) * 16, OLD_UNIT, OLD_UNIT + 1)
+    return draw.of(0, 1, UNIT - 1, UNIT, UNIT // 3, UNIT - UNIT // 3, on_grid, on_grid, old, draw.below(UNIT + 1), draw.below(UNIT + 1))
 
 
 def estimates(draw, sheet, count):

@@ -1,10 +1,15 @@
 //! What the calls are handed: good inputs, and every kind of bad one.
 
 use crate::draw::Draw;
+use crate::model::estimates::{OLD_UNIT, UNIT};
 use crate::model::grid::{count, grid};
 use crate::model::turns::{forward_of, turn_table};
 
 pub const LIMIT: i64 = 1 << 47;
+
+/// The last coordinate, and the last before change request e.
+pub const END: u32 = UNIT as u32;
+pub const OLD_END: u32 = OLD_UNIT as u32;
 
 /// A shape that is one, with at most so many points.
 pub fn good_shape(draw: &mut Draw, most: u64) -> (u32, u32) {
@@ -266,26 +271,35 @@ pub fn coefficients_by_maps(axes: u32, level: u32, rates: &[i64]) -> Option<Vec<
     Some(grid.table(&values))
 }
 
-/// A coordinate: the ends, points of the grid and what is beside them, anything between, and some past the end.
+/// A coordinate: the ends, points of the grid and what is beside them, anything between, old ones times 16, and numbers
+/// about the old end.
 pub fn coordinate(draw: &mut Draw) -> u32 {
     let level = draw.below(9) as u32;
-    let on_grid = (draw.below(1 << (level + 1)) as u32 + 1) << (15 - level);
-    match draw.below(9) {
-        0 => draw.of(&[0, 1, 2, 65_535, 65_536, 32_767, 32_768, 32_769, 21_845, 43_691]),
+    let on_grid = (draw.below(1 << (level + 1)) as u32 + 1) * (END / 2u32.pow(level + 1));
+    match draw.below(11) {
+        0 => draw.of(&[0, 1, 2, END - 1, END, END / 2 - 1, END / 2, END / 2 + 1, END / 3, END - END / 3]),
         1 | 2 => on_grid,
         3 => on_grid - 1,
-        4 => (on_grid + 1).min(65_536),
-        _ => draw.below(65_537) as u32,
+        4 => (on_grid + 1).min(END),
+        5 => 16 * old_coordinate(draw),
+        6 => draw.of(&[OLD_END - 1, OLD_END, OLD_END + 1, OLD_END + 2, 16, 15, END - 16, END - 15]),
+        _ => draw.below(u64::from(END) + 1) as u32,
     }
 }
 
-/// A list of coordinates: mostly as long as there are axes, mostly none past the end.
+/// A coordinate as it was before change request e.
+pub fn old_coordinate(draw: &mut Draw) -> u32 {
+    draw.below(u64::from(OLD_END) + 1) as u32
+}
+
+/// A list of coordinates: mostly as long as there are axes, mostly none past the end; in some all are old ones times 16.
 pub fn coordinates(draw: &mut Draw, axes: u32) -> Vec<u32> {
-    let mut list: Vec<u32> = (0..list_length(draw, axes)).map(|_| coordinate(draw)).collect();
+    let one = if draw.one_in(6) { |draw: &mut Draw| 16 * old_coordinate(draw) } else { coordinate };
+    let mut list: Vec<u32> = (0..list_length(draw, axes)).map(|_| one(draw)).collect();
     if !list.is_empty() && draw.one_in(12) {
         for _ in 0..1 + draw.below(2) {
             let t = draw.index(list.len());
-            list[t] = draw.of(&[65_537, 65_538, 131_072, 1 << 31, u32::MAX, 65_536 + 32_768]);
+            list[t] = draw.of(&[END + 1, END + 2, 2 * END, 1 << 31, u32::MAX, END + END / 2]);
         }
     }
     list

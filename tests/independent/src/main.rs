@@ -2,8 +2,8 @@
 //!
 //! `NUMOLEFAYS_SEED` and `NUMOLEFAYS_COUNT` set the seed and the number of rounds; a round is one random input to every
 //! call. `NUMOLEFAYS_LARGE=0` leaves out the large tables, as for a run under valgrind, and keeps turns with a fault
-//! and turns list by list to fewer shapes. The last line has the counts; the exit code is 1 where anything differs, and
-//! where an answer was not met or a wrong reading would not be seen.
+//! and turns list by list to fewer shapes, and a line to fewer coordinates. The last line has the counts; the exit code
+//! is 1 where anything differs, and where an answer was not met or a wrong reading would not be seen.
 
 mod checks;
 mod draw;
@@ -13,8 +13,8 @@ mod model;
 mod report;
 
 use checks::{
-    components, edges, estimates, exhaustive, faults, files, lists, misreadings, orders, points, rates, rounding, runs,
-    threads, turns, walks, worked, writes,
+    border, components, edges, estimates, exhaustive, faults, files, finer, lists, misreadings, orders, points, rates,
+    rounding, runs, threads, turns, walks, worked, writes,
 };
 use draw::Draw;
 use report::Report;
@@ -75,6 +75,7 @@ fn main() {
     edges::of_tables(&mut draw, &mut report);
     edges::of_runs(&mut draw, &mut report);
     edges::of_estimates(&mut draw, &mut report);
+    edges::of_ends(&mut draw, &mut report);
     edges::of_writes(&mut draw, &mut report);
     edges::of_rewrites(&mut draw, &mut report);
     edges::of_file_shapes(&mut draw, &mut report);
@@ -89,9 +90,13 @@ fn main() {
     rounding::rounding(&mut Draw::new(seed ^ 0x6861_6c76_6573), &mut report);
     step(&clock, "estimates on halves and beside them");
 
+    finer::one_axis(&mut Draw::new(seed ^ 0x66_696e_6572), &mut report);
+    border::border(&mut Draw::new(seed ^ 0x626f_7264_6572), &mut report);
+    step(&clock, "old coordinates times 16 on one axis, and the border");
+
     exhaustive::states(&mut draw, &mut report);
     exhaustive::lengths(&mut draw, &mut report);
-    exhaustive::line(&mut draw, &mut report);
+    exhaustive::line(&mut draw, &mut report, with_large);
     exhaustive::small_tables(&mut draw, &mut report);
     exhaustive::worked_orders(&mut draw, &mut report);
     for (axes, level) in [(1, 8), (2, 4), (3, 3), (4, 2), (5, 1), (8, 0)] {

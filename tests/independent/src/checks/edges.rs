@@ -2,7 +2,7 @@
 
 use super::{estimates, files, points, rates, runs, turns, writes};
 use crate::draw::Draw;
-use crate::inputs::{self, LIMIT};
+use crate::inputs::{self, END, LIMIT, OLD_END};
 use crate::model::{self, grid::count};
 use crate::report::Report;
 
@@ -442,80 +442,124 @@ pub fn of_estimates(draw: &mut Draw, report: &mut Report) {
         (8, 8, 0),
     ];
     for (axes, level, bits) in worst {
-        estimates::estimate(draw, report, axes, level, bits, &[PAST, -PAST], &[65_537]);
+        estimates::estimate(draw, report, axes, level, bits, &[PAST, -PAST], &[END + 1]);
     }
     // 17 on eight axes
     for bits in [254, 253, 251, 247, 239, 223, 191, 127, 63, 160, 0, 255] {
-        estimates::estimate(draw, report, 8, 0, bits, &[PAST], &[65_537]);
+        estimates::estimate(draw, report, 8, 0, bits, &[PAST], &[END + 1]);
     }
-    let line: [(&[i64], u32); 20] = [
-        (&[6, 7, 11], 16_384),
-        (&[6, 7, 11], 8_192),
+    let line: [(&[i64], u32); 24] = [
+        (&[6, 7, 11], END / 4),
+        (&[6, 7, 11], END / 8),
         (&[6, 7, 11], 0),
         (&[6, 7, 11], 1),
         (&[-6, -7, -11], 1),
-        (&[6, 7, 11], 65_536),
-        (&[6, 7, 11], 65_537),
+        (&[6, 7, 11], END),
+        (&[6, 7, 11], END + 1),
         (&[6, 7, 11], TOP),
-        (&[6, 7, 11], 65_538),
-        (&[6, 7, 11], 131_072),
+        (&[6, 7, 11], END + 2),
+        (&[6, 7, 11], 2 * END),
+        // the old end and 16 are as other numbers now
+        (&[6, 7, 11], OLD_END),
+        (&[6, 7, 11], OLD_END + 1),
+        (&[LIMIT; 3], OLD_END + 1),
+        (&[6, 7, 11], 16),
         // 10, also at points of weight 0; the ends of the limit pass
-        (&[PAST, 0, 0], 32_768),
+        (&[PAST, 0, 0], END / 2),
         (&[PAST, 0, 0], 0),
-        (&[0, PAST, 0], 49_152),
-        (&[0, 0, -PAST], 16_384),
+        (&[0, PAST, 0], END / 4 * 3),
+        (&[0, 0, -PAST], END / 4),
         (&[0, 0, i64::MAX], 0),
-        (&[i64::MIN, 0, 0], 65_536),
-        (&[i64::MAX, i64::MIN, PAST], 30_000),
-        (&[LIMIT; 3], 21_845),
-        (&[-LIMIT; 3], 21_845),
-        (&[LIMIT, -LIMIT, 0], 16_383),
+        (&[i64::MIN, 0, 0], END),
+        (&[i64::MAX, i64::MIN, PAST], 480_000),
+        (&[LIMIT; 3], END / 3),
+        (&[-LIMIT; 3], END / 3),
+        (&[LIMIT, -LIMIT, 0], END / 4 - 1),
     ];
     for (table, x) in line {
         estimates::estimate(draw, report, 1, 1, 1, table, &[x]);
     }
     let past = [16, 4, 12, 0, -PAST];
     type Case<'a> = (u32, u32, u8, &'a [i64], &'a [u32]);
-    let others: [Case; 33] = [
-        (2, 1, 0, &[], &[65_537]),
-        (2, 1, 3, &[PAST, 0, 0, 0], &[0, 65_537]),
+    let others: [Case; 37] = [
+        (2, 1, 0, &[], &[END + 1]),
+        (2, 1, 3, &[PAST, 0, 0, 0], &[0, END + 1]),
         (2, 1, 3, &[0, 0, 0, 0, 0, PAST], &[0, 0]),
         (1, 1, 1, &[0; 4], &[0]),
-        (2, 1, 0, &[PAST, 0, 0, 0, 0], &[65_537]),
-        (2, 1, 1, &[PAST, 0, 0, 0, 0], &[65_537, 0, 0]),
-        (2, 1, 2, &[0; 5], &[0, 65_537]),
-        (1, 0, 0, &[7], &[32_768]),
+        (2, 1, 0, &[PAST, 0, 0, 0, 0], &[END + 1]),
+        (2, 1, 1, &[PAST, 0, 0, 0, 0], &[END + 1, 0, 0]),
+        (2, 1, 2, &[0; 5], &[0, END + 1]),
+        (1, 0, 0, &[7], &[END / 2]),
         // 7
         (1, 0, 1, &[PAST], &[]),
-        (1, 0, 1, &[PAST], &[65_537, 65_537]),
-        (2, 1, 3, &[PAST, 0, 0, 0, 0], &[65_537]),
-        (2, 1, 3, &[0; 5], &[65_537, 0, 0]),
+        (1, 0, 1, &[PAST], &[END + 1, END + 1]),
+        (2, 1, 3, &[PAST, 0, 0, 0, 0], &[END + 1]),
+        (2, 1, 3, &[0; 5], &[END + 1, 0, 0]),
         (2, 1, 3, &[0; 5], &[1]),
         (8, 0, 255, &[0], &[1; 7]),
         (8, 0, 255, &[0], &[1; 9]),
         // 8
-        (2, 1, 3, &past, &[65_537, 65_537]),
-        (2, 1, 3, &past, &[65_536, 65_537]),
-        (2, 1, 3, &past, &[65_537, 0]),
+        (2, 1, 3, &past, &[END + 1, END + 1]),
+        (2, 1, 3, &past, &[END, END + 1]),
+        (2, 1, 3, &past, &[END + 1, 0]),
         (2, 1, 3, &past, &[TOP, 0]),
         (2, 1, 3, &past, &[0, TOP]),
-        (2, 1, 3, &past, &[1 << 31, 131_072]),
-        (2, 1, 3, &past, &[65_536, 65_536]),
-        (2, 1, 3, &past, &[32_768, 32_768]),
-        (8, 0, 255, &[0], &[1, 1, 1, 1, 1, 1, 1, 65_537]),
-        (8, 0, 255, &[PAST], &[65_536, 65_536, 65_536, 65_537, 65_536, 65_536, 65_536, TOP]),
-        (8, 0, 255, &[256], &[65_535; 8]),
-        (8, 0, 255, &[LIMIT], &[32_768, 32_768, 32_768, 32_768, 32_768, 32_768, 32_768, 1]),
-        (8, 0, 255, &[-LIMIT], &[32_768, 32_768, 32_768, 65_535, 32_768, 32_768, 32_768, 1]),
+        (2, 1, 3, &past, &[1 << 31, 2 * END]),
+        (2, 1, 3, &past, &[END, END]),
+        (2, 1, 3, &past, &[END / 2, END / 2]),
+        (8, 0, 255, &[0], &[1, 1, 1, 1, 1, 1, 1, END + 1]),
+        (8, 0, 255, &[PAST], &[END, END, END, END + 1, END, END, END, TOP]),
+        (8, 0, 255, &[256], &[END - 1; 8]),
+        (8, 0, 255, &[LIMIT], &[OLD_END; 8]),
+        (8, 0, 255, &[LIMIT], &[OLD_END + 1; 8]),
+        (8, 0, 255, &[LIMIT], &[END / 2, END / 2, END / 2, END / 2, END / 2, END / 2, END / 2, 1]),
+        (8, 0, 255, &[-LIMIT], &[END / 2, END / 2, END / 2, END - 1, END / 2, END / 2, END / 2, 1]),
         (8, 0, 255, &[-PAST], &[0; 8]),
-        (2, 1, 3, &[16, 4, 12, 0, 16], &[49_152, 16_384]),
+        (2, 1, 3, &[16, 4, 12, 0, 16], &[END / 4 * 3, END / 4]),
         (2, 1, 3, &[-1, 0, 0, 0, 0], &[1, 1]),
         (2, 0, 3, &[LIMIT], &[1, 1]),
         (2, 0, 3, &[-LIMIT], &[1, 1]),
+        // 16 times old coordinates that had another estimate
+        (2, 0, 3, &[7], &[16 * 5_900, 16 * 13_000]),
+        (3, 0, 7, &[22], &[16 * 5_000, 16 * 8_000, 16 * 20_000]),
     ];
     for (axes, level, bits, table, coordinates) in others {
         estimates::estimate(draw, report, axes, level, bits, table, coordinates);
     }
+}
+
+/// Each axis in turn at the end, beside it and past it, and at numbers that are other ones where they are kept in fewer
+/// bits or multiplied in 32; the axes before it at the end, those after it anywhere or past the end as well.
+pub fn of_ends(draw: &mut Draw, report: &mut Report) {
+    let beside = [OLD_END - 1, OLD_END, OLD_END + 1, END - 1, END, END + 1, END + 2, TOP - 1, TOP];
+    let numbers: Vec<u32> = beside.into_iter().chain((17..32).flat_map(|k| [1 << k, (1 << k) + 1])).collect();
+    for axes in 1..=8 {
+        let table: Vec<i64> = (0..count(axes, 1)).map(|_| draw.between(-LIMIT, LIMIT)).collect();
+        for axis in 1..=axes as usize {
+            for &x in &numbers {
+                let mut coordinates = vec![END; axes as usize];
+                coordinates[axis - 1] = x;
+                coordinates[axis..].fill_with(|| inputs::coordinate(draw));
+                let refused = (x > 1_048_576).then_some((8, axis as u64));
+                end(draw, report, axes, &table, &coordinates, refused);
+                coordinates[axis..].fill(TOP);
+                let next = (axis < axes as usize).then_some((8, axis as u64 + 1));
+                end(draw, report, axes, &table, &coordinates, refused.or(next));
+            }
+        }
+    }
+}
+
+fn end(
+    draw: &mut Draw,
+    report: &mut Report,
+    axes: u32,
+    table: &[i64],
+    coordinates: &[u32],
+    refused: Option<model::Refused>,
+) {
+    let got = estimates::answered(draw, report, axes, 1, inputs::all_bits(axes), table, coordinates);
+    report.same("estimate", "refused for the end", &refused, &got.err(), &|| format!("coordinates {coordinates:?}"));
 }
 
 // ---- files written

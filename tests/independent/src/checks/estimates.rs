@@ -2,16 +2,17 @@
 
 use super::{answer, misreadings, refusal, short};
 use crate::draw::Draw;
-use crate::inputs;
+use crate::inputs::{self, END};
 use crate::model::estimates as model;
 use crate::model::grid::{count, grid};
 use crate::model::rates::coefficients;
+use crate::model::Refused;
 use crate::report::Report;
 use numolefays::{boundary, Shape, State};
 
 const CALL: &str = "estimate";
 
-/// Returns the library's estimate, none where it refuses.
+/// One call, through the boundary and through the wrapper.
 pub fn estimate(
     draw: &mut Draw,
     report: &mut Report,
@@ -20,12 +21,23 @@ pub fn estimate(
     bits: u8,
     table: &[i64],
     coordinates: &[u32],
-) -> Option<i64> {
+) {
+    let _ = answered(draw, report, axes, level, bits, table, coordinates);
+}
+
+/// The same call; returns what the library answers.
+pub fn answered(
+    draw: &mut Draw,
+    report: &mut Report,
+    axes: u32,
+    level: u32,
+    bits: u8,
+    table: &[i64],
+    coordinates: &[u32],
+) -> Result<i64, Refused> {
     let want = model::estimate(axes, level, bits, table, coordinates);
     report.case(CALL, answer(&want).0);
-    if let Ok(estimate) = want {
-        misreadings::of_call(report, axes, level, table, coordinates, estimate);
-    }
+    misreadings::of_call(report, axes, level, table, coordinates, &want);
     let say = || format!("axes {axes} level {level} bits {bits:#x} coordinates {coordinates:?} table {}", short(table));
     let junk = draw.bits() as i64;
     let (mut found, mut at) = (junk, draw.bits());
@@ -37,7 +49,11 @@ pub fn estimate(
     report.same(CALL, "coordinates", coordinates, &handed_at[..], &say);
     let state = State::saved(Shape::new(axes, level), bits);
     report.same(CALL, "wrapper", &want.map_err(refusal), &state.estimate(table, coordinates), &say);
-    (got == 0).then_some(found)
+    if got == 0 {
+        Ok(found)
+    } else {
+        Err((got, at))
+    }
 }
 
 /// At the points of a grid, every one or every so manieth, the estimate from the coefficients of accepted rates is the rate times 2^d.
@@ -56,7 +72,7 @@ pub fn through_rates(draw: &mut Draw, report: &mut Report, axes: u32, level: u32
     report.made("adopt", 1);
     let points = grid(axes, level);
     for (at, &rate) in points.order.iter().zip(&rates).step_by(1 + places / 600) {
-        let coordinates: Vec<u32> = at[..axes as usize].iter().map(|&c| u32::from(c) * 128).collect();
+        let coordinates: Vec<u32> = at[..axes as usize].iter().map(|&c| u32::from(c) * (END / 512)).collect();
         report.walked(CALL);
         report.same(CALL, "at a point", &Ok(rate << axes), &state.estimate(&table, &coordinates), &say);
     }
@@ -71,7 +87,7 @@ pub fn lattice(draw: &mut Draw, report: &mut Report, axes: u32, level: u32) {
     for table in [any, coefficients(axes, level, &rates)] {
         for spot in 0..(side + 1).pow(axes) {
             let coordinates: Vec<u32> =
-                (0..axes).map(|t| spot / (side + 1).pow(t) % (side + 1) * (65_536 / side)).collect();
+                (0..axes).map(|t| spot / (side + 1).pow(t) % (side + 1) * (END / side)).collect();
             estimate(draw, report, axes, level, inputs::all_bits(axes), &table, &coordinates);
         }
     }
@@ -85,7 +101,7 @@ pub fn extremes(draw: &mut Draw, report: &mut Report, axes: u32, level: u32) {
     let alternating: Vec<i64> = (0..places).map(|p| ends[p % 2]).collect();
     for table in [either, alternating, vec![ends[0]; places], vec![ends[1]; places]] {
         for k in 0..12 {
-            let thirds = |draw: &mut Draw| draw.of(&[21_845, 43_691]);
+            let thirds = |draw: &mut Draw| draw.of(&[END / 3, END - END / 3]);
             let coordinates: Vec<u32> =
                 (0..axes).map(|_| if k < 8 { thirds(draw) } else { inputs::coordinate(draw) }).collect();
             estimate(draw, report, axes, level, inputs::all_bits(axes), &table, &coordinates);

@@ -2,10 +2,11 @@
 
 use super::{estimates, points, rates, turns};
 use crate::draw::Draw;
-use crate::inputs;
+use crate::inputs::{self, END};
 use crate::model::grid::count;
 use crate::model::turns::turn;
 use crate::report::Report;
+use std::thread;
 
 /// Every set of bits in every number of axes, with every axis up to 10, on a small table: forward, back, unload, estimate.
 pub fn states(draw: &mut Draw, report: &mut Report) {
@@ -38,7 +39,7 @@ pub fn lengths(draw: &mut Draw, report: &mut Report) {
         let n = count(axes, 1) as usize;
         let all = inputs::all_bits(axes);
         for length in 0..=18 {
-            estimates::estimate(draw, report, axes, 1, all, &vec![256; n], &vec![32_768; length]);
+            estimates::estimate(draw, report, axes, 1, all, &vec![256; n], &vec![END / 2; length]);
         }
         for places in 0..=2 * n + 2 {
             let table = vec![256; places];
@@ -49,17 +50,33 @@ pub fn lengths(draw: &mut Draw, report: &mut Report) {
             rates::coefficients_to_rates(draw, report, axes, 1, &table);
             turns::turn(draw, report, false, axes, 1, 0, &table, axes);
             turns::turn(draw, report, true, axes, 1, all, &table, axes);
-            estimates::estimate(draw, report, axes, 1, all, &table, &vec![20_000; axes as usize]);
+            estimates::estimate(draw, report, axes, 1, all, &table, &vec![320_000; axes as usize]);
         }
     }
 }
 
-/// Every coordinate of a line, and some past its end.
-pub fn line(draw: &mut Draw, report: &mut Report) {
+/// Every coordinate of a line, or every 17th where not all are wanted, and some past its end; in four threads.
+pub fn line(draw: &mut Draw, report: &mut Report, all: bool) {
     let rising: Vec<i64> = (0..count(1, 2) as i64).map(|p| 2 * p * p - 11 * p - 3).collect();
-    for x in (0..=65_560).chain([131_072, 1 << 31, u32::MAX]) {
-        estimates::estimate(draw, report, 1, 2, 1, &rising, &[x]);
-    }
+    let step = if all { 1 } else { 17 };
+    let spots: Vec<u32> = (0..=END + 24).step_by(step).chain([END, 2 * END, 1 << 31, u32::MAX]).collect();
+    let read = |part: &[u32], mut draw: Draw| {
+        let mut report = Report::default();
+        for &x in part {
+            estimates::estimate(&mut draw, &mut report, 1, 2, 1, &rising, &[x]);
+        }
+        report
+    };
+    let parts: Vec<Report> = thread::scope(|scope| {
+        let start = |part| {
+            let own = Draw::new(draw.bits());
+            let read = &read;
+            scope.spawn(move || read(part, own))
+        };
+        let handles: Vec<_> = spots.chunks(spots.len().div_ceil(4)).map(start).collect();
+        handles.into_iter().map(|h| h.join().expect("a thread that ended")).collect()
+    });
+    parts.into_iter().for_each(|part| report.merge(part));
 }
 
 /// Every table of three values from a few, on one axis: both whole calls and both turns.

@@ -1,12 +1,14 @@
 //! Each call, once through the boundary with every output and buffer compared, and once through the safe wrapper; what is
 //! in `writes` through the boundary alone.
 
+pub mod border;
 pub mod components;
 pub mod edges;
 pub mod estimates;
 pub mod exhaustive;
 pub mod faults;
 pub mod files;
+pub mod finer;
 pub mod lists;
 pub mod misreadings;
 pub mod orders;

@@ -1,17 +1,17 @@
 //! Estimates on halves, beside them and on whole units: the sum is chosen, and the table made to have it. Each
 //! table is also handed in negated.
 
-use super::estimates::estimate;
+use super::estimates::answered;
 use super::short;
 use crate::draw::Draw;
-use crate::inputs::{self, LIMIT};
-use crate::model::estimates::{down, joint_weights, sum, UNIT};
+use crate::inputs::{self, END, LIMIT, OLD_END};
+use crate::model::estimates::{joint_weights, sum, UNIT};
 use crate::model::grid::count;
 use crate::report::Report;
 
 const HALF: i128 = UNIT / 2;
 
-/// What the last division leaves: nothing, a half, and one or two 65,536ths to either side of both.
+/// What the last division leaves: nothing, a half, and one or two 1,048,576ths to either side of both.
 const LEFT: [i128; 10] = [0, 1, 2, HALF - 2, HALF - 1, HALF, HALF + 1, HALF + 2, UNIT - 2, UNIT - 1];
 
 pub fn rounding(draw: &mut Draw, report: &mut Report) {
@@ -31,22 +31,23 @@ pub fn rounding(draw: &mut Draw, report: &mut Report) {
 /// A table and its negative: the library's two answers are each other's negative as well, or both refusals.
 fn both_signs(draw: &mut Draw, report: &mut Report, axes: u32, level: u32, table: &[i64], coordinates: &[u32]) {
     let (all, negative) = (inputs::all_bits(axes), table.iter().map(|c| -c).collect::<Vec<_>>());
-    let one = estimate(draw, report, axes, level, all, table, coordinates);
-    let other = estimate(draw, report, axes, level, all, &negative, coordinates);
+    let one = answered(draw, report, axes, level, all, table, coordinates);
+    let other = answered(draw, report, axes, level, all, &negative, coordinates);
     let say = || format!("axes {axes} level {level} coordinates {coordinates:?} table {}", short(table));
     report.same("estimate", "negated", &one.map(i64::wrapping_neg), &other, &say);
 }
 
 /// One point of joint weight 1, so that its coefficient is the sum: of the first and the last axis one has
-/// weight 2 and one 32,768, and those between them are at the point.
+/// weight 2 and one half a unit, and those between them are at the point.
 fn coefficient_as_sum(draw: &mut Draw, report: &mut Report) {
     let mut sums = vec![i128::from(LIMIT), i128::from(LIMIT) + 1];
-    for whole in [0, 1, 2, 3, 4, 1 << 20, (1 << 31) - 2, (1 << 31) - 1] {
+    let most = i128::from(LIMIT) / UNIT;
+    for whole in [0, 1, 2, 3, 4, 1 << 16, most - 2, most - 1] {
         sums.extend(LEFT.map(|left| whole * UNIT + left));
     }
     for axes in 2..=8 {
-        for (first, last) in [(1, 16_384), (49_152, 1), (65_535, 49_152), (16_384, 65_535)] {
-            let mut coordinates = vec![32_768; axes as usize];
+        for (first, last) in [(1, END / 4), (END / 4 * 3, 1), (END - 1, END / 4 * 3), (END / 4, END - 1)] {
+            let mut coordinates = vec![END / 2; axes as usize];
             coordinates[0] = first;
             coordinates[axes as usize - 1] = last;
             for &sum in &sums {
@@ -56,12 +57,12 @@ fn coefficient_as_sum(draw: &mut Draw, report: &mut Report) {
     }
 }
 
-/// Each axis in turn at and beside the ends, at points of levels 0 and 1, and past the end; the others at such
-/// points.
+/// Each axis in turn at and beside the ends, at points of levels 0 and 1, about the old end, and past the end; the
+/// others at such points.
 fn chosen_coordinates(draw: &mut Draw, report: &mut Report, axes: u32, level: u32) {
     for axis in 0..axes as usize {
-        for x in [0, 1, 16_384, 32_768, 49_152, 65_535, 65_536, 65_537] {
-            let points = [16_384, 32_768, 32_768, 49_152];
+        for x in [0, 1, OLD_END, OLD_END + 1, END / 4, END / 2, END / 4 * 3, END - 1, END, END + 1] {
+            let points = [END / 4, END / 2, END / 2, END / 4 * 3];
             let mut coordinates: Vec<u32> = (0..axes).map(|_| draw.of(&points)).collect();
             coordinates[axis] = x;
             let [zeros, small, any, ends] = tables(draw, axes, level);
@@ -86,20 +87,21 @@ fn tables(draw: &mut Draw, axes: u32, level: u32) -> [Vec<i64>; 4] {
     ]
 }
 
-/// Tables that leave each number of 65,536ths, with an even and an odd number of whole units. On one axis all
+/// Tables that leave each number of 1,048,576ths, with an even and an odd number of whole units. On one axis all
 /// weights are even, and so is what is left.
 fn chosen_sums(draw: &mut Draw, report: &mut Report, axes: u32, level: u32) {
     let least = if axes == 1 { 2 } else { 1 };
     for _ in 0..2 {
         let (coordinates, weights, p) = spot(draw, axes, level, least);
         // this coefficient of point p adds `least` to the sum, and whole pairs of units
-        let adds_least = (1..2 * UNIT).find(|c| c * weights[p] % (2 * UNIT) == least).expect("an odd multiple");
+        let (two_units, weight) = (2 * UNIT as u64, weights[p] as u64);
+        let adds_least = (1..two_units).find(|c| c * weight % two_units == least as u64).expect("an odd multiple");
         for mut table in tables(draw, axes, level) {
             for left in LEFT.into_iter().filter(|left| left % least == 0) {
                 for wanted in [left, left + UNIT] {
                     table[p] = 0;
                     let missing = wanted - sum(&table, &weights);
-                    table[p] = (missing / least * adds_least).rem_euclid(2 * UNIT) as i64;
+                    table[p] = (missing / least * i128::from(adds_least)).rem_euclid(2 * UNIT) as i64;
                     both_signs(draw, report, axes, level, &table, &coordinates);
                 }
             }
@@ -111,7 +113,7 @@ fn chosen_sums(draw: &mut Draw, report: &mut Report, axes: u32, level: u32) {
 fn spot(draw: &mut Draw, axes: u32, level: u32, least: i128) -> (Vec<u32>, Vec<i128>, usize) {
     loop {
         let coordinates: Vec<u32> = (0..axes).map(|_| inputs::coordinate(draw)).collect();
-        let weights = joint_weights(axes, level, &coordinates, down);
+        let weights = joint_weights(UNIT, axes, level, &coordinates);
         let odd: Vec<usize> = (0..weights.len()).filter(|&p| weights[p] / least % 2 == 1).collect();
         if !odd.is_empty() {
             return (coordinates, weights, draw.of(&odd));

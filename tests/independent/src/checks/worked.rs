@@ -2,7 +2,9 @@
 //! by hand.
 
 use super::writes::{library_rewrites, library_writes};
+use crate::inputs;
 use crate::model;
+use crate::model::estimates::OLD_UNIT;
 use crate::report::Report;
 use numolefays::{boundary, component_coefficients, read_house_file, Refusal, Shape, State};
 
@@ -55,28 +57,50 @@ pub fn worked(report: &mut Report) {
         paper("component", coefficients.to_vec(), separate, if done.is_ok() { there } else { vec![] });
     }
 
-    // document 01's, the fifth as document 02 has it, and document 02's own; then 1.5, 2.5, 0.5 and a little less
-    let readings: [(u32, &[i64], u32, i64); 15] = [
-        (1, &[6, 7, 11], 16_384, 10),
-        (1, &[6, 7, 11], 8_192, 5),
+    // document 01's, the fifth as document 02 has it, and document 02's own, all as request e has them; then 1.5, 2.5,
+    // 0.5 and a little less
+    let readings: [(u32, &[i64], u32, i64); 17] = [
+        (1, &[6, 7, 11], 262_144, 10),
+        (1, &[6, 7, 11], 131_072, 5),
         (1, &[6, 7, 11], 0, 0),
         (1, &[6, 7, 11], 1, 0),
         (1, &[-6, -7, -11], 1, 0),
-        (0, &[1], 16_384, 1),
-        (0, &[-1], 16_384, -1),
-        (0, &[3], 16_384, 2),
-        (0, &[-3], 16_384, -2),
-        (0, &[5], 49_152, 3),
-        (0, &[-5], 49_152, -3),
-        (0, &[16_384], 1, 1),
-        (0, &[-16_384], 65_535, -1),
-        (0, &[16_383], 65_535, 0),
-        (0, &[-16_383], 1, 0),
+        (1, &[6, 7, 11], 1_048_576, 0),
+        (1, &[-6, -7, -11], 1_048_576, 0),
+        (0, &[1], 262_144, 1),
+        (0, &[-1], 262_144, -1),
+        (0, &[3], 262_144, 2),
+        (0, &[-3], 262_144, -2),
+        (0, &[5], 786_432, 3),
+        (0, &[-5], 786_432, -3),
+        (0, &[262_144], 1, 1),
+        (0, &[-262_144], 1_048_575, -1),
+        (0, &[262_143], 1_048_575, 0),
+        (0, &[-262_143], 1, 0),
     ];
     for (level, table, x, want) in readings {
         let separate = model::estimates::estimate(1, level, 1, table, &[x]).unwrap_or(i64::MIN);
         let library = State::saved(Shape::new(1, level), 1).estimate(table, &[x]).unwrap_or(i64::MIN);
         paper("estimate", vec![want], vec![separate], vec![library]);
+    }
+
+    // two and three axes where old coordinates times 16 do not give the old estimate, before e and since. The old weights
+    // of the first are 11,800 and 26,000: 7 × 4,681 / 65,536 is a little less than a half, and 7 × 74,902 / 1,048,576 a
+    // little more. Those of the other are 10,000, 16,000 and 40,000: 22 × 1,489 / 65,536 and 22 × 23,841 / 1,048,576
+    let differing: [(u32, i64, &[u32], i64, i64); 4] = [
+        (2, 7, &[5_900, 13_000], 0, 1),
+        (2, -7, &[5_900, 13_000], 0, -1),
+        (3, 22, &[5_000, 8_000, 20_000], 0, 1),
+        (3, -22, &[5_000, 8_000, 20_000], 0, -1),
+    ];
+    for (axes, coefficient, old_at, old, new) in differing {
+        let (all, at) = (inputs::all_bits(axes), old_at.iter().map(|x| 16 * x).collect::<Vec<u32>>());
+        let estimate_in = |unit, at| model::estimates::estimate_in(unit, axes, 0, all, &[coefficient], at);
+        let before = estimate_in(OLD_UNIT, old_at).unwrap_or(i64::MIN);
+        let separate = model::estimates::estimate(axes, 0, all, &[coefficient], &at).unwrap_or(i64::MIN);
+        let library = State::saved(Shape::new(axes, 0), all).estimate(&[coefficient], &at).unwrap_or(i64::MIN);
+        assert_eq!(before, old, "the separate code in the old unit, at {old_at:?} with coefficient {coefficient}");
+        paper("estimate", vec![new], vec![separate], vec![library]);
     }
 
     // the ends of what passes, as refusal numbers, 0 for none
@@ -90,7 +114,7 @@ pub fn worked(report: &mut Report) {
             vec![library(Shape::new(axes, level).points())],
         );
     }
-    for (x, want) in [(65_536, 0), (65_537, 8)] {
+    for (x, want) in [(65_536, 0), (65_537, 0), (1_048_576, 0), (1_048_577, 8), (u32::MAX, 8)] {
         let l = State::saved(Shape::new(1, 0), 1).estimate(&[4], &[x]).map(|_| 0);
         let s = model::estimates::estimate(1, 0, 1, &[4], &[x]).map(|_| 0);
         paper("estimate", vec![want], vec![separate(s)], vec![library(l)]);

@@ -1,12 +1,28 @@
 //! Estimates: the sum over all points, to the nearest unit.
 
-use super::grid::{grid, At};
+use super::grid::{grid, level_and_index, At};
 use super::{bits as check_bits, is_forward, places, shape, within, Refused};
 use std::cmp::Reverse;
 
-pub const UNIT: i128 = 65_536;
+/// What a coordinate runs to, and what an axis weight and a joint weight count in: change request e.
+pub const UNIT: i128 = 1_048_576;
+
+/// The same before change request e.
+pub const OLD_UNIT: i128 = 65_536;
 
 pub fn estimate(axes: u32, level: u32, bits: u8, table: &[i64], coordinates: &[u32]) -> Result<i64, Refused> {
+    estimate_in(UNIT, axes, level, bits, table, coordinates)
+}
+
+/// The estimate with coordinates and weights in this unit.
+pub fn estimate_in(
+    unit: i128,
+    axes: u32,
+    level: u32,
+    bits: u8,
+    table: &[i64],
+    coordinates: &[u32],
+) -> Result<i64, Refused> {
     shape(axes, level)?;
     check_bits(axes, bits)?;
     places(axes, level, table.len())?;
@@ -19,15 +35,15 @@ pub fn estimate(axes: u32, level: u32, bits: u8, table: &[i64], coordinates: &[u
         return Err((7, 0));
     }
     for (t, &x) in coordinates.iter().enumerate() {
-        if x > 65_536 {
+        if i128::from(x) > unit {
             return Err((8, t as u64 + 1));
         }
     }
     if !table.iter().all(|&v| within(i128::from(v))) {
         return Err((10, 0));
     }
-    let sum = sum(table, &joint_weights(axes, level, coordinates, down));
-    Ok(i64::try_from(nearest(sum)).expect("an estimate fits 64 bits"))
+    let sum = sum(table, &joint_weights(unit, axes, level, coordinates));
+    Ok(i64::try_from(nearest(unit, sum)).expect("an estimate fits 64 bits"))
 }
 
 /// The sum over all points of coefficient × joint weight.
@@ -35,37 +51,54 @@ pub fn sum(table: &[i64], joint_weights: &[i128]) -> i128 {
     table.iter().zip(joint_weights).map(|(&c, joint)| i128::from(c) * joint).sum()
 }
 
-/// The whole number nearest to sum / 65,536, and of two as near the one further from zero: found among three by
-/// their distances, in 65,536ths.
-fn nearest(sum: i128) -> i128 {
-    let about = sum / UNIT;
+/// The whole number nearest to sum / unit, and of two as near the one further from zero: found among three by
+/// their distances.
+fn nearest(unit: i128, sum: i128) -> i128 {
+    let about = sum / unit;
     (about - 1..=about + 1)
-        .min_by_key(|whole| ((whole * UNIT - sum).abs(), Reverse(whole.abs())))
+        .min_by_key(|whole| ((whole * unit - sum).abs(), Reverse(whole.abs())))
         .expect("three numbers")
 }
 
-/// How document 01 divides the product of a joint weight and an axis weight.
-pub fn down(product: i128) -> i128 {
-    product.div_euclid(UNIT)
-}
-
-/// The joint weights of all points, each product divided in this way.
-pub fn joint_weights(axes: u32, level: u32, coordinates: &[u32], divided: impl Fn(i128) -> i128) -> Vec<i128> {
-    // the weight of each hat, by axis and coordinate in 512ths, is looked up and not found again for each point;
-    // the points of the shape are at multiples of the step
-    let step = 512 / 2u16.pow(level + 1);
-    let hat = |x, c| if c % step == 0 { weight(x, c) } else { 0 };
-    let hats: Vec<Vec<i128>> = coordinates.iter().map(|&x| (0..512).map(|c| hat(x, c)).collect()).collect();
-    let joint = |at: &At| (0..axes as usize).fold(UNIT, |joint, t| divided(joint * hats[t][at[t] as usize]));
+/// The joint weights of all points.
+pub fn joint_weights(unit: i128, axes: u32, level: u32, coordinates: &[u32]) -> Vec<i128> {
+    let weights = AxisWeights::new(unit, level, coordinates);
+    let joint = |at: &At| (0..axes as usize).fold(unit, |joint, t| (joint * weights.of(at, t)).div_euclid(unit));
     grid(axes, level).order.iter().map(joint).collect()
 }
 
-/// 65,536 − |X × 2^(l+1) − i × 65,536|, or 0 where that is negative.
-fn weight(x: u32, coordinate: u16) -> i128 {
+/// For each axis the weight of every multiple of a step, by the multiple: it is looked up and not found again for each
+/// point. The points of the level are at such multiples.
+pub struct AxisWeights {
+    step: u16,
+    all: Vec<Vec<i128>>,
+}
+
+impl AxisWeights {
+    pub fn new(unit: i128, level: u32, coordinates: &[u32]) -> AxisWeights {
+        let step = 512 / 2u16.pow(level + 1);
+        let of_axis = |&x: &u32| (0..512).step_by(step.into()).map(|c| weight(unit, x, c)).collect();
+        AxisWeights { step, all: coordinates.iter().map(of_axis).collect() }
+    }
+
+    /// The weight of a point on axis t, from 0.
+    pub fn of(&self, at: &At, t: usize) -> i128 {
+        self.all[t][usize::from(at[t] / self.step)]
+    }
+
+    /// Each weight changed.
+    pub fn each(&self, change: impl Fn(i128) -> i128) -> AxisWeights {
+        let of_axis = |weights: &Vec<i128>| weights.iter().map(|&w| change(w)).collect();
+        AxisWeights { step: self.step, all: self.all.iter().map(of_axis).collect() }
+    }
+}
+
+/// Unit − |X × 2^(l+1) − i × unit|, or 0 where that is negative.
+fn weight(unit: i128, x: u32, coordinate: u16) -> i128 {
     if coordinate == 0 {
         return 0;
     }
-    let (l, i) = super::grid::level_and_index(coordinate);
-    let apart = (i128::from(x) * 2i128.pow(l + 1) - i128::from(i) * UNIT).abs();
-    (UNIT - apart).max(0)
+    let (l, i) = level_and_index(coordinate);
+    let apart = (i128::from(x) * 2i128.pow(l + 1) - i128::from(i) * unit).abs();
+    (unit - apart).max(0)
 }
