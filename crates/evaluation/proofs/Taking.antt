@@ -3,7 +3,7 @@
 -- cell is below 2^level, and no product overflows, since weights and joint weights are at most the unit.
 -- Assumes nothing.
 use mathlib.Core.List.{List}
-use mathlib.Core.Path.{◌≡◌, ap, ap₂, sym, ◌∙◌}
+use mathlib.Core.Path.{◌≡◌, refl, ap, ap₂, sym, ◌∙◌}
 use Prim.Native.Nat.{ℕ, zero, suc, ◌+◌, ◌*◌, ◌/◌, ◌%◌, ◌^◌, ◌≤◌, ◌<◌}
 use native.Mathlib.Nat.{mul_comm, mul-le-mul}
 use native.Mathlib.Numerals.{add-one}
@@ -98,14 +98,14 @@ module _ {d : ℕ} {ws cells : List ℕ} {l : ℕ → ℕ} {t position joint sum
       let small : joint ≤ unit = omega (arith, joint-small bounded l few t state.axis) in
       omega (arith, mul-le-mul small (weight-le bounded l few t h), ap₂ (λ (a b : ℕ). a * b) unit-is unit-is)
 
+  -- One axis more.
   pub taken-steps :
-      Taken ws cells l d (t + 1) (position + at cells (entry t (l t)) * 2 ^ sum % 2 ^ 64) (joint * at ws (entry t (l t)) / 2 ^ unitBits) (sum + l t)
+      Taken ws cells l d (t + 1) (position + at cells (entry t (l t)) * 2 ^ sum % 2 ^ 64) (joint * at ws (entry t (l t)) / unit) (sum + l t)
   unfolding read
   taken-steps =
       record {
         axis = omega arith;
         total = rw add-one (omega (arith, sumTo-suc l t));
         packed = rw add-one turned;
-        weighed =
-            rw (add-one, joint-suc unit (read ws l) t, ← state.weighed) (ap (λ (u : ℕ). joint * at ws (entry t (l t)) / u) (sym unit-is));
+        weighed = rw (add-one, joint-suc unit (read ws l) t, ← state.weighed) refl;
       }

@@ -1,6 +1,10 @@
-use Prim.Native.Nat.{◌+◌, ◌≤◌}
+use mathlib.Core.Path.{◌≡◌, ap, sym, ◌∙◌}
+use Prim.Native.Nat.{ℕ, ◌+◌, ◌*◌, ◌/◌, ◌^◌, ◌≤◌}
 use native.Mathlib.Omega.{arith}
 use Rattle.numbering.specs.Point.{at}
+use Rattle.surfaces.specs.Weights.{unit}
+use Rattle.surfaces.proofs.Unit.{unitBits, unit-is}
+use Rattle.evaluation.specs.Steps.{entry}
 use Rattle.evaluation.proofs.Taking.{taken-starts, level-small, sum_fits, position-fits, joint-fits, taken-steps}
 use Rattle.evaluation.proofs.taken.Goals.{In-loop-t}
 use Rattle.evaluation.proofs.taken.Goals as goal
@@ -33,5 +37,13 @@ overflow_mul-joint c = omega (arith, joint-fits c.requires.0 c.requires.1 c.loop
 pub overflow_add-sum : goal.overflow_add-sum
 overflow_add-sum c = omega (arith, few (goal.at.overflow_add-sum c).In-loop-t)
 
+-- the shift of a product is its division by the unit
+shifted : (product : ℕ) → product / 2 ^ unitBits ≡ product / unit
+shifted product = ap (λ (u : ℕ). product / u) (sym unit-is)
+
 pub loop-t-preserved : goal.loop-t-preserved
-loop-t-preserved c = taken-steps c.requires.0 c.requires.1 c.loop-t.invariant c.loop-t-test.true
+loop-t-preserved c =
+    let next = taken-steps c.requires.0 c.requires.1 c.loop-t.invariant c.loop-t-test.true in
+    let l = c.loop-t in
+    let weight = at c.args.weights.now (entry l.t (at c.args.levels l.t)) in
+    record { axis = next.axis; total = next.total; packed = next.packed; weighed = shifted (l.joint * weight) ∙ next.weighed }
