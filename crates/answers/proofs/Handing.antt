@@ -10,12 +10,12 @@ use Rattle.states.specs.declared.Answer.{Answer}
 use Rattle.states.specs.After.{After, after, Left, left}
 use Rattle.runs.specs.Calls.{Report, report}
 use Rattle.house_writer.specs.declared.Filed.{Filed}
-use Rattle.house_writer.specs.Writing.{AfterWriting, afterWriting}
-use Rattle.answers.specs.Returned.{Told, told, toldOf, Returned, leaving, returned}
-use Rattle.answers.specs.Answers.{sideOf, ofAnswer, ofAfter, ofLeft, ofReport, ofFiled, ofWriting}
+use Rattle.house_writer.specs.Writing.{AfterWriting, after_writing}
+use Rattle.answers.specs.Returned.{Told, told, told_of, Returned, leaving, returned}
+use Rattle.answers.specs.Answers.{side_of, of_answer, of_after, of_left, of_report, of_filed, of_writing}
 
 -- A number other than 0 names the right side.
-pub right : (s : ℕ) → (s ≡ 0 → ⊥) → Right ≡ sideOf s
+pub right : (s : ℕ) → (s ≡ 0 → ⊥) → Right ≡ side_of s
 right zero ne = absurd (ne refl)
 right (suc s) ne = refl
 
@@ -25,20 +25,20 @@ module _ {n p : ℕ} where
   beside outputs e = ap (λ (t : Told). leaving t outputs) e
 
   -- A verdict and a table.
-  pub telling : {v : Verdict} {xs : List ℤ} {l : Left} → told n p ≡ toldOf v → left v xs ≡ l → returned n p xs ≡ ofLeft l
-  telling {v} {xs} {l} e h = ap (λ (t : Told). leaving t xs) e ∙ ap ofLeft h
+  pub telling : {v : Verdict} {xs : List ℤ} {l : Left} → told n p ≡ told_of v → left v xs ≡ l → returned n p xs ≡ of_left l
+  telling {v} {xs} {l} e h = ap (λ (t : Told). leaving t xs) e ∙ ap of_left h
 
   -- A state and a table.
-  pub handing : (held : ℕ) {f : ℕ} {a : Answer} {xs : List ℤ} {l : After} → returned n p f ≡ ofAnswer held a → after a xs ≡ l → returned n p (f, xs) ≡ ofAfter held l
-  handing held {f} {a} {xs} {l} e h = ap (λ (x : Returned ℕ). leaving x.told (x.outputs, xs)) e ∙ ap (ofAfter held) h
+  pub handing : (held : ℕ) {f : ℕ} {a : Answer} {xs : List ℤ} {l : After} → returned n p f ≡ of_answer held a → after a xs ≡ l → returned n p (f, xs) ≡ of_after held l
+  handing held {f} {a} {xs} {l} e h = ap (λ (x : Returned ℕ). leaving x.told (x.outputs, xs)) e ∙ ap (of_after held) h
 
   -- A state, a table, and the two lists of answers.
-  pub reporting : (held : ℕ) {f : ℕ} {a : Answer} {xs : List ℤ} {ns ps : List ℕ} {l : Report} → returned n p f ≡ ofAnswer held a → report a xs ns ps ≡ l →
-      returned n p (f, xs, ns, ps) ≡ ofReport held l
+  pub reporting : (held : ℕ) {f : ℕ} {a : Answer} {xs : List ℤ} {ns ps : List ℕ} {l : Report} → returned n p f ≡ of_answer held a → report a xs ns ps ≡ l →
+      returned n p (f, xs, ns, ps) ≡ of_report held l
   reporting held {f} {a} {xs} {ns} {ps} {l} e h =
-      ap (λ (x : Returned ℕ). leaving x.told (x.outputs, xs, ns, ps)) e ∙ ap (ofReport held) h
+      ap (λ (x : Returned ℕ). leaving x.told (x.outputs, xs, ns, ps)) e ∙ ap (of_report held) h
 
   -- A length and an output buffer.
-  pub filing : (held : ℕ) {f : ℕ} {a : Filed} {out : List ℕ} {l : AfterWriting} → returned n p f ≡ ofFiled held a → afterWriting a out ≡ l →
-      returned n p (f, out) ≡ ofWriting held l
-  filing held {f} {a} {out} {l} e h = ap (λ (x : Returned ℕ). leaving x.told (x.outputs, out)) e ∙ ap (ofWriting held) h
+  pub filing : (held : ℕ) {f : ℕ} {a : Filed} {out : List ℕ} {l : AfterWriting} → returned n p f ≡ of_filed held a → after_writing a out ≡ l →
+      returned n p (f, out) ≡ of_writing held l
+  filing held {f} {a} {out} {l} e h = ap (λ (x : Returned ℕ). leaving x.told (x.outputs, out)) e ∙ ap (of_writing held) h

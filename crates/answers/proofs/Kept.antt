@@ -10,7 +10,7 @@ use Rattle.naturals.specs.Test.{all}
 use Rattle.refusals.specs.declared.Refusal.TheVariants as refusal
 use Rattle.refusals.specs.declared.Verdict.{Verdict}
 use Rattle.refusals.specs.declared.Verdict.TheVariants.{Passed, Refused}
-use Rattle.refusals.specs.Checks.{unless, ◌andThen◌, answer}
+use Rattle.refusals.specs.Checks.{unless, ◌and_then◌, answer}
 use Rattle.shapes.specs.declared.Shape.{Shape}
 use Rattle.shapes.specs.declared.Counted.{Counted}
 use Rattle.shapes.specs.declared.Counted.TheVariants as counted
@@ -23,26 +23,26 @@ use Rattle.numbers.specs.declared.Numbered.TheVariants as numbered
 use Rattle.states.specs.declared.State.{State}
 use Rattle.states.specs.declared.Answer.{Answer}
 use Rattle.states.specs.declared.Answer.TheVariants as answered
-use Rattle.states.specs.After.{After, after, kept, Left, leftBy}
-use Rattle.states.specs.States.{has, checkState}
-use Rattle.tables.specs.Tables.{checkTable, checkRated, load, scaledAt, checkSampled, unload}
-use Rattle.grids.specs.Turned.{formerTable}
-use Rattle.turns.specs.Turns.{isAccepted, checkTurn, forwardTurn, backTurn}
+use Rattle.states.specs.After.{After, after, kept, Left, left_by}
+use Rattle.states.specs.States.{has, check_state}
+use Rattle.tables.specs.Tables.{check_table, check_rated, load, scaled_at, check_sampled, unload}
+use Rattle.grids.specs.Turned.{former_table}
+use Rattle.turns.specs.Turns.{is_accepted, check_turn, forward_turn, back_turn}
 use Rattle.runs.specs.Runs.{Ran, run}
-use Rattle.runs.specs.Calls.{Report, callsOf, reportOf, unrun, checkLengths, runCalls}
-use Rattle.whole.specs.Whole.{ratesToCoefficients, hasRates, coefficientsToRates}
-use Rattle.components.specs.Components.{checkComponent, componentCoefficients}
+use Rattle.runs.specs.Calls.{Report, calls_of, report_of, unrun, check_lengths, run_calls}
+use Rattle.whole.specs.Whole.{rates_to_coefficients, has_rates, coefficients_to_rates}
+use Rattle.components.specs.Components.{check_component, component_coefficients}
 use Rattle.estimates.specs.declared.Estimated.{Estimated}
 use Rattle.estimates.specs.declared.Estimated.TheVariants as estimated
 use Rattle.house_file.specs.declared.Opened.{Opened}
 use Rattle.house_file.specs.declared.Opened.TheVariants as opened
 use Rattle.house_numbers.specs.Reading.{Read, got, refused}
-use Rattle.house_file.specs.Files.{Contents, filledWith, readContents, readFile}
-use Rattle.house_file.specs.Written.{writtenFile}
-use Rattle.house_writer.specs.Writing.{keptOut, checkRoom, filledOut, putFile, writeFile}
-use Rattle.house_writer.specs.Rewriting.{formOf, writtenAgain, rewriteFile}
+use Rattle.house_file.specs.Files.{Contents, filled_with, read_contents, read_file}
+use Rattle.house_file.specs.Written.{written_file}
+use Rattle.house_writer.specs.Writing.{kept_out, check_room, filled_out, put_file, write_file}
+use Rattle.house_writer.specs.Rewriting.{form_of, written_again, rewrite_file}
 use Rattle.answers.specs.Returned.{Returned}
-use Rattle.answers.specs.Answers.{ofCounted, ofNumbered, ofLocatedIn, ofLocated, ofPoint, ofAnswer, ofAfter, ofLeft, ofReport, ofEstimated, ofReading, ofNamed, ofWriting}
+use Rattle.answers.specs.Answers.{of_counted, of_numbered, of_located_in, of_located, of_point, of_answer, of_after, of_left, of_report, of_estimated, of_reading, of_named, of_writing}
 
 -- The function answered a number other than 0, and the outputs are these.
 abbrev pub Keeps : {A : Type 0} → A → Returned A → Type 0
@@ -50,128 +50,128 @@ Keeps held r = (r.told.number ≡ 0 → ⊥) → r.outputs ≡ held
 
 -- ---- where the outputs follow the answer alone
 
-pub count-keeps : (held : ℕ) (a : Counted) → Keeps held (ofCounted held a)
-count-keeps held (counted.Points n) e = absurd (e refl)
-count-keeps held (counted.Refused r) e = refl
+pub count_keeps : (held : ℕ) (a : Counted) → Keeps held (of_counted held a)
+count_keeps held (counted.Points n) e = absurd (e refl)
+count_keeps held (counted.Refused r) e = refl
 
-pub number-of-point-keeps : (held : ℕ) (a : Numbered) → Keeps held (ofNumbered held a)
-number-of-point-keeps held (numbered.At n) e = absurd (e refl)
-number-of-point-keeps held (numbered.Refused r) e = refl
+pub number_of_point_keeps : (held : ℕ) (a : Numbered) → Keeps held (of_numbered held a)
+number_of_point_keeps held (numbered.At n) e = absurd (e refl)
+number_of_point_keeps held (numbered.Refused r) e = refl
 
-pub adopt-keeps : (held : ℕ) (a : Answer) → Keeps held (ofAnswer held a)
-adopt-keeps held (answered.Done s) e = absurd (e refl)
-adopt-keeps held (answered.Refused r) e = refl
+pub adopt_keeps : (held : ℕ) (a : Answer) → Keeps held (of_answer held a)
+adopt_keeps held (answered.Done s) e = absurd (e refl)
+adopt_keeps held (answered.Refused r) e = refl
 
-pub estimate-keeps : (held : ℤ) (a : Estimated) → Keeps held (ofEstimated held a)
-estimate-keeps held (estimated.Value z) e = absurd (e refl)
-estimate-keeps held (estimated.Refused r) e = refl
+pub estimate_keeps : (held : ℤ) (a : Estimated) → Keeps held (of_estimated held a)
+estimate_keeps held (estimated.Value z) e = absurd (e refl)
+estimate_keeps held (estimated.Refused r) e = refl
 
-outcome-keeps : (held : List ℕ × List ℕ × ℕ) (o : Outcome) (p : Point) → Keeps held (ofLocatedIn held o p)
-outcome-keeps held outcome.Found p e = absurd (e refl)
-outcome-keeps held outcome.End p e = absurd (e refl)
-outcome-keeps held outcome.Border p e = absurd (e refl)
-outcome-keeps held (outcome.Refused r) p e = refl
+outcome_keeps : (held : List ℕ × List ℕ × ℕ) (o : Outcome) (p : Point) → Keeps held (of_located_in held o p)
+outcome_keeps held outcome.Found p e = absurd (e refl)
+outcome_keeps held outcome.End p e = absurd (e refl)
+outcome_keeps held outcome.Border p e = absurd (e refl)
+outcome_keeps held (outcome.Refused r) p e = refl
 
 -- The successor and the parent.
-pub located-keeps : (held : List ℕ × List ℕ × ℕ) (l : Located) → Keeps held (ofLocated held l)
-located-keeps held l = outcome-keeps held l.outcome l.point
+pub located_keeps : (held : List ℕ × List ℕ × ℕ) (l : Located) → Keeps held (of_located held l)
+located_keeps held l = outcome_keeps held l.outcome l.point
 
-pub point-of-number-keeps : (held : List ℕ × List ℕ) (l : Located) → Keeps held (ofPoint held l)
-point-of-number-keeps held l e = ap (λ (x : List ℕ × List ℕ × ℕ). (x.0, x.1)) (located-keeps (held.0, held.1, 0) l e)
+pub point_of_number_keeps : (held : List ℕ × List ℕ) (l : Located) → Keeps held (of_point held l)
+point_of_number_keeps held l e = ap (λ (x : List ℕ × List ℕ × ℕ). (x.0, x.1)) (located_keeps (held.0, held.1, 0) l e)
 
 -- ---- where the call works in a table
 
 module _ (held : ℕ) (xs : List ℤ) where
-  after-keeps : (l : After) (v : Verdict) (s : State) (ys : List ℤ) → l ≡ answer (kept xs) v (after (answered.Done s) ys) → Keeps (held, xs) (ofAfter held l)
-  after-keeps l Passed s ys h = rw h (λ e. absurd (e refl))
-  after-keeps l (Refused r) s ys h = rw h (λ e. refl)
+  after_keeps : (l : After) (v : Verdict) (s : State) (ys : List ℤ) → l ≡ answer (kept xs) v (after (answered.Done s) ys) → Keeps (held, xs) (of_after held l)
+  after_keeps l Passed s ys h = rw h (λ e. absurd (e refl))
+  after_keeps l (Refused r) s ys h = rw h (λ e. refl)
 
-  report-keeps : (l : Report) (v : Verdict) (r : Ran) (ns ps : List ℕ) → l ≡ answer (unrun xs ns ps) v (reportOf r) → Keeps (held, xs, ns, ps) (ofReport held l)
-  report-keeps l Passed r ns ps h = rw h (λ e. absurd (e refl))
-  report-keeps l (Refused why) r ns ps h = rw h (λ e. refl)
+  report_keeps : (l : Report) (v : Verdict) (r : Ran) (ns ps : List ℕ) → l ≡ answer (unrun xs ns ps) v (report_of r) → Keeps (held, xs, ns, ps) (of_report held l)
+  report_keeps l Passed r ns ps h = rw h (λ e. absurd (e refl))
+  report_keeps l (Refused why) r ns ps h = rw h (λ e. refl)
 
-  pub load-keeps : (s : Shape) → Keeps (held, xs) (ofAfter held (load s xs))
+  pub load_keeps : (s : Shape) → Keeps (held, xs) (of_after held (load s xs))
   unfolding load
-  load-keeps s = after-keeps (load s xs) (checkRated s xs) _ _ refl
+  load_keeps s = after_keeps (load s xs) (check_rated s xs) _ _ refl
 
-table-keeps : (xs : List ℤ) (l : Left) (v : Verdict) (ys : List ℤ) → l ≡ leftBy xs v ys → Keeps xs (ofLeft l)
-table-keeps xs l Passed ys h = rw h (λ e. absurd (e refl))
-table-keeps xs l (Refused r) ys h = rw h (λ e. refl)
+table_keeps : (xs : List ℤ) (l : Left) (v : Verdict) (ys : List ℤ) → l ≡ left_by xs v ys → Keeps xs (of_left l)
+table_keeps xs l Passed ys h = rw h (λ e. absurd (e refl))
+table_keeps xs l (Refused r) ys h = rw h (λ e. refl)
 
 module _ (s : Shape) (xs : List ℤ) where
-  pub rates-to-coefficients-keeps : Keeps xs (ofLeft (ratesToCoefficients s xs))
-  unfolding ratesToCoefficients
-  rates-to-coefficients-keeps = table-keeps xs (ratesToCoefficients s xs) (checkRated s xs) _ refl
+  pub rates_to_coefficients_keeps : Keeps xs (of_left (rates_to_coefficients s xs))
+  unfolding rates_to_coefficients
+  rates_to_coefficients_keeps = table_keeps xs (rates_to_coefficients s xs) (check_rated s xs) _ refl
 
-  pub coefficients-to-rates-keeps : Keeps xs (ofLeft (coefficientsToRates s xs))
-  unfolding coefficientsToRates
-  coefficients-to-rates-keeps = table-keeps xs (coefficientsToRates s xs) (checkTable s xs andThen unless (hasRates s xs) refusal.Contents) _ refl
+  pub coefficients_to_rates_keeps : Keeps xs (of_left (coefficients_to_rates s xs))
+  unfolding coefficients_to_rates
+  coefficients_to_rates_keeps = table_keeps xs (coefficients_to_rates s xs) (check_table s xs and_then unless (has_rates s xs) refusal.Contents) _ refl
 
-pub component-coefficients-keeps : (ls : List ℕ) (xs : List ℤ) → Keeps xs (ofLeft (componentCoefficients ls xs))
-unfolding componentCoefficients
-component-coefficients-keeps ls xs = table-keeps xs (componentCoefficients ls xs) (checkComponent ls xs) _ refl
+pub component_coefficients_keeps : (ls : List ℕ) (xs : List ℤ) → Keeps xs (of_left (component_coefficients ls xs))
+unfolding component_coefficients
+component_coefficients_keeps ls xs = table_keeps xs (component_coefficients ls xs) (check_component ls xs) _ refl
 
 module _ (s : State) (xs : List ℤ) where
-  pub forward-keeps : (axis : ℕ) → Keeps (s.forward, xs) (ofAfter s.forward (forwardTurn s xs axis))
-  unfolding forwardTurn
-  forward-keeps axis = after-keeps s.forward xs (forwardTurn s xs axis)
-      (checkTurn s (length xs) axis
-      andThen unless (not (has s.forward (axis - 1))) (refusal.AlreadyForward axis)
-      andThen unless (isAccepted s.shape (axis - 1) xs) refusal.Contents) _ _ refl
+  pub forward_keeps : (axis : ℕ) → Keeps (s.forward, xs) (of_after s.forward (forward_turn s xs axis))
+  unfolding forward_turn
+  forward_keeps axis = after_keeps s.forward xs (forward_turn s xs axis)
+      (check_turn s (length xs) axis
+      and_then unless (not (has s.forward (axis - 1))) (refusal.AlreadyForward axis)
+      and_then unless (is_accepted s.shape (axis - 1) xs) refusal.Contents) _ _ refl
 
-  pub back-keeps : (axis : ℕ) → Keeps (s.forward, xs) (ofAfter s.forward (backTurn s xs axis))
-  unfolding backTurn
-  back-keeps axis = after-keeps s.forward xs (backTurn s xs axis)
-      (checkTurn s (length xs) axis
-      andThen unless (has s.forward (axis - 1)) (refusal.NotForward axis)
-      andThen unless (isAccepted s.shape (axis - 1) (formerTable s.shape (axis - 1) xs)) refusal.Contents) _ _ refl
+  pub back_keeps : (axis : ℕ) → Keeps (s.forward, xs) (of_after s.forward (back_turn s xs axis))
+  unfolding back_turn
+  back_keeps axis = after_keeps s.forward xs (back_turn s xs axis)
+      (check_turn s (length xs) axis
+      and_then unless (has s.forward (axis - 1)) (refusal.NotForward axis)
+      and_then unless (is_accepted s.shape (axis - 1) (former_table s.shape (axis - 1) xs)) refusal.Contents) _ _ refl
 
-  pub run-keeps : (directions axes ns ps : List ℕ) → Keeps (s.forward, xs, ns, ps) (ofReport s.forward (runCalls s xs directions axes ns ps))
-  unfolding runCalls
-  run-keeps directions axes ns ps =
-      report-keeps s.forward xs (runCalls s xs directions axes ns ps)
-      (checkState s (length xs) andThen checkLengths directions axes ns ps)
-      (run (callsOf directions axes) s xs) ns ps refl
+  pub run_keeps : (directions axes ns ps : List ℕ) → Keeps (s.forward, xs, ns, ps) (of_report s.forward (run_calls s xs directions axes ns ps))
+  unfolding run_calls
+  run_keeps directions axes ns ps =
+      report_keeps s.forward xs (run_calls s xs directions axes ns ps)
+      (check_state s (length xs) and_then check_lengths directions axes ns ps)
+      (run (calls_of directions axes) s xs) ns ps refl
 
-  pub unload-keeps : Keeps xs (ofLeft (unload s xs))
+  pub unload_keeps : Keeps xs (of_left (unload s xs))
   unfolding unload
-  unload-keeps = table-keeps xs (unload s xs)
-      (checkState s (length xs)
-      andThen checkSampled s
-      andThen unless (all (scaledAt s.shape.axes xs) (length xs)) refusal.Contents) _ refl
+  unload_keeps = table_keeps xs (unload s xs)
+      (check_state s (length xs)
+      and_then check_sampled s
+      and_then unless (all (scaled_at s.shape.axes xs) (length xs)) refusal.Contents) _ refl
 
-filled_keeps : (axes level : ℕ) (xs : List ℤ) (contents : Read Contents) → Keeps (axes, level, xs) (ofReading (axes, level) (filledWith xs contents))
+filled_keeps : (axes level : ℕ) (xs : List ℤ) (contents : Read Contents) → Keeps (axes, level, xs) (of_reading (axes, level) (filled_with xs contents))
 filled_keeps axes level xs (got c rest) e = absurd (e refl)
 filled_keeps axes level xs (refused r) e = refl
 
-pub read-house-file-keeps : (axes level : ℕ) (bytes : List ℕ) (xs : List ℤ) → Keeps (axes, level, xs) (ofReading (axes, level) (readFile bytes xs))
-unfolding readFile
-read-house-file-keeps axes level bytes xs = filled_keeps axes level xs (readContents (length xs) bytes)
+pub read_house_file_keeps : (axes level : ℕ) (bytes : List ℕ) (xs : List ℤ) → Keeps (axes, level, xs) (of_reading (axes, level) (read_file bytes xs))
+unfolding read_file
+read_house_file_keeps axes level bytes xs = filled_keeps axes level xs (read_contents (length xs) bytes)
 
-pub house-file-shape-keeps : (held : ℕ × ℕ × ℕ) (a : Opened) → Keeps held (ofNamed held a)
-house-file-shape-keeps held (opened.Holds s) e = absurd (e refl)
-house-file-shape-keeps held (opened.Refused r) e = refl
+pub house_file_shape_keeps : (held : ℕ × ℕ × ℕ) (a : Opened) → Keeps held (of_named held a)
+house_file_shape_keeps held (opened.Holds s) e = absurd (e refl)
+house_file_shape_keeps held (opened.Refused r) e = refl
 
 -- ---- where the call writes into an output buffer
 
 module _ (held : ℕ) (out : List ℕ) where
-  room-keeps : (file : List ℕ) (v : Verdict) → Keeps (held, out) (ofWriting held (answer (keptOut out) v (filledOut file out)))
-  room-keeps file Passed e = absurd (e refl)
-  room-keeps file (Refused r) e = refl
+  room_keeps : (file : List ℕ) (v : Verdict) → Keeps (held, out) (of_writing held (answer (kept_out out) v (filled_out file out)))
+  room_keeps file Passed e = absurd (e refl)
+  room_keeps file (Refused r) e = refl
 
-  put_keeps : (file : List ℕ) → Keeps (held, out) (ofWriting held (putFile file out))
-  unfolding putFile
-  put_keeps file = room-keeps file (checkRoom file out)
+  put_keeps : (file : List ℕ) → Keeps (held, out) (of_writing held (put_file file out))
+  unfolding put_file
+  put_keeps file = room_keeps file (check_room file out)
 
-  pub write-house-file-keeps : (s : Shape) (rates : List ℤ) → Keeps (held, out) (ofWriting held (writeFile s rates out))
-  unfolding writeFile
-  write-house-file-keeps s rates =
-      let file = writtenFile s rates in room-keeps file (checkRated s rates andThen checkRoom file out)
+  pub write_house_file_keeps : (s : Shape) (rates : List ℤ) → Keeps (held, out) (of_writing held (write_file s rates out))
+  unfolding write_file
+  write_house_file_keeps s rates =
+      let file = written_file s rates in room_keeps file (check_rated s rates and_then check_room file out)
 
-  again-keeps : (contents : Read Contents) → Keeps (held, out) (ofWriting held (writtenAgain out contents))
-  again-keeps (got c rest) e = put_keeps (formOf c) e
-  again-keeps (refused r) e = refl
+  again_keeps : (contents : Read Contents) → Keeps (held, out) (of_writing held (written_again out contents))
+  again_keeps (got c rest) e = put_keeps (form_of c) e
+  again_keeps (refused r) e = refl
 
-  pub rewrite-house-file-keeps : (places : ℕ) (bytes : List ℕ) → Keeps (held, out) (ofWriting held (rewriteFile places bytes out))
-  unfolding rewriteFile
-  rewrite-house-file-keeps places bytes = again-keeps (readContents places bytes)
+  pub rewrite_house_file_keeps : (places : ℕ) (bytes : List ℕ) → Keeps (held, out) (of_writing held (rewrite_file places bytes out))
+  unfolding rewrite_file
+  rewrite_house_file_keeps places bytes = again_keeps (read_contents places bytes)

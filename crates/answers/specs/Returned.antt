@@ -4,7 +4,7 @@ use Rattle.std.specs.Prelude.{ℕ}
 use Rattle.refusals.specs.declared.Refusal.{Refusal}
 use Rattle.refusals.specs.declared.Verdict.{Verdict}
 use Rattle.refusals.specs.declared.Verdict.TheVariants.{Passed, Refused}
-use Rattle.refusals.specs.Refusals.{numberOf, placeOf}
+use Rattle.refusals.specs.Refusals.{number_of, place_of}
 
 -- The two numbers that say how a call went.
 pub record Told : Type 0 where
@@ -19,11 +19,11 @@ abbrev pub success : Told
 success = told 0 0
 
 abbrev pub refusal : Refusal → Told
-refusal r = told (numberOf r) (placeOf r)
+refusal r = told (number_of r) (place_of r)
 
-abbrev pub toldOf : Verdict → Told
-toldOf Passed = success
-toldOf (Refused r) = refusal r
+abbrev pub told_of : Verdict → Told
+told_of Passed = success
+told_of (Refused r) = refusal r
 
 -- The two numbers with what the outputs and buffers hold.
 pub record Returned (A : Type 0) : Type 0 where

@@ -2,8 +2,8 @@
 #![tactic(auto)]
 
 ghost use Rattle.std.specs.Prelude.{◌≡◌};
-ghost use Rattle.answers.specs.Returned.{told, success, refusal, toldOf, returned};
-ghost use Rattle.answers.specs.Answers.{shapeOf, stateOf, sideOf, ofLocated, ofAnswer, ofFiled};
+ghost use Rattle.answers.specs.Returned.{told, success, refusal, told_of, returned};
+ghost use Rattle.answers.specs.Answers.{shape_of, state_of, side_of, of_located, of_answer, of_filed};
 
 use house_writer::Filed;
 use numbering::Side;
@@ -14,7 +14,7 @@ use states::{Answer, State};
 
 // A shape, from the two numbers that stand for it.
 pub fn shape_of(axes: u32, level: u32) -> Shape
-    ensures { result ≡ shapeOf axes level }
+    ensures { result ≡ shape_of axes level }
 {
     Shape {
         axes: axes,
@@ -24,7 +24,7 @@ pub fn shape_of(axes: u32, level: u32) -> Shape
 
 // A state, from a shape's two numbers and the set of forward axes.
 pub fn state_of(axes: u32, level: u32, forward: u8) -> State
-    ensures { result ≡ stateOf axes level forward }
+    ensures { result ≡ state_of axes level forward }
 {
     let shape = Shape {
         axes: axes,
@@ -38,7 +38,7 @@ pub fn state_of(axes: u32, level: u32, forward: u8) -> State
 
 // Side 0 is the left one, every other number the right one.
 pub fn side_of(side: u32) -> Side
-    ensures { result ≡ sideOf side }
+    ensures { result ≡ side_of side }
 {
     if side == 0 { Side::Left } else { Side::Right }
 }
@@ -61,7 +61,7 @@ pub fn refuse(r: Refusal, place: &mut u64) -> u32
 
 // A verdict has no output.
 pub fn tell(verdict: Verdict, place: &mut u64) -> u32
-    ensures { told result place.new ≡ toldOf verdict }
+    ensures { told result place.new ≡ told_of verdict }
 {
     match verdict {
         Verdict::Refused(r) => refuse(r, place),
@@ -77,7 +77,7 @@ pub fn hand_point(
     none: &mut u32,
     place: &mut u64,
 ) -> u32
-    ensures { returned result place.new (levels.new, indices.new, none.new) ≡ ofLocated (levels.old, indices.old, none.old) located }
+    ensures { returned result place.new (levels.new, indices.new, none.new) ≡ of_located (levels.old, indices.old, none.old) located }
 {
     let outcome = located.outcome;
     match outcome {
@@ -103,7 +103,7 @@ pub fn hand_point(
 
 // The output of an answered state is its set of forward axes: the caller holds the shape.
 pub fn hand_state(answer: Answer, forward: &mut u8, place: &mut u64) -> u32
-    ensures { returned result place.new forward.new ≡ ofAnswer forward.old answer }
+    ensures { returned result place.new forward.new ≡ of_answer forward.old answer }
 {
     match answer {
         Answer::Refused(r) => refuse(r, place),
@@ -116,7 +116,7 @@ pub fn hand_state(answer: Answer, forward: &mut u8, place: &mut u64) -> u32
 
 // The output of a written file is its length.
 pub fn hand_length(filed: Filed, length: &mut u64, place: &mut u64) -> u32
-    ensures { returned result place.new length.new ≡ ofFiled length.old filed }
+    ensures { returned result place.new length.new ≡ of_filed length.old filed }
 {
     match filed {
         Filed::Refused(r) => refuse(r, place),

@@ -7,40 +7,40 @@ use native.Mathlib.Numerals.{add-one}
 use native.Mathlib.Omega.{arith}
 use lib.Pow.{pow_pos, shl_exact}
 use borrow.Author.Tests.{lt-ltb, le-ltb}
-use Rattle.naturals.proofs.Cases.{le-or-lt}
+use Rattle.naturals.proofs.Cases.{le_or_lt}
 use Rattle.surfaces.specs.Weights.{unit}
-use Rattle.surfaces.proofs.Unit.{unitBits, unit-is}
-use Rattle.axis_weights.specs.Steps.{cellOf, indexOfCell}
+use Rattle.surfaces.proofs.Unit.{unit_bits, unit_is}
+use Rattle.axis_weights.specs.Steps.{cell_of, index_of_cell}
 
 module _ (x l : ℕ) (small : x ≤ unit) (low : l ≤ 8) where
-  pub here-shifted : x * 2 ^ (l + 1) % 2 ^ 64 ≡ x * 2 ^ suc l
-  here-shifted =
-      shl_exact {a = x} (suc unitBits) (l + 1) 64 (omega (arith, unit-is)) (omega arith) ∙ ap (λ (k : ℕ). x * 2 ^ k) (add-one l)
+  pub here_shifted : x * 2 ^ (l + 1) % 2 ^ 64 ≡ x * 2 ^ suc l
+  here_shifted =
+      shl_exact {a = x} (suc unit_bits) (l + 1) 64 (omega (arith, unit_is)) (omega arith) ∙ ap (λ (k : ℕ). x * 2 ^ k) (add-one l)
 
-  pub cell-shifted : x * 2 ^ l % 2 ^ 64 ≡ x * 2 ^ l
-  cell-shifted = shl_exact {a = x} (suc unitBits) l 64 (omega (arith, unit-is)) (omega arith)
+  pub cell_shifted : x * 2 ^ l % 2 ^ 64 ≡ x * 2 ^ l
+  cell_shifted = shl_exact {a = x} (suc unit_bits) l 64 (omega (arith, unit_is)) (omega arith)
 
-pub centre-shifted : (l i : ℕ) → l ≤ 8 → i < 2 ^ suc l → i * 2 ^ unitBits % 2 ^ 64 ≡ i * unit
-centre-shifted l i low below = shl_exact {a = i} (suc l) unitBits 64 below (omega arith) ∙ ap (λ (u : ℕ). i * u) (sym unit-is)
+pub centre_shifted : (l i : ℕ) → l ≤ 8 → i < 2 ^ suc l → i * 2 ^ unit_bits % 2 ^ 64 ≡ i * unit
+centre_shifted l i low below = shl_exact {a = i} (suc l) unit_bits 64 below (omega arith) ∙ ap (λ (u : ℕ). i * u) (sym unit_is)
 
 -- The cell is one of its level, and its index one of the level's.
 module _ (x l : ℕ) where
-  pub cell-inside : x < unit → cellOf x l ≡ x * 2 ^ l / unit
-  unfolding cellOf
-  cell-inside h = rw (lt-ltb x unit h)
+  pub cell_inside : x < unit → cell_of x l ≡ x * 2 ^ l / unit
+  unfolding cell_of
+  cell_inside h = rw (lt-ltb x unit h)
 
-  pub cell-border : unit ≤ x → cellOf x l ≡ 0
-  unfolding cellOf
-  cell-border h = rw (le-ltb x unit h)
+  pub cell_border : unit ≤ x → cell_of x l ≡ 0
+  unfolding cell_of
+  cell_border h = rw (le-ltb x unit h)
 
-  pub cell_below : cellOf x l < 2 ^ l
+  pub cell_below : cell_of x l < 2 ^ l
   cell_below =
-      le-or-lt unit x
-      (λ border. rw (cell-border border) (pow_pos l))
+      le_or_lt unit x
+      (λ border. rw (cell_border border) (pow_pos l))
       (λ inside.
-      rw (cell-inside inside)
-      ((div-lt_iff_lt-mul {k = unit} {x = x * 2 ^ l} {y = 2 ^ l} (omega (arith, unit-is))).1
+      rw (cell_inside inside)
+      ((div-lt_iff_lt-mul {k = unit} {x = x * 2 ^ l} {y = 2 ^ l} (omega (arith, unit_is))).1
       (omega (arith, mul-le-mul_right (2 ^ l) inside, suc-mul x (2 ^ l), pow_pos l, mul_comm unit (2 ^ l)))))
 
-  pub index_below : indexOfCell (cellOf x l) < 2 ^ suc l
+  pub index_below : index_of_cell (cell_of x l) < 2 ^ suc l
   index_below = omega (arith, cell_below, pow-suc 2 l)

@@ -2,14 +2,14 @@
 #![tactic(auto)]
 
 ghost use Rattle.std.specs.Prelude.{◌≡◌, suc, ◌^◌, ◌≤◌, ◌<◌};
-ghost use Rattle.surfaces.specs.Weights.{unit, isCoordinate, distance, weight};
-ghost use Rattle.axis_weights.specs.Steps.{cellOf};
+ghost use Rattle.surfaces.specs.Weights.{unit, is_coordinate, distance, weight};
+ghost use Rattle.axis_weights.specs.Steps.{cell_of};
 
 use surfaces::BITS;
 
 // A coordinate, from 0 to the unit.
 pub fn is_coordinate(x: u32) -> bool
-    ensures { result ≡ isCoordinate unit x }
+    ensures { result ≡ is_coordinate unit x }
 {
     x <= 1 << BITS
 }
@@ -39,7 +39,7 @@ pub fn weight(x: u64, level: u32, index: u64) -> u64
 // The cell of a level on one axis in which x lies, counted from 0: the point of index 2 × cell + 1 alone can have a weight above 0 at x.
 pub fn cell(x: u64, level: u32) -> u64
     requires { (x ≤ unit) × (level ≤ 8) }
-    ensures { result ≡ cellOf x level }
+    ensures { result ≡ cell_of x level }
 {
     if x < 1 << BITS {
         return (x << level) >> BITS;

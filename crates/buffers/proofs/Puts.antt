@@ -9,41 +9,41 @@ use lib.ListN.{length, take, drop, set, length-append}
 use lib.Seq.{sets, length-sets, sets-eq, take-append_seam}
 use Rattle.buffers.specs.Put.{Put}
 
-sets-append : (a b old : List ℕ) (i : ℕ) → sets old i (a ++ b) ≡ sets (sets old i a) (i + length a) b
-sets-append [] b old i = ap (λ (k : ℕ). sets old k b) (omega arith)
-sets-append (x ∷ a) b old i =
+sets_append : (a b old : List ℕ) (i : ℕ) → sets old i (a ++ b) ≡ sets (sets old i a) (i + length a) b
+sets_append [] b old i = ap (λ (k : ℕ). sets old k b) (omega arith)
+sets_append (x ∷ a) b old i =
     let e : suc i + length a ≡ i + suc (length a) = omega arith in
-    sets-append a b (set old i x) (suc i) ∙ ap (λ (k : ℕ). sets (sets (set old i x) (suc i) a) k b) e
+    sets_append a b (set old i x) (suc i) ∙ ap (λ (k : ℕ). sets (sets (set old i x) (suc i) a) k b) e
 
 -- One piece after another.
 pub put_then : {a b old mid new : List ℕ} {i m r : ℕ} → Put a old i mid m → Put b mid m new r → Put (a ++ b) old i new r
 put_then {a} {b} {old} {mid} {new} {i} {m} {r} p q =
     record {
       after = omega (arith, p.after, q.after, length-append a b);
-      holds = q.holds ∙ ap (λ (l : List ℕ). sets l m b) p.holds ∙ ap (λ (k : ℕ). sets (sets old i a) k b) p.after ∙ sym (sets-append a b old i);
+      holds = q.holds ∙ ap (λ (l : List ℕ). sets l m b) p.holds ∙ ap (λ (k : ℕ). sets (sets old i a) k b) p.after ∙ sym (sets_append a b old i);
     }
 
 -- Nothing put.
-pub put-nothing : (old : List ℕ) (i : ℕ) → Put [] old i old i
-put-nothing old i = record { after = omega arith; holds = refl }
+pub put_nothing : (old : List ℕ) (i : ℕ) → Put [] old i old i
+put_nothing old i = record { after = omega arith; holds = refl }
 
 -- One byte stored.
 pub put_one : (old : List ℕ) (i x : ℕ) → Put (x ∷ []) old i (set old i x) (i + 1)
 put_one old i x = record { after = omega arith; holds = refl }
 
 -- The buffer keeps its length.
-pub put-length : {a old new : List ℕ} {i r : ℕ} → Put a old i new r → length new ≡ length old
-put-length {a} {old} {new} {i} p = ap length p.holds ∙ length-sets old i a
+pub put_length : {a old new : List ℕ} {i r : ℕ} → Put a old i new r → length new ≡ length old
+put_length {a} {old} {new} {i} p = ap length p.holds ∙ length-sets old i a
 
 -- The piece by another name.
 pub put_as : {a b old new : List ℕ} {i r : ℕ} → a ≡ b → Put a old i new r → Put b old i new r
 put_as {a} {b} {old} {new} {i} {r} e p = rw (sym e) p
 
 -- A buffer that was filled from its first place on.
-pub put-over : {a old new : List ℕ} {r : ℕ} → Put a old 0 new r → length a ≤ length old → new ≡ a ++ drop (length a) old
-put-over {a} {old} {new} p fits =
+pub put_over : {a old new : List ℕ} {r : ℕ} → Put a old 0 new r → length a ≤ length old → new ≡ a ++ drop (length a) old
+put_over {a} {old} {new} p fits =
     let z : 0 + length a ≡ length a = omega arith in p.holds ∙ sets-eq a old 0 (omega arith) ∙ ap (λ (k : ℕ). a ++ drop k old) z
 
 pub put_front : {a old new : List ℕ} {r : ℕ} → Put a old 0 new r → length a ≤ length old → take r new ≡ a
 put_front {a} {old} {new} {r} p fits =
-    let n : r ≡ length a = omega (arith, p.after) in rw (put-over p fits, n) (take-append_seam a (drop (length a) old))
+    let n : r ≡ length a = omega (arith, p.after) in rw (put_over p fits, n) (take-append_seam a (drop (length a) old))

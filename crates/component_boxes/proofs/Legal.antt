@@ -5,76 +5,76 @@ use mathlib.Core.Path.{◌≡◌, ap}
 use Prim.Native.Nat.{ℕ, zero, suc, ◌+◌, ◌-◌, ◌^◌, ◌≤◌, ◌<◌}
 use native.Mathlib.Omega.{arith}
 use lib.Pow.{pow_pos}
-use Rattle.naturals.proofs.Cases.{le-or-lt}
+use Rattle.naturals.proofs.Cases.{le_or_lt}
 use Rattle.numbering.specs.declared.Side.{Side}
 use Rattle.splits.specs.Splits.{cut, Due}
-use Rattle.splits.proofs.Parts.{Does, cut_low, cut_high, split-does}
-use Rattle.splits.proofs.OnePoint.{point-does}
-use Rattle.component_grids.specs.Component.{across, pointsTo, neighbour, depth}
-use Rattle.component_grids.proofs.Places.{pointsTo-pos, same-places}
+use Rattle.splits.proofs.Parts.{Does, cut_low, cut_high, split_does}
+use Rattle.splits.proofs.OnePoint.{point_does}
+use Rattle.component_grids.specs.Component.{across, points_to, neighbour, depth}
+use Rattle.component_grids.proofs.Places.{points_to_pos, same_places}
 use Rattle.component_grids.proofs.Instance.{grid}
-use Rattle.component_boxes.specs.Order.{widest, middleOf, halfOf, away, orderFrom, orderIn}
+use Rattle.component_boxes.specs.Order.{widest, middle_of, half_of, away, order_from, order_in}
 use Rattle.component_boxes.specs.Boxes.{Near, Box, Fits}
-use Rattle.component_boxes.proofs.Halves.{box?, middle-fits, left-fits, right-fits, halves}
-use Rattle.component_boxes.proofs.Widest.{one-point, widest-lt, widest-most}
-use Rattle.component_boxes.proofs.Falling.{middle-fewer, half-fewer, level-left, order-single, order-split}
+use Rattle.component_boxes.proofs.Halves.{dec_box, middle_fits, left_fits, right_fits, halves}
+use Rattle.component_boxes.proofs.Widest.{one_point, widest_lt, widest_most}
+use Rattle.component_boxes.proofs.Falling.{middle_fewer, half_fewer, level_left, order_single, order_split}
 
 module _ (d : ℕ) (tops : ℕ → ℕ) (dim : 0 < d) where
   -- A point is not beside itself.
-  beside-other : (a : ℕ) (b : Side) (p : ℕ) → neighbour d tops a b (suc p) ≡ suc p → ⊥
-  beside-other a b p e =
+  beside_other : (a : ℕ) (b : Side) (p : ℕ) → neighbour d tops a b (suc p) ≡ suc p → ⊥
+  beside_other a b p e =
       let less : depth d tops a (neighbour d tops a b (suc p)) < depth d tops a (suc p) = (grid d tops).falls a b (suc p) (λ z. omega arith) in
       omega (arith, ap (depth d tops a) e)
 
   -- A box with one point on each axis.
-  only-centre : (k : ℕ → ℕ) (c : ℕ) → c < pointsTo tops d → across (k (widest k d)) ≤ 1 → (q : ℕ) → Box d tops k c q → q ≡ suc c
-  only-centre k c inside one zero none = absurd none
-  only-centre k c inside one (suc q) near =
+  only_centre : (k : ℕ → ℕ) (c : ℕ) → c < points_to tops d → across (k (widest k d)) ≤ 1 → (q : ℕ) → Box d tops k c q → q ≡ suc c
+  only_centre k c inside one zero none = absurd none
+  only_centre k c inside one (suc q) near =
       ap suc
-      (same-places d tops q c near.inside inside
+      (same_places d tops q c near.inside inside
       (λ t axis.
-      let single : k t ≡ 0 = one-point (k t) (omega (arith, widest-most k d t axis)) in
+      let single : k t ≡ 0 = one_point (k t) (omega (arith, widest_most k d t axis)) in
       omega (arith, near.low t axis, near.high t axis, ap (λ (x : ℕ). 2 ^ x) single)))
 
-  centre-near : (k : ℕ → ℕ) (c : ℕ) → c < pointsTo tops d → Near d tops k c c
-  centre-near k c inside =
+  centre_near : (k : ℕ → ℕ) (c : ℕ) → c < points_to tops d → Near d tops k c c
+  centre_near k c inside =
       record { inside = inside; low = λ t axis. omega (arith, pow_pos (k t)); high = λ t axis. omega (arith, pow_pos (k t)) }
 
-  order-does : (g s t : ℕ) (k : ℕ → ℕ) (c : ℕ) → s ≤ t → t ≤ d → pointsTo k d ≤ g → Fits d tops k c → (count : ℕ → ℕ) →
+  order_does : (g s t : ℕ) (k : ℕ → ℕ) (c : ℕ) → s ≤ t → t ≤ d → points_to k d ≤ g → Fits d tops k c → (count : ℕ → ℕ) →
       Due (neighbour d tops) d s t (Box d tops k c) count →
-      Does (neighbour d tops) d t (Box d tops k c) count (orderFrom d tops g s t k c)
-  order-does zero s t k c order axes enough fits count due = absurd (omega (arith, pointsTo-pos k d))
-  order-does (suc g) s t k c order axes enough fits count due =
+      Does (neighbour d tops) d t (Box d tops k c) count (order_from d tops g s t k c)
+  order_does zero s t k c order axes enough fits count due = absurd (omega (arith, points_to_pos k d))
+  order_does (suc g) s t k c order axes enough fits count due =
       let r : ℕ = widest k d in
-      let again = order-does g in
-      le-or-lt (across (k r)) 1
+      let again = order_does g in
+      le_or_lt (across (k r)) 1
       (λ one.
-      rw (order-single d tops (suc g) s t k c one)
-      (point-does (neighbour d tops) d (suc c) (λ a b. beside-other a b c) (Box d tops k c)
-      (only-centre k c fits.inside one)
-      (centre-near k c fits.inside) s t order count due))
+      rw (order_single d tops (suc g) s t k c one)
+      (point_does (neighbour d tops) d (suc c) (λ a b. beside_other a b c) (Box d tops k c)
+      (only_centre k c fits.inside one)
+      (centre_near k c fits.inside) s t order count due))
       (λ more.
-      let axis : r < d = widest-lt k d dim in
-      let some : 0 < k r = level-left d tops (k r) more in
-      let middle = middle-fewer k d r axis some in
-      let half = half-fewer k d r axis some in
-      rw (order-split d tops g s t k c more)
-      (split-does (neighbour d tops) d r (Box d tops k c) (Box d tops (middleOf k r) c) (Box d tops (halfOf k r) (c - away tops k r))
-      (Box d tops (halfOf k r) (c + away tops k r))
+      let axis : r < d = widest_lt k d dim in
+      let some : 0 < k r = level_left d tops (k r) more in
+      let middle = middle_fewer k d r axis some in
+      let half = half_fewer k d r axis some in
+      rw (order_split d tops g s t k c more)
+      (split_does (neighbour d tops) d r (Box d tops k c) (Box d tops (middle_of k r) c) (Box d tops (half_of k r) (c - away tops k r))
+      (Box d tops (half_of k r) (c + away tops k r))
       (halves d tops k c fits r axis some)
-      (λ p. box? d tops (middleOf k r) c p) s t order axes count due
-      (orderFrom d tops g s (cut s t r) (middleOf k r) c)
-      (orderFrom d tops g s t (halfOf k r) (c - away tops k r))
-      (orderFrom d tops g s t (halfOf k r) (c + away tops k r))
-      (orderFrom d tops g (cut s t r) t (middleOf k r) c)
-      (again s (cut s t r) (middleOf k r) c (cut_low s t r order) (omega (arith, cut_high s t r)) (omega arith)
-      (middle-fits d tops k c fits r axis some) count)
-      (again s t (halfOf k r) (c - away tops k r) order axes (omega arith) (left-fits d tops k c fits r axis some))
-      (again s t (halfOf k r) (c + away tops k r) order axes (omega arith) (right-fits d tops k c fits r axis some))
-      (again (cut s t r) t (middleOf k r) c (cut_high s t r) axes (omega arith) (middle-fits d tops k c fits r axis some))))
+      (λ p. dec_box d tops (middle_of k r) c p) s t order axes count due
+      (order_from d tops g s (cut s t r) (middle_of k r) c)
+      (order_from d tops g s t (half_of k r) (c - away tops k r))
+      (order_from d tops g s t (half_of k r) (c + away tops k r))
+      (order_from d tops g (cut s t r) t (middle_of k r) c)
+      (again s (cut s t r) (middle_of k r) c (cut_low s t r order) (omega (arith, cut_high s t r)) (omega arith)
+      (middle_fits d tops k c fits r axis some) count)
+      (again s t (half_of k r) (c - away tops k r) order axes (omega arith) (left_fits d tops k c fits r axis some))
+      (again s t (half_of k r) (c + away tops k r) order axes (omega arith) (right_fits d tops k c fits r axis some))
+      (again (cut s t r) t (middle_of k r) c (cut_high s t r) axes (omega arith) (middle_fits d tops k c fits r axis some))))
 
-  pub in-order-does : (s t : ℕ) (k : ℕ → ℕ) (c : ℕ) → s ≤ t → t ≤ d → Fits d tops k c → (count : ℕ → ℕ) →
+  pub in_order_does : (s t : ℕ) (k : ℕ → ℕ) (c : ℕ) → s ≤ t → t ≤ d → Fits d tops k c → (count : ℕ → ℕ) →
       Due (neighbour d tops) d s t (Box d tops k c) count →
-      Does (neighbour d tops) d t (Box d tops k c) count (orderIn d tops s t k c)
-  unfolding orderIn
-  in-order-does s t k c order axes fits = order-does (pointsTo k d) s t k c order axes (omega arith) fits
+      Does (neighbour d tops) d t (Box d tops k c) count (order_in d tops s t k c)
+  unfolding order_in
+  in_order_does s t k c order axes fits = order_does (points_to k d) s t k c order axes (omega arith) fits

@@ -7,5 +7,5 @@ use native.Mathlib.Omega.{arith}
 use lib.Dec.{lit<}
 use lib.Pow.{shl_exact}
 
-pub shifted-two : (n : ℕ) → n ≤ 8 → 2 * 2 ^ n % 2 ^ 64 ≡ 2 ^ suc n
-shifted-two n le = shl_exact {a = 2} 2 n 64 (lit< tt) (omega arith) ∙ sym (pow-succ' 2 n)
+pub shifted_two : (n : ℕ) → n ≤ 8 → 2 * 2 ^ n % 2 ^ 64 ≡ 2 ^ suc n
+shifted_two n le = shl_exact {a = 2} 2 n 64 (lit< tt) (omega arith) ∙ sym (pow-succ' 2 n)

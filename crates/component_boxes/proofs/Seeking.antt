@@ -7,7 +7,7 @@ use native.Mathlib.Numerals.{add-one}
 use native.Mathlib.Omega.{arith}
 use Rattle.numbering.specs.Point.{at}
 use Rattle.component_boxes.specs.Order.{widest}
-use Rattle.component_boxes.proofs.Widest.{across-mono, across-less, widest-start, widest-here, widest-before, widest-lt}
+use Rattle.component_boxes.proofs.Widest.{across_mono, across_less, widest_start, widest_here, widest_before, widest_lt}
 
 pub record Sought (d : ℕ) (ls : List ℕ) (t most : ℕ) : Type 0 where
   pub low : 0 < t
@@ -15,43 +15,43 @@ pub record Sought (d : ℕ) (ls : List ℕ) (t most : ℕ) : Type 0 where
   pub is : most ≡ widest (at ls) t
 
 module _ (d : ℕ) (ls : List ℕ) where
-  pub widest-starts : 1 ≤ d → Sought d ls 1 0
-  widest-starts some =
+  pub widest_starts : 1 ≤ d → Sought d ls 1 0
+  widest_starts some =
       record {
         low = omega arith;
         high = some;
         is =
             sym
-            (widest-before (at ls) 0 (let e = widest-start (at ls) in rw e (omega arith)) ∙ widest-start (at ls));
+            (widest_before (at ls) 0 (let e = widest_start (at ls) in rw e (omega arith)) ∙ widest_start (at ls));
       }
 
   module _ (t most : ℕ) (so_far : Sought d ls t most) (more : t < d) where
-    pub widest-inside : most < t
-    widest-inside = omega (arith, so_far.is, widest-lt (at ls) t so_far.low)
+    pub widest_inside : most < t
+    widest_inside = omega (arith, so_far.is, widest_lt (at ls) t so_far.low)
 
-    same-most : at ls most ≡ at ls (widest (at ls) t)
-    same-most = ap (at ls) so_far.is
+    same_most : at ls most ≡ at ls (widest (at ls) t)
+    same_most = ap (at ls) so_far.is
 
-    pub widest-wider : at ls most < at ls t → Sought d ls (t + 1) t
-    widest-wider wider =
+    pub widest_wider : at ls most < at ls t → Sought d ls (t + 1) t
+    widest_wider wider =
         record {
           low = omega arith;
           high = omega arith;
           is =
               rw (add-one t)
-              (sym (widest-here (at ls) t (across-less (at ls (widest (at ls) t)) (at ls t) (omega (arith, same-most)))));
+              (sym (widest_here (at ls) t (across_less (at ls (widest (at ls) t)) (at ls t) (omega (arith, same_most)))));
         }
 
-    pub widest-same : at ls t ≤ at ls most → Sought d ls (t + 1) most
-    widest-same no-wider =
+    pub widest_same : at ls t ≤ at ls most → Sought d ls (t + 1) most
+    widest_same no_wider =
         record {
           low = omega arith;
           high = omega arith;
           is =
               rw (add-one t)
               (so_far.is
-              ∙ sym (widest-before (at ls) t (across-mono (at ls t) (at ls (widest (at ls) t)) (omega (arith, same-most)))));
+              ∙ sym (widest_before (at ls) t (across_mono (at ls t) (at ls (widest (at ls) t)) (omega (arith, same_most)))));
         }
 
-  pub widest-ends : (t most : ℕ) → Sought d ls t most → d ≤ t → most ≡ widest (at ls) d
-  widest-ends t most so_far ends = let e : t ≡ d = omega (arith, so_far.high) in so_far.is ∙ ap (widest (at ls)) e
+  pub widest_ends : (t most : ℕ) → Sought d ls t most → d ≤ t → most ≡ widest (at ls) d
+  widest_ends t most so_far ends = let e : t ≡ d = omega (arith, so_far.high) in so_far.is ∙ ap (widest (at ls)) e

@@ -6,14 +6,14 @@ use Prim.Native.Nat.{ℕ, zero, suc, ◌+◌, ◌-◌, ◌*◌, ◌%◌, ◌^◌
 use native.Mathlib.Nat.{one-mul, mul-one, mul_assoc, pow-suc, mul-le-mul_right, lt_of_mul-lt-mul_right, eq_of_mul-eq-mul_right}
 use native.Mathlib.Omega.{arith}
 use lib.Pow.{pow_pos, pow_mono, pow-add, shl_lt}
-use Rattle.naturals.proofs.Cases.{le-or-lt}
-use Rattle.numbering.specs.Parent.{twos, parentLevel, parentIndex}
-use Rattle.numbering.proofs.Twos.{zeros-divide, zeros-left-odd, width-enough}
+use Rattle.naturals.proofs.Cases.{le_or_lt}
+use Rattle.numbering.specs.Parent.{twos, parent_level, parent_index}
+use Rattle.numbering.proofs.Twos.{zeros_divide, zeros_left_odd, width_enough}
 use Rattle.component_grids.specs.Component.{place}
 
-pub place-value : (n l i : ℕ) → place n l i ≡ i * 2 ^ (n - l)
+pub place_value : (n l i : ℕ) → place n l i ≡ i * 2 ^ (n - l)
 unfolding place
-place-value n l i = refl
+place_value n l i = refl
 
 -- Odd numbers times powers of two are equal only for the same power.
 same_power : (a b i j : ℕ) → i % 2 ≡ 1 → j % 2 ≡ 1 → i * 2 ^ a ≡ j * 2 ^ b → a ≡ b
@@ -35,78 +35,78 @@ same_power (suc a) (suc b) i j oi oj e =
 
 -- ---- the level and the index of a place
 
-pub index-odd : (x : ℕ) → 1 ≤ x → parentIndex x % 2 ≡ 1
-unfolding parentIndex twos
-index-odd x low = zeros-left-odd x x low (width-enough x)
+pub index_odd : (x : ℕ) → 1 ≤ x → parent_index x % 2 ≡ 1
+unfolding parent_index twos
+index_odd x low = zeros_left_odd x x low (width_enough x)
 
-pub index-times : (x : ℕ) → parentIndex x * 2 ^ twos x ≡ x
-unfolding parentIndex twos
-index-times x = zeros-divide x x
+pub index_times : (x : ℕ) → parent_index x * 2 ^ twos x ≡ x
+unfolding parent_index twos
+index_times x = zeros_divide x x
 
 pub power_le : (x : ℕ) → 1 ≤ x → 2 ^ twos x ≤ x
 power_le x low =
     omega (
       arith,
-      index-times x,
-      mul-le-mul_right {m = 1} {n = parentIndex x} (2 ^ twos x) (omega (arith, index-odd x low)),
+      index_times x,
+      mul-le-mul_right {m = 1} {n = parent_index x} (2 ^ twos x) (omega (arith, index_odd x low)),
       one-mul (2 ^ twos x),
     )
 
-pub level-is : (n x : ℕ) → parentLevel n x ≡ n - twos x
-unfolding parentLevel
-level-is n x = refl
+pub level_is : (n x : ℕ) → parent_level n x ≡ n - twos x
+unfolding parent_level
+level_is n x = refl
 
-pub level-le : (n x : ℕ) → parentLevel n x ≤ n
-level-le n x = omega (arith, level-is n x)
+pub level_le : (n x : ℕ) → parent_level n x ≤ n
+level_le n x = omega (arith, level_is n x)
 
 module _ (n x : ℕ) (low : 1 ≤ x) (high : x < 2 ^ suc n) where
-  pub twos-le : twos x ≤ n
-  twos-le =
-      le-or-lt (twos x) n (λ le. le)
+  pub twos_le : twos x ≤ n
+  twos_le =
+      le_or_lt (twos x) n (λ le. le)
       (λ gt. absurd (omega (arith, pow_mono {i = suc n} {j = twos x} gt, power_le x low)))
 
   -- The steps of the finest level that one of its own level has.
-  pub level-steps : n - parentLevel n x ≡ twos x
-  level-steps = omega (arith, level-is n x, twos-le)
+  pub level_steps : n - parent_level n x ≡ twos x
+  level_steps = omega (arith, level_is n x, twos_le)
 
-  pub place-again : place n (parentLevel n x) (parentIndex x) ≡ x
-  place-again =
-      place-value n (parentLevel n x) (parentIndex x) ∙ ap (λ (k : ℕ). parentIndex x * 2 ^ k) level-steps ∙ index-times x
+  pub place_again : place n (parent_level n x) (parent_index x) ≡ x
+  place_again =
+      place_value n (parent_level n x) (parent_index x) ∙ ap (λ (k : ℕ). parent_index x * 2 ^ k) level_steps ∙ index_times x
 
-  pub index_below : parentIndex x < 2 ^ suc (parentLevel n x)
-  index_below = lt_of_mul-lt-mul_right (2 ^ twos x) (omega (arith, index-times x, split))
+  pub index_below : parent_index x < 2 ^ suc (parent_level n x)
+  index_below = lt_of_mul-lt-mul_right (2 ^ twos x) (omega (arith, index_times x, split))
     where
-      split : 2 ^ suc n ≡ 2 ^ suc (parentLevel n x) * 2 ^ twos x
+      split : 2 ^ suc n ≡ 2 ^ suc (parent_level n x) * 2 ^ twos x
       split =
-          ap (λ (k : ℕ). 2 ^ k) (omega (arith, level-is n x, twos-le)) ∙ pow-add 2 (suc (parentLevel n x)) (twos x)
+          ap (λ (k : ℕ). 2 ^ k) (omega (arith, level_is n x, twos_le)) ∙ pow-add 2 (suc (parent_level n x)) (twos x)
 
 -- ---- the place of a level and an index
 
 module _ (n l i : ℕ) (le : l ≤ n) (odd : i % 2 ≡ 1) (below : i < 2 ^ suc l) where
-  pub place-least : 1 ≤ place n l i
-  place-least =
+  pub place_least : 1 ≤ place n l i
+  place_least =
       omega (
         arith,
-        place-value n l i,
+        place_value n l i,
         pow_pos (n - l),
         mul-le-mul_right {m = 1} {n = i} (2 ^ (n - l)) (omega arith),
         one-mul (2 ^ (n - l)),
       )
 
-  pub place-most : place n l i < 2 ^ suc n
-  place-most =
+  pub place_most : place n l i < 2 ^ suc n
+  place_most =
       let all : suc l + (n - l) ≡ suc n = omega arith in
-      omega (arith, place-value n l i, shl_lt {a = i} (suc l) (n - l) below, ap (λ (k : ℕ). 2 ^ k) all)
+      omega (arith, place_value n l i, shl_lt {a = i} (suc l) (n - l) below, ap (λ (k : ℕ). 2 ^ k) all)
 
-  pub twos-again : twos (place n l i) ≡ n - l
-  twos-again =
-      same_power (twos (place n l i)) (n - l) (parentIndex (place n l i)) i (index-odd (place n l i) place-least) odd
-      (index-times (place n l i) ∙ place-value n l i)
+  pub twos_again : twos (place n l i) ≡ n - l
+  twos_again =
+      same_power (twos (place n l i)) (n - l) (parent_index (place n l i)) i (index_odd (place n l i) place_least) odd
+      (index_times (place n l i) ∙ place_value n l i)
 
-  pub level-again : parentLevel n (place n l i) ≡ l
-  level-again = omega (arith, level-is n (place n l i), twos-again)
+  pub level_again : parent_level n (place n l i) ≡ l
+  level_again = omega (arith, level_is n (place n l i), twos_again)
 
-  pub index-again : parentIndex (place n l i) ≡ i
-  index-again =
-      eq_of_mul-eq-mul_right (2 ^ (n - l)) (pow_pos (n - l)) (parentIndex (place n l i)) i
-      (ap (λ (k : ℕ). parentIndex (place n l i) * 2 ^ k) (sym twos-again) ∙ index-times (place n l i) ∙ place-value n l i)
+  pub index_again : parent_index (place n l i) ≡ i
+  index_again =
+      eq_of_mul-eq-mul_right (2 ^ (n - l)) (pow_pos (n - l)) (parent_index (place n l i)) i
+      (ap (λ (k : ℕ). parent_index (place n l i) * 2 ^ k) (sym twos_again) ∙ index_times (place n l i) ∙ place_value n l i)

@@ -2,23 +2,23 @@
 -- at most that axis's top level. Top levels are a function from an axis to a number, as levels and indices are.
 -- Assumes nothing.
 use Rattle.std.specs.Prelude.{ℕ, suc, ◌+◌, ◌-◌, ◌*◌, ◌/◌, ◌%◌, ◌^◌}
-use Rattle.naturals.specs.Sum.{sumTo, prodTo}
+use Rattle.naturals.specs.Sum.{sum_to, prod_to}
 use Rattle.numbering.specs.declared.Side.{Side}
-use Rattle.numbering.specs.Parent.{parentLevel, parentIndex}
+use Rattle.numbering.specs.Parent.{parent_level, parent_index}
 use Rattle.zero_border.specs.Numbered.{Numbered}
-use Rattle.zero_border.specs.ZeroBorder as zero-border
+use Rattle.zero_border.specs.ZeroBorder as zero_border
 
 -- How many points an axis of top level n has.
 unfoldable pub across : ℕ → ℕ
 across n = 2 ^ suc n - 1
 
-unfoldable pub acrossOn : (ℕ → ℕ) → ℕ → ℕ
-acrossOn tops t = across (tops t)
+unfoldable pub across_on : (ℕ → ℕ) → ℕ → ℕ
+across_on tops t = across (tops t)
 
 -- How many points the first k axes have together: the product of theirs. With k the number of axes these are the points of the grid; two points that follow
 -- each other on axis k (from 0) lie so many positions apart.
-unfoldable pub pointsTo : (ℕ → ℕ) → ℕ → ℕ
-pointsTo tops k = prodTo (acrossOn tops) k
+unfoldable pub points_to : (ℕ → ℕ) → ℕ → ℕ
+points_to tops k = prod_to (across_on tops) k
 
 -- Where a point of level l and index i lies on an axis of top level n, in steps of the finest level: i / 2^(l+1) is so many times 1 / 2^(n+1).
 unfoldable pub place : ℕ → ℕ → ℕ → ℕ
@@ -26,36 +26,36 @@ place n l i = i * 2 ^ (n - l)
 
 -- The layout by coordinate, axis 1 running fastest: the position of a point is the sum over the axes of its place less 1, times the points of the axes before.
 unfoldable pub share : (ℕ → ℕ) → (ℕ → ℕ) → (ℕ → ℕ) → ℕ → ℕ
-share tops l i t = (place (tops t) (l t) (i t) - 1) * pointsTo tops t
+share tops l i t = (place (tops t) (l t) (i t) - 1) * points_to tops t
 
 unfoldable pub position : ℕ → (ℕ → ℕ) → (ℕ → ℕ) → (ℕ → ℕ) → ℕ
-position d tops l i = sumTo (share tops l i) d
+position d tops l i = sum_to (share tops l i) d
 
 -- The place of position p on axis t, from 1 on. Place / 2^(n+1) in lowest terms is index / 2^(level+1).
-unfoldable pub placeAt : (ℕ → ℕ) → ℕ → ℕ → ℕ
-placeAt tops p t = p / pointsTo tops t % across (tops t) + 1
+unfoldable pub place_at : (ℕ → ℕ) → ℕ → ℕ → ℕ
+place_at tops p t = p / points_to tops t % across (tops t) + 1
 
-unfoldable pub levelAt : (ℕ → ℕ) → ℕ → ℕ → ℕ
-levelAt tops p t = parentLevel (tops t) (placeAt tops p t)
+unfoldable pub level_at : (ℕ → ℕ) → ℕ → ℕ → ℕ
+level_at tops p t = parent_level (tops t) (place_at tops p t)
 
-unfoldable pub indexAt : (ℕ → ℕ) → ℕ → ℕ → ℕ
-indexAt tops p t = parentIndex (placeAt tops p t)
+unfoldable pub index_at : (ℕ → ℕ) → ℕ → ℕ → ℕ
+index_at tops p t = parent_index (place_at tops p t)
 
 -- The component grid of d axes: its points by position.
 abbrev pub component : ℕ → (ℕ → ℕ) → Numbered
 component d tops =
     record {
       axes = d;
-      count = pointsTo tops d;
+      count = points_to tops d;
       number = position d tops;
-      level = levelAt tops;
-      index = indexAt tops;
+      level = level_at tops;
+      index = index_at tops;
     }
 
 -- The neighbour of a code on axis t (from 0), on either side, by document 01's rule: code 0 is the border, code p + 1 is position p.
 unfoldable pub neighbour : ℕ → (ℕ → ℕ) → ℕ → Side → ℕ → ℕ
-neighbour d tops t side p = zero-border.neighbour (component d tops) t side p
+neighbour d tops t side p = zero_border.neighbour (component d tops) t side p
 
 -- How deep a code lies on an axis: its level there, and 0 at the border.
 unfoldable pub depth : ℕ → (ℕ → ℕ) → ℕ → ℕ → ℕ
-depth d tops t p = zero-border.depth (component d tops) t p
+depth d tops t p = zero_border.depth (component d tops) t p

@@ -2,26 +2,26 @@
 -- Assumes nothing.
 use Rattle.std.specs.Prelude.{List, ◌≡◌, ℕ, ◌+◌, ◌-◌, ◌^◌, ◌≤◌, ◌<◌, ℤ, pos, nat_abs, length}
 use Rattle.numbering.specs.Point.{at}
-use Rattle.hierarchy.specs.Turns.{valueAt}
+use Rattle.hierarchy.specs.Turns.{value_at}
 use Rattle.splits.specs.Splits.{cut, Due}
-use Rattle.component_grids.specs.Component.{pointsTo, neighbour}
-use Rattle.component_boxes.specs.Order.{widest, middleOf, halfOf, away}
+use Rattle.component_grids.specs.Component.{points_to, neighbour}
+use Rattle.component_boxes.specs.Order.{widest, middle_of, half_of, away}
 use Rattle.component_boxes.specs.Boxes.{Box, Fits}
-use Rattle.component_boxes.specs.Stages.{stagesOf}
+use Rattle.component_boxes.specs.Stages.{stages_of}
 use Rattle.component_sweeps.specs.declared.Layout.{Layout}
-use Rattle.component_sweeps.specs.Steps.{topsOf}
+use Rattle.component_sweeps.specs.Steps.{tops_of}
 use Rattle.component_order.specs.declared.Parts.{Parts}
 
 module _ (d : ℕ) (tops : ℕ → ℕ) where
   -- A table part of the way: each place holds what the sweeps of as many axes as its count says leave there.
   pub record Standing (xs : List ℤ) : Type 0 where
-    pub long : length xs ≡ pointsTo tops d
+    pub long : length xs ≡ points_to tops d
     pub rates : ℕ → ℤ
     pub border : rates 0 ≡ pos 0
     pub small : (p : ℕ) → nat_abs (rates p) ≤ 2 ^ 31
     pub count : ℕ → ℕ
     pub most : (p : ℕ) → count p ≤ d
-    pub holds : (p : ℕ) → valueAt xs p ≡ stagesOf d tops rates (count p) p
+    pub holds : (p : ℕ) → value_at xs p ≡ stages_of d tops rates (count p) p
 
   -- On a box the axes s to t − 1 are due.
   pub record Mixed (k : ℕ → ℕ) (c s t : ℕ) (xs : List ℤ) : Type 0 where
@@ -34,17 +34,17 @@ module _ (d : ℕ) (tops : ℕ → ℕ) where
   -- Part of the sweeps of a box: its points have the axes before a done, the others hold what they held.
   pub record SweptTo (k : ℕ → ℕ) (c a : ℕ) (r : ℕ → ℤ) (xs ys : List ℤ) : Type 0 where
     pub long : length ys ≡ length xs
-    pub inside : (p : ℕ) → Box d tops k c p → valueAt ys p ≡ stagesOf d tops r a p
-    pub outside : (p : ℕ) → (Box d tops k c p → ⊥) → valueAt ys p ≡ valueAt xs p
+    pub inside : (p : ℕ) → Box d tops k c p → value_at ys p ≡ stages_of d tops r a p
+    pub outside : (p : ℕ) → (Box d tops k c p → ⊥) → value_at ys p ≡ value_at xs p
 
 -- The levels of a box on the axes of a layout are at most the top levels.
 abbrev pub Within : Layout → List ℕ → Type 0
-Within g ls = (t : ℕ) → t < g.axes → at ls t ≤ topsOf g t
+Within g ls = (t : ℕ) → t < g.axes → at ls t ≤ tops_of g t
 
 -- The parts of a box of levels ls with the middle point at position c, on which the axes s to t − 1 are due.
 pub record PartsOf (g : Layout) (ls : List ℕ) (c s t : ℕ) (p : Parts) : Type 0 where
-  pub middle : at p.middle ≡ middleOf (at ls) (widest (at ls) g.axes)
-  pub half : at p.half ≡ halfOf (at ls) (widest (at ls) g.axes)
-  pub left : p.left ≡ c - away (topsOf g) (at ls) (widest (at ls) g.axes)
-  pub right : p.right ≡ c + away (topsOf g) (at ls) (widest (at ls) g.axes)
+  pub middle : at p.middle ≡ middle_of (at ls) (widest (at ls) g.axes)
+  pub half : at p.half ≡ half_of (at ls) (widest (at ls) g.axes)
+  pub left : p.left ≡ c - away (tops_of g) (at ls) (widest (at ls) g.axes)
+  pub right : p.right ≡ c + away (tops_of g) (at ls) (widest (at ls) g.axes)
   pub cut : p.cut ≡ cut s t (widest (at ls) g.axes)

@@ -3,11 +3,11 @@
 
 ghost use Rattle.std.specs.Prelude.{◌≡◌, ◌<◌};
 ghost use Rattle.numbering.specs.Point.{at};
-ghost use Rattle.component_grids.specs.Component.{across, pointsTo};
-ghost use Rattle.component_boxes.specs.Order.{widest, centre, orderIn};
-ghost use Rattle.component_sweeps.specs.Steps.{topsOf, Laid};
+ghost use Rattle.component_grids.specs.Component.{across, points_to};
+ghost use Rattle.component_boxes.specs.Order.{widest, centre, order_in};
+ghost use Rattle.component_sweeps.specs.Steps.{tops_of, Laid};
 ghost use Rattle.component_boxes.specs.Boxes.{Fits};
-ghost use Rattle.component_order.specs.InOrder.{Loaded, workedIn, inOrder};
+ghost use Rattle.component_order.specs.InOrder.{Loaded, worked_in, in_order};
 ghost use Rattle.component_order.specs.Steps.{Mixed, Within, PartsOf};
 
 use component_sweeps::Layout;
@@ -18,7 +18,7 @@ const SWEPT: u64 = 1024;
 // How many points are left in a box.
 fn points_left(layout: Layout, levels: [u32; 8]) -> u64
     requires { Laid layout × Within layout levels }
-    ensures { result ≡ pointsTo (at levels) layout.axes }
+    ensures { result ≡ points_to (at levels) layout.axes }
 {
     let axes = layout.axes;
     let mut points: u64 = 1;
@@ -39,8 +39,8 @@ fn sweep_box(
     to: usize,
     table: &mut [i64],
 )
-    requires { Laid layout × Mixed layout.axes (topsOf layout) (at levels) centre from to table.old }
-    ensures { table.new ≡ workedIn layout.axes (topsOf layout) (orderIn layout.axes (topsOf layout) from to (at levels) centre) table.old }
+    requires { Laid layout × Mixed layout.axes (tops_of layout) (at levels) centre from to table.old }
+    ensures { table.new ≡ worked_in layout.axes (tops_of layout) (order_in layout.axes (tops_of layout) from to (at levels) centre) table.old }
 {
     let mut a = from;
     while a < to {
@@ -60,7 +60,7 @@ pub struct Parts {
 }
 
 fn parts_of(layout: Layout, levels: [u32; 8], centre: usize, from: usize, to: usize) -> Parts
-    requires { Laid layout × Fits layout.axes (topsOf layout) (at levels) centre × (1 < across (at levels (widest (at levels) layout.axes))) }
+    requires { Laid layout × Fits layout.axes (tops_of layout) (at levels) centre × (1 < across (at levels (widest (at levels) layout.axes))) }
     ensures { PartsOf layout levels centre from to result }
 {
     let r = component_boxes::widest_axis(levels, layout.axes);
@@ -83,8 +83,8 @@ fn parts_of(layout: Layout, levels: [u32; 8], centre: usize, from: usize, to: us
 // Axes `from` + 1 to `to` of a box in the order of the splits: the middle up to the cut, the left half, the right half, the middle for the rest. The number of points
 // left falls at each call.
 fn work(layout: Layout, levels: [u32; 8], centre: usize, from: usize, to: usize, table: &mut [i64])
-    requires { Laid layout × Mixed layout.axes (topsOf layout) (at levels) centre from to table.old }
-    ensures { table.new ≡ workedIn layout.axes (topsOf layout) (orderIn layout.axes (topsOf layout) from to (at levels) centre) table.old }
+    requires { Laid layout × Mixed layout.axes (tops_of layout) (at levels) centre from to table.old }
+    ensures { table.new ≡ worked_in layout.axes (tops_of layout) (order_in layout.axes (tops_of layout) from to (at levels) centre) table.old }
 {
     if from == to {
         return;
@@ -108,7 +108,7 @@ fn work(layout: Layout, levels: [u32; 8], centre: usize, from: usize, to: usize,
 // The position of the middle point of the grid.
 fn middle_point(layout: Layout) -> usize
     requires { Laid layout }
-    ensures { result ≡ centre layout.axes (topsOf layout) }
+    ensures { result ≡ centre layout.axes (tops_of layout) }
 {
     let axes = layout.axes;
     let tops = layout.tops;
@@ -124,8 +124,8 @@ fn middle_point(layout: Layout) -> usize
 
 // Rates to coefficients: every axis of the whole grid, in the order of the splits.
 pub fn in_order(layout: Layout, table: &mut [i64])
-    requires { Laid layout × Loaded layout.axes (topsOf layout) table.old }
-    ensures { table.new ≡ inOrder layout.axes (topsOf layout) table.old }
+    requires { Laid layout × Loaded layout.axes (tops_of layout) table.old }
+    ensures { table.new ≡ in_order layout.axes (tops_of layout) table.old }
 {
     let tops = layout.tops;
     work(layout, tops, middle_point(layout), 0, layout.axes, table);

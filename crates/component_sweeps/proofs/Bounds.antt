@@ -4,20 +4,20 @@ use Prim.Native.Nat.{ℕ, suc, ◌*◌, ◌^◌, ◌≤◌, ◌<◌}
 use native.Mathlib.Nat.{mul-le-mul}
 use native.Mathlib.Omega.{arith}
 use lib.Pow.{pow_mono}
-use Rattle.component_grids.specs.Component.{pointsTo}
-use Rattle.component_boxes.proofs.Falling.{points-before}
+use Rattle.component_grids.specs.Component.{points_to}
+use Rattle.component_boxes.proofs.Falling.{points_before}
 use Rattle.component_sweeps.specs.Steps.{Turn, Ground}
 
 -- A product of two such numbers: the kit's law, with its numbers written out.
-pub times-most : (a b m n : ℕ) → a ≤ m → b ≤ n → a * b ≤ m * n
-times-most a b m n one two = mul-le-mul one two
+pub times_most : (a b m n : ℕ) → a ≤ m → b ≤ n → a * b ≤ m * n
+times_most a b m n one two = mul-le-mul one two
 
 module _ (g : Turn) (ground : Ground g) where
-  pub stride_most : (u : ℕ) → u < g.axes → pointsTo g.tops u ≤ 32768
-  stride_most u axis = omega (arith, points-before g.tops u g.axes (omega arith), ground.small)
+  pub stride_most : (u : ℕ) → u < g.axes → points_to g.tops u ≤ 32768
+  stride_most u axis = omega (arith, points_before g.tops u g.axes (omega arith), ground.small)
 
-  pub half-most : (u : ℕ) → u < g.axes → 2 ^ g.levels u ≤ 256
-  half-most u axis = pow_mono {i = g.levels u} {j = 8} (omega (arith, ground.fits.within u axis, ground.low u))
+  pub half_most : (u : ℕ) → u < g.axes → 2 ^ g.levels u ≤ 256
+  half_most u axis = pow_mono {i = g.levels u} {j = 8} (omega (arith, ground.fits.within u axis, ground.low u))
 
-  pub end-most : (u : ℕ) → 2 ^ suc (g.tops u) ≤ 512
-  end-most u = pow_mono {i = suc (g.tops u)} {j = 9} (omega (arith, ground.low u))
+  pub end_most : (u : ℕ) → 2 ^ suc (g.tops u) ≤ 512
+  end_most u = pow_mono {i = suc (g.tops u)} {j = 9} (omega (arith, ground.low u))

@@ -10,14 +10,14 @@ use native.Mathlib.Nat.{add-mul, one-mul, zero-mul, mul_comm, mul_assoc}
 use native.Mathlib.Omega.{arith}
 use lib.IntN.{ℤ}
 use lib.Pow.{pow_pos, pow_mono}
-use Rattle.naturals.proofs.Cases.{le-or-lt, eq-or-not}
+use Rattle.naturals.proofs.Cases.{le_or_lt, eq_or_not}
 use Rattle.numbering.specs.Parent.{twos}
-use Rattle.component_grids.proofs.Places.{place-low}
-use Rattle.component_sweeps.specs.Steps.{CanBand, LoweredOn, InBand, Turn, placeOn, middle, Asked, Turned, Along, Reaches, ClassOf}
-use Rattle.component_sweeps.proofs.Apart.{Apart, turned_none, turned_same, limited-next, turned-both}
-use Rattle.component_sweeps.proofs.Reaching.{OddTimes, odd-times, reach-odd, odd-near, odd-next, even-times, odd-first, odd-after, reach-grows}
-use Rattle.component_sweeps.proofs.Lines.{Parents, box-high, kinds-apart, band-can, band-turned}
-use Rattle.component_sweeps.proofs.Bounds.{times-most, stride_most, half-most, end-most}
+use Rattle.component_grids.proofs.Places.{place_low}
+use Rattle.component_sweeps.specs.Steps.{CanBand, LoweredOn, InBand, Turn, place_on, middle, Asked, Turned, Along, Reaches, ClassOf}
+use Rattle.component_sweeps.proofs.Apart.{Apart, turned_none, turned_same, limited_next, turned_both}
+use Rattle.component_sweeps.proofs.Reaching.{OddTimes, odd_times, reach_odd, odd_near, odd_next, even_times, odd_first, odd_after, reach_grows}
+use Rattle.component_sweeps.proofs.Lines.{Parents, box_high, kinds_apart, band_can, band_turned}
+use Rattle.component_sweeps.proofs.Bounds.{times_most, stride_most, half_most, end_most}
 
 -- The places of that reach before x.
 abbrev pub Passed : ℕ → ℕ → ℕ → Type 0
@@ -37,142 +37,142 @@ module _ (q width lines apart unit stride low high reach end : ℕ) (g : Turn) (
     axis : g.axis < g.axes
     axis = of.numbers.ground.axis
 
-    pub reach-some : 1 ≤ reach
-    reach-some = omega (arith, of.reachIs, pow_pos of.power)
+    pub reach_some : 1 ≤ reach
+    reach_some = omega (arith, of.reach_is, pow_pos of.power)
 
     -- ---- how large the numbers are
 
-    pub reach-most : reach ≤ 256
-    reach-most =
+    pub reach_most : reach ≤ 256
+    reach_most =
         omega (
           arith,
-          of.reachIs,
-          half-most g of.numbers.ground t axis,
+          of.reach_is,
+          half_most g of.numbers.ground t axis,
           pow_mono {i = of.power} {j = g.levels t} (omega (arith, of.finer)),
         )
 
-    pub stride-small : stride ≤ 32768
-    stride-small = omega (arith, of.numbers.strideIs, stride_most g of.numbers.ground t axis)
+    pub stride_small : stride ≤ 32768
+    stride_small = omega (arith, of.numbers.stride_is, stride_most g of.numbers.ground t axis)
 
-    pub high-most : high ≤ 512
-    high-most = omega (arith, of.highIs, box-high g of.numbers.ground t axis, end-most g of.numbers.ground t)
+    pub high_most : high ≤ 512
+    high_most = omega (arith, of.high_is, box_high g of.numbers.ground t axis, end_most g of.numbers.ground t)
 
-    pub far-most : stride * reach ≤ 8388608
-    far-most = times-most stride reach 32768 256 stride-small reach-most
+    pub far_most : stride * reach ≤ 8388608
+    far_most = times_most stride reach 32768 256 stride_small reach_most
 
-    pub start-most : (reach - 1) * stride ≤ 8388608
-    start-most = times-most (reach - 1) stride 256 32768 (omega (arith, reach-most)) stride-small
+    pub start_most : (reach - 1) * stride ≤ 8388608
+    start_most = times_most (reach - 1) stride 256 32768 (omega (arith, reach_most)) stride_small
 
-    pub first-most : q < 32768
-    first-most = omega (arith, of.first.near.inside, of.numbers.ground.small)
+    pub first_most : q < 32768
+    first_most = omega (arith, of.first.near.inside, of.numbers.ground.small)
 
     -- ---- the loop
 
-    odd-means : (y : ℕ) → 1 ≤ y → Reaches reach y → OddTimes reach y
-    odd-means y some e = rw e at (odd-times y some)
+    odd_means : (y : ℕ) → 1 ≤ y → Reaches reach y → OddTimes reach y
+    odd_means y some e = rw e at (odd_times y some)
 
-    odd-reaches : (y : ℕ) → OddTimes reach y → Reaches reach y
-    odd-reaches y h = reach-odd of.power y (rw of.reachIs at h) ∙ sym of.reachIs
+    odd_reaches : (y : ℕ) → OddTimes reach y → Reaches reach y
+    odd_reaches y h = reach_odd of.power y (rw of.reach_is at h) ∙ sym of.reach_is
 
     pairs : ℕ
     pairs = (of.numbers.ground.fits.times t - 1) * 2 ^ (g.levels t - suc of.power)
 
-    low-even : low ≡ pairs * (reach + reach)
+    low_even : low ≡ pairs * (reach + reach)
     unfolding pairs
-    low-even =
+    low_even =
         let n = of.numbers.ground.fits.times t in
         let k = g.levels t in
         let whole = of.numbers.ground.fits.aligned t axis in
         let one : n ≡ n - 1 + 1 =
-        eq-or-not n 0
-        (λ e. absurd (omega (arith, whole, ap (λ (y : ℕ). y * 2 ^ k) e, zero-mul (2 ^ k), place-low g.tops g.centre t)))
+        eq_or_not n 0
+        (λ e. absurd (omega (arith, whole, ap (λ (y : ℕ). y * 2 ^ k) e, zero-mul (2 ^ k), place_low g.tops g.centre t)))
         (λ ne. omega arith) in
         let start : low ≡ (n - 1) * 2 ^ k =
-        omega (arith, of.lowIs, whole, ap (λ (y : ℕ). y * 2 ^ k) one, add-mul (n - 1) 1 (2 ^ k), one-mul (2 ^ k)) in
+        omega (arith, of.low_is, whole, ap (λ (y : ℕ). y * 2 ^ k) one, add-mul (n - 1) 1 (2 ^ k), one-mul (2 ^ k)) in
         start
-        ∙ even-times of.power k (n - 1) of.finer
-        ∙ ap (λ (y : ℕ). (n - 1) * 2 ^ (k - suc of.power) * (y + y)) (sym of.reachIs)
+        ∙ even_times of.power k (n - 1) of.finer
+        ∙ ap (λ (y : ℕ). (n - 1) * 2 ^ (k - suc of.power) * (y + y)) (sym of.reach_is)
 
-    pub passing-starts : Passing xs (low + reach) (q + (reach - 1) * stride)
-    passing-starts =
+    pub passing_starts : Passing xs (low + reach) (q + (reach - 1) * stride)
+    passing_starts =
         record {
-          odd = odd-first reach low pairs reach-some low-even;
+          odd = odd_first reach low pairs reach_some low_even;
           least = omega arith;
           at = let same : reach - 1 ≡ low + reach - low - 1 = omega arith in ap (λ (y : ℕ). q + y * stride) same;
           turned =
               turned_none g.axes g.tops t xs
               (λ p l.
-              let y = placeOn g p t in
+              let y = place_on g p t in
               omega (
                 arith,
                 l.there.1,
-                odd-after reach low pairs reach-some low-even y (odd-means y (place-low g.tops p t) l.there.0)
-                    (omega (arith, l.row.near.low t axis, of.lowIs)),
+                odd_after reach low pairs reach_some low_even y (odd_means y (place_low g.tops p t) l.there.0)
+                    (omega (arith, l.row.near.low t axis, of.low_is)),
               ));
         }
 
     module _ (ys : List ℤ) (x p : ℕ) (s : Passing ys x p) where
-      pub passing-ends : high ≤ x → Turned g (Along g g.from q (Reaches reach)) xs ys
-      passing-ends past =
+      pub passing_ends : high ≤ x → Turned g (Along g g.from q (Reaches reach)) xs ys
+      passing_ends past =
           turned_same g.axes g.tops t
           (λ p l. record { row = l.row; there = l.there.0 })
-          (λ p l. record { row = l.row; there = (l.there, omega (arith, l.row.near.high t axis, of.highIs)) })
+          (λ p l. record { row = l.row; there = (l.there, omega (arith, l.row.near.high t axis, of.high_is)) })
           s.turned
 
       module _ (less : x < high) where
         h : ℕ
         h = x - low - 1
 
-        h-is : x ≡ placeOn g q t + h
+        h_is : x ≡ place_on g q t + h
         unfolding h
-        h-is = omega (arith, of.first.own, of.lowIs, s.least, reach-some)
+        h_is = omega (arith, of.first.own, of.low_is, s.least, reach_some)
 
         inside : x < middle g t + 2 ^ g.levels t
-        inside = omega (arith, of.highIs)
+        inside = omega (arith, of.high_is)
 
-        pub passing-most : p ≤ 16809984
-        passing-most =
-            omega (arith, s.at, first-most, times-most (x - low - 1) stride 512 32768 (omega (arith, high-most)) stride-small)
+        pub passing_most : p ≤ 16809984
+        passing_most =
+            omega (arith, s.at, first_most, times_most (x - low - 1) stride 512 32768 (omega (arith, high_most)) stride_small)
 
         separate : Apart g.axes g.tops t (Along g g.from q (Passed reach x)) (Along g g.from q (λ y. y ≡ x))
         separate =
-            kinds-apart g of.numbers.ground g.from q
+            kinds_apart g of.numbers.ground g.from q
             (λ y same passed. omega (arith, passed.1))
             (λ b y some there same passed.
             omega (
               arith,
-              reach-grows b y some there,
+              reach_grows b y some there,
               passed.0,
               ap (λ (n : ℕ). 2 ^ twos n) same,
-              odd-reaches x s.odd,
+              odd_reaches x s.odd,
             ))
 
         asked : Asked g (Along g g.from q (λ y. y ≡ x)) ys
         asked =
-            limited-next g.axes g.tops t separate s.turned
+            limited_next g.axes g.tops t separate s.turned
             (λ p l. record { row = l.row; there = l.there.0 })
-            (λ p l. record { row = l.row; there = ap (λ (n : ℕ). 2 ^ twos n) l.there ∙ odd-reaches x s.odd })
+            (λ p l. record { row = l.row; there = ap (λ (n : ℕ). 2 ^ twos n) l.there ∙ odd_reaches x s.odd })
             of.asked
 
         module _ (left right : Bool) (parents : Parents x reach end left right) where
-          pub passing-can : CanBand p width lines apart unit (stride * reach) left right ys
+          pub passing_can : CanBand p width lines apart unit (stride * reach) left right ys
           unfolding h
-          passing-can =
+          passing_can =
               rw s.at
-              (band-can g width lines apart unit stride end of.numbers q of.first h x h-is inside reach (odd-reaches x s.odd) left right parents ys asked)
+              (band_can g width lines apart unit stride end of.numbers q of.first h x h_is inside reach (odd_reaches x s.odd) left right parents ys asked)
 
-          pub passing-steps : (zs : List ℤ) → LoweredOn (stride * reach) left right (InBand p width lines apart unit) ys zs → Passing zs (x + 2 * reach) (p + 2 * (stride * reach))
+          pub passing_steps : (zs : List ℤ) → LoweredOn (stride * reach) left right (InBand p width lines apart unit) ys zs → Passing zs (x + 2 * reach) (p + 2 * (stride * reach))
           unfolding h
-          passing-steps zs ran =
+          passing_steps zs ran =
               record {
                 odd =
                     record {
-                      pairs = (odd-next reach x s.odd).pairs;
-                      is = omega (arith, (odd-next reach x s.odd).is);
+                      pairs = (odd_next reach x s.odd).pairs;
+                      is = omega (arith, (odd_next reach x s.odd).is);
                     };
                 least = omega (arith, s.least);
                 at =
-                    let next : x + 2 * reach - low - 1 ≡ h + 2 * reach = omega (arith, s.least, reach-some) in
+                    let next : x + 2 * reach - low - 1 ≡ h + 2 * reach = omega (arith, s.least, reach_some) in
                     omega (
                       arith,
                       s.at,
@@ -182,21 +182,21 @@ module _ (q width lines apart unit stride low high reach end : ℕ) (g : Turn) (
                       mul_comm reach stride,
                     );
                 turned =
-                    turned-both g.axes g.tops t separate s.turned
+                    turned_both g.axes g.tops t separate s.turned
                     (λ p l. record { row = l.row; there = (l.there.0, omega (arith, l.there.1)) })
-                    (λ p l. record { row = l.row; there = (ap (λ (n : ℕ). 2 ^ twos n) l.there ∙ odd-reaches x s.odd, omega (arith, l.there, reach-some)) })
+                    (λ p l. record { row = l.row; there = (ap (λ (n : ℕ). 2 ^ twos n) l.there ∙ odd_reaches x s.odd, omega (arith, l.there, reach_some)) })
                     (λ p l.
-                    let y = placeOn g p t in
-                    le-or-lt x y
+                    let y = place_on g p t in
+                    le_or_lt x y
                     (λ from.
                     inr
                     (record {
                       row = l.row;
                       there =
-                          odd-near reach y x reach-some (odd-means y (place-low g.tops p t) l.there.0) s.odd from
+                          odd_near reach y x reach_some (odd_means y (place_low g.tops p t) l.there.0) s.odd from
                           (omega (arith, l.there.1));
                     }))
                     (λ before. inl (record { row = l.row; there = (l.there.0, before) })))
-                    (band-turned g width lines apart unit stride end of.numbers q of.first h x h-is inside reach (odd-reaches x s.odd) left right parents ys zs
+                    (band_turned g width lines apart unit stride end of.numbers q of.first h x h_is inside reach (odd_reaches x s.odd) left right parents ys zs
                     (rw s.at at ran));
               }

@@ -9,26 +9,26 @@ use native.Mathlib.Omega.{arith}
 use lib.ListN.{length, set, length-set}
 use lib.Pow.{pow_pos}
 use lib.Seq.{get_or-set_same, get_or-set_other}
-use Rattle.naturals.proofs.Cases.{eq-or-not}
+use Rattle.naturals.proofs.Cases.{eq_or_not}
 use Rattle.numbering.specs.Point.{at}
-use Rattle.component_grids.specs.Component.{across, pointsTo, placeAt}
-use Rattle.component_grids.proofs.Places.{Shifted, across-is, shift-down}
+use Rattle.component_grids.specs.Component.{across, points_to, place_at}
+use Rattle.component_grids.proofs.Places.{Shifted, across_is, shift_down}
 use Rattle.component_boxes.specs.Boxes.{Fits}
 use Rattle.component_sweeps.specs.declared.Layout.{Layout}
-use Rattle.component_sweeps.specs.Steps.{topsOf, Laid, Ground, turnOf, Corner}
-use Rattle.component_sweeps.proofs.Lines.{box-low}
-use Rattle.component_sweeps.proofs.Bounds.{half-most, stride_most, times-most}
+use Rattle.component_sweeps.specs.Steps.{tops_of, Laid, Ground, turn_of, Corner}
+use Rattle.component_sweeps.proofs.Lines.{box_low}
+use Rattle.component_sweeps.proofs.Bounds.{half_most, stride_most, times_most}
 
 pub record Cornering (layout : Layout) (levels : List ℕ) (centre : ℕ) (sizes : List ℕ) (q t : ℕ) : Type 0 where
   pub most : t ≤ layout.axes
   pub long : length sizes ≡ 8
-  pub inside : q < pointsTo (topsOf layout) layout.axes
-  pub lowest : (u : ℕ) → u < t → placeAt (topsOf layout) q u + 2 ^ at levels u ≡ placeAt (topsOf layout) centre u + 1
-  pub rest : (u : ℕ) → t ≤ u → u < layout.axes → placeAt (topsOf layout) q u ≡ placeAt (topsOf layout) centre u
-  pub sizesAre : (u : ℕ) → u < t → at sizes u ≡ across (at levels u)
+  pub inside : q < points_to (tops_of layout) layout.axes
+  pub lowest : (u : ℕ) → u < t → place_at (tops_of layout) q u + 2 ^ at levels u ≡ place_at (tops_of layout) centre u + 1
+  pub rest : (u : ℕ) → t ≤ u → u < layout.axes → place_at (tops_of layout) q u ≡ place_at (tops_of layout) centre u
+  pub sizes_are : (u : ℕ) → u < t → at sizes u ≡ across (at levels u)
 
-module _ (layout : Layout) (levels : List ℕ) (centre : ℕ) (laid : Laid layout) (fits : Fits layout.axes (topsOf layout) (at levels) centre) where
-  pub ground : (t from : ℕ) → t < layout.axes → Ground (turnOf layout levels centre t from)
+module _ (layout : Layout) (levels : List ℕ) (centre : ℕ) (laid : Laid layout) (fits : Fits layout.axes (tops_of layout) (at levels) centre) where
+  pub ground : (t from : ℕ) → t < layout.axes → Ground (turn_of layout levels centre t from)
   ground t from axis =
       record {
         axis = axis;
@@ -38,80 +38,80 @@ module _ (layout : Layout) (levels : List ℕ) (centre : ℕ) (laid : Laid layou
         small = laid.small;
       }
 
-  pub level-few : (t : ℕ) → t < layout.axes → at levels t ≤ 8
-  level-few t axis = omega (arith, fits.within t axis, laid.low t)
+  pub level_few : (t : ℕ) → t < layout.axes → at levels t ≤ 8
+  level_few t axis = omega (arith, fits.within t axis, laid.low t)
 
-  pub cornering-starts : (sizes : List ℕ) → length sizes ≡ 8 → Cornering layout levels centre sizes centre 0
-  cornering-starts sizes long =
+  pub cornering_starts : (sizes : List ℕ) → length sizes ≡ 8 → Cornering layout levels centre sizes centre 0
+  cornering_starts sizes long =
       record {
         most = omega arith;
         long = long;
         inside = fits.inside;
         lowest = λ u less. absurd (omega arith);
         rest = λ u from axis. refl;
-        sizesAre = λ u less. absurd (omega arith);
+        sizes_are = λ u less. absurd (omega arith);
       }
 
   module _ (sizes : List ℕ) (q t : ℕ) (s : Cornering layout levels centre sizes q t) where
-    pub cornering-ends : layout.axes ≤ t → Corner layout levels centre sizes q
-    cornering-ends past =
+    pub cornering_ends : layout.axes ≤ t → Corner layout levels centre sizes q
+    cornering_ends past =
         record {
           inside = s.inside;
           lowest = λ u lt. s.lowest u (omega arith);
-          sizesAre = λ u lt. s.sizesAre u (omega arith);
+          sizes_are = λ u lt. s.sizes_are u (omega arith);
         }
 
-    module _ (axis : t < layout.axes) (half stride : ℕ) (halfIs : half ≡ 2 ^ at levels t) (strideIs : stride ≡ pointsTo (topsOf layout) t) where
-      half-fits : half ≤ placeAt (topsOf layout) q t
-      half-fits =
+    module _ (axis : t < layout.axes) (half stride : ℕ) (half_is : half ≡ 2 ^ at levels t) (stride_is : stride ≡ points_to (tops_of layout) t) where
+      half_fits : half ≤ place_at (tops_of layout) q t
+      half_fits =
           omega (
             arith,
-            box-low (turnOf layout levels centre t 0) (ground t 0 axis) t axis,
+            box_low (turn_of layout levels centre t 0) (ground t 0 axis) t axis,
             s.rest t (omega arith) axis,
           )
 
-      pub half-some : 1 ≤ half
-      half-some = omega (arith, pow_pos (at levels t))
+      pub half_some : 1 ≤ half
+      half_some = omega (arith, pow_pos (at levels t))
 
-      pub half-small : half ≤ 256
-      half-small = omega (arith, half-most (turnOf layout levels centre t 0) (ground t 0 axis) t axis)
+      pub half_small : half ≤ 256
+      half_small = omega (arith, half_most (turn_of layout levels centre t 0) (ground t 0 axis) t axis)
 
-      pub product-fits : (half - 1) * stride ≤ 8388608
-      product-fits =
-          times-most (half - 1) stride 256 32768 (omega (arith, half-small))
-          (omega (arith, stride_most (turnOf layout levels centre t 0) (ground t 0 axis) t axis))
+      pub product_fits : (half - 1) * stride ≤ 8388608
+      product_fits =
+          times_most (half - 1) stride 256 32768 (omega (arith, half_small))
+          (omega (arith, stride_most (turn_of layout levels centre t 0) (ground t 0 axis) t axis))
 
       -- The step down on the axis.
       pub enough : (half - 1) * stride ≤ q
       enough =
-          rw strideIs
-          (shift-down layout.axes (topsOf layout) t q (half - 1) axis s.inside (omega (arith, half-fits, half-some))).0
+          rw stride_is
+          (shift_down layout.axes (tops_of layout) t q (half - 1) axis s.inside (omega (arith, half_fits, half_some))).0
 
-      stepped : Shifted layout.axes (topsOf layout) t q (q - (half - 1) * stride) (placeAt (topsOf layout) q t - (half - 1))
+      stepped : Shifted layout.axes (tops_of layout) t q (q - (half - 1) * stride) (place_at (tops_of layout) q t - (half - 1))
       stepped =
-          rw strideIs
-          (shift-down layout.axes (topsOf layout) t q (half - 1) axis s.inside (omega (arith, half-fits, half-some))).1
+          rw stride_is
+          (shift_down layout.axes (tops_of layout) t q (half - 1) axis s.inside (omega (arith, half_fits, half_some))).1
 
-      pub cornering-steps : Cornering layout levels centre (set sizes t (2 * half - 1)) (q - (half - 1) * stride) (t + 1)
-      cornering-steps =
+      pub cornering_steps : Cornering layout levels centre (set sizes t (2 * half - 1)) (q - (half - 1) * stride) (t + 1)
+      cornering_steps =
           record {
             most = omega arith;
             long = length-set sizes t (2 * half - 1) ∙ s.long;
             inside = stepped.inside;
             lowest =
                 λ u less.
-                eq-or-not u t
-                (λ e. rw e (omega (arith, stepped.own, half-fits, half-some, s.rest t (omega arith) axis)))
+                eq_or_not u t
+                (λ e. rw e (omega (arith, stepped.own, half_fits, half_some, s.rest t (omega arith) axis)))
                 (λ ne. omega (arith, stepped.others u (omega arith) ne, s.lowest u (omega arith)));
             rest =
                 λ u from lt.
                 stepped.others u lt (λ e. omega arith) ∙ s.rest u (omega arith) lt;
-            sizesAre =
+            sizes_are =
                 λ u less.
-                eq-or-not u t
+                eq_or_not u t
                 (λ e.
                 rw e
                 (get_or-set_same sizes t (2 * half - 1) 0 (omega (arith, s.long, s.most, laid.few))
-                ∙ omega (arith, across-is (at levels t), pow-suc 2 (at levels t))))
-                (λ ne. get_or-set_other sizes t u (2 * half - 1) 0 ne ∙ s.sizesAre u (omega arith));
+                ∙ omega (arith, across_is (at levels t), pow-suc 2 (at levels t))))
+                (λ ne. get_or-set_other sizes t u (2 * half - 1) 0 ne ∙ s.sizes_are u (omega arith));
           }

@@ -9,29 +9,29 @@ use native.Mathlib.Numerals.{add-one}
 use native.Mathlib.Omega.{arith}
 use lib.Pow.{pow_mono}
 use Rattle.numbering.specs.Point.{at}
-use Rattle.component_grids.specs.Component.{across, pointsTo}
-use Rattle.component_grids.proofs.Places.{across-is, across-pos, pointsTo-zero, pointsTo-suc, pointsTo-pos}
+use Rattle.component_grids.specs.Component.{across, points_to}
+use Rattle.component_grids.proofs.Places.{across_is, across_pos, points_to_zero, points_to_suc, points_to_pos}
 use Rattle.component_sweeps.specs.declared.Layout.{Layout}
 use Rattle.component_sweeps.specs.declared.Spread.{Spread}
-use Rattle.component_sweeps.specs.Steps.{topsOf, Ground, Banded, turnOf, Boxed, Covers}
-use Rattle.component_boxes.proofs.Falling.{points-before}
-use Rattle.component_sweeps.proofs.Bounds.{times-most}
-use Rattle.component_sweeps.proofs.Widths.{no-axis, turned-axis, single-axis, more-lines, next-lines, wider-run, next-run}
+use Rattle.component_sweeps.specs.Steps.{tops_of, Ground, Banded, turn_of, Boxed, Covers}
+use Rattle.component_boxes.proofs.Falling.{points_before}
+use Rattle.component_sweeps.proofs.Bounds.{times_most}
+use Rattle.component_sweeps.proofs.Widths.{no_axis_lem, turned_axis, single_axis, more_lines, next_lines, wider_run, next_run}
 
 module _ (layout : Layout) (levels : List ℕ) (axis : ℕ) where
   abbrev tops : ℕ → ℕ
-  tops = topsOf layout
+  tops = tops_of layout
 
-  pub covers-none : Covers layout levels axis (record { from = 0; width = 1; lines = 1; apart = 1; unit = 1 })
-  covers-none =
+  pub covers_none : Covers layout levels axis (record { from = 0; width = 1; lines = 1; apart = 1; unit = 1 })
+  covers_none =
       record {
         few = omega arith;
         many = omega arith;
         far = omega arith;
         step = omega arith;
-        short = omega (arith, pointsTo-zero tops);
-        low = omega (arith, pointsTo-zero tops);
-        banded = λ c from ground. no-axis _ ground;
+        short = omega (arith, points_to_zero tops);
+        low = omega (arith, points_to_zero tops);
+        banded = λ c from ground. no_axis_lem _ ground;
       }
 
   module _ (sizes : List ℕ) (boxed : Boxed layout levels sizes axis) where
@@ -48,74 +48,74 @@ module _ (layout : Layout) (levels : List ℕ) (axis : ℕ) where
       pub few : u < 8
       few = omega (arith, boxed.laid.few)
 
-      sizeIs : size ≡ across (at levels u)
-      sizeIs = boxed.sizesAre u less
+      size_is : size ≡ across (at levels u)
+      size_is = boxed.sizes_are u less
 
-      strideIs : stride ≡ pointsTo tops u
-      strideIs = boxed.laid.strides u less
+      stride_is : stride ≡ points_to tops u
+      stride_is = boxed.laid.strides u less
 
-      grows : pointsTo tops u ≤ pointsTo tops (u + 1)
-      grows = points-before tops u (u + 1) (omega arith)
+      grows : points_to tops u ≤ points_to tops (u + 1)
+      grows = points_before tops u (u + 1) (omega arith)
 
       -- The points of the axis lie within the next stride.
-      within : stride * size ≤ pointsTo tops (u + 1)
+      within : stride * size ≤ points_to tops (u + 1)
       within =
           omega (
             arith,
-            strideIs,
-            sizeIs,
-            ap (λ (y : ℕ). pointsTo tops y) (add-one u),
-            pointsTo-suc tops u,
-            times-most stride size (pointsTo tops u) (across (tops u)) (omega (arith, strideIs))
+            stride_is,
+            size_is,
+            ap (λ (y : ℕ). points_to tops y) (add-one u),
+            points_to_suc tops u,
+            times_most stride size (points_to tops u) (across (tops u)) (omega (arith, stride_is))
                 (omega (
                   arith,
-                  sizeIs,
-                  across-is (at levels u),
-                  across-is (tops u),
+                  size_is,
+                  across_is (at levels u),
+                  across_is (tops u),
                   pow_mono {i = suc (at levels u)} {j = suc (tops u)} (omega (arith, boxed.within u less)),
                 )),
           )
 
       -- ---- how large the numbers are
 
-      small : pointsTo tops u ≤ 32768
-      small = omega (arith, points-before tops u layout.axes (omega arith), boxed.laid.small)
+      small : points_to tops u ≤ 32768
+      small = omega (arith, points_before tops u layout.axes (omega arith), boxed.laid.small)
 
-      size-most : size ≤ 32768
-      size-most =
+      size_most : size ≤ 32768
+      size_most =
           omega (
             arith,
             within,
-            points-before tops (u + 1) layout.axes (omega arith),
+            points_before tops (u + 1) layout.axes (omega arith),
             boxed.laid.small,
-            mul-le-mul_right {m = 1} {n = stride} size (omega (arith, strideIs, pointsTo-pos tops u)),
+            mul-le-mul_right {m = 1} {n = stride} size (omega (arith, stride_is, points_to_pos tops u)),
           )
 
-      pub run-most : b.width * b.unit ≤ 32768
-      run-most = omega (arith, so.short, small)
+      pub run_most : b.width * b.unit ≤ 32768
+      run_most = omega (arith, so.short, small)
 
-      pub lines-most : b.lines * b.apart ≤ 32768
-      lines-most = omega (arith, so.low, small)
+      pub lines_most : b.lines * b.apart ≤ 32768
+      lines_most = omega (arith, so.low, small)
 
-      pub lines-product : b.lines * size ≤ 1073741824
-      lines-product =
-          times-most b.lines size 32768 32768
-          (omega (arith, lines-most, mul-le-mul_right {m = 1} {n = b.apart} b.lines so.far, mul_comm b.apart b.lines))
-          size-most
+      pub lines_product : b.lines * size ≤ 1073741824
+      lines_product =
+          times_most b.lines size 32768 32768
+          (omega (arith, lines_most, mul-le-mul_right {m = 1} {n = b.apart} b.lines so.far, mul_comm b.apart b.lines))
+          size_most
 
-      pub width-product : b.width * size ≤ 1073741824
-      width-product =
-          times-most b.width size 32768 32768
-          (omega (arith, run-most, mul-le-mul_right {m = 1} {n = b.unit} b.width so.step, mul_comm b.unit b.width))
-          size-most
+      pub width_product : b.width * size ≤ 1073741824
+      width_product =
+          times_most b.width size 32768 32768
+          (omega (arith, run_most, mul-le-mul_right {m = 1} {n = b.unit} b.width so.step, mul_comm b.unit b.width))
+          size_most
 
       -- ---- the steps
 
       -- The same band, with an axis that adds nothing.
-      covers-same : ((c from : ℕ) (ground : Ground (turnOf layout levels c axis from)) →
-          Banded (turnOf layout levels c axis from) (u + 1) b.width b.lines b.apart b.unit) →
+      covers_same : ((c from : ℕ) (ground : Ground (turn_of layout levels c axis from)) →
+          Banded (turn_of layout levels c axis from) (u + 1) b.width b.lines b.apart b.unit) →
           Covers layout levels axis (record { from = u + 1; width = b.width; lines = b.lines; apart = b.apart; unit = b.unit })
-      covers-same banded =
+      covers_same banded =
           record {
             few = omega arith;
             many = so.many;
@@ -126,34 +126,34 @@ module _ (layout : Layout) (levels : List ℕ) (axis : ℕ) where
             banded = banded;
           }
 
-      pub covers-turned : u ≡ axis → Covers layout levels axis (record { from = u + 1; width = b.width; lines = b.lines; apart = b.apart; unit = b.unit })
-      covers-turned e = covers-same (λ c from ground. turned-axis _ ground u _ _ _ _ (so.banded c from ground) e)
+      pub covers_turned : u ≡ axis → Covers layout levels axis (record { from = u + 1; width = b.width; lines = b.lines; apart = b.apart; unit = b.unit })
+      covers_turned e = covers_same (λ c from ground. turned_axis _ ground u _ _ _ _ (so.banded c from ground) e)
 
-      pub covers-single : size ≡ 1 → Covers layout levels axis (record { from = u + 1; width = b.width; lines = b.lines; apart = b.apart; unit = b.unit })
-      covers-single e = covers-same (λ c from ground. single-axis _ ground u _ _ _ _ (so.banded c from ground) less (sym sizeIs ∙ e))
+      pub covers_single : size ≡ 1 → Covers layout levels axis (record { from = u + 1; width = b.width; lines = b.lines; apart = b.apart; unit = b.unit })
+      covers_single e = covers_same (λ c from ground. single_axis _ ground u _ _ _ _ (so.banded c from ground) less (sym size_is ∙ e))
 
       module _ (other : u ≡ axis → ⊥) where
         module _ (one : b.lines ≡ 1) where
-          banded-one : (c from : ℕ) (ground : Ground (turnOf layout levels c axis from)) → Banded (turnOf layout levels c axis from) u b.width 1 b.apart b.unit
-          banded-one c from ground = rw one at (so.banded c from ground)
+          banded_one : (c from : ℕ) (ground : Ground (turn_of layout levels c axis from)) → Banded (turn_of layout levels c axis from) u b.width 1 b.apart b.unit
+          banded_one c from ground = rw one at (so.banded c from ground)
 
-          pub covers-run : b.width ≡ 1 → Covers layout levels axis (record { from = u + 1; width = size; lines = b.lines; apart = b.apart; unit = stride })
-          covers-run narrow =
+          pub covers_run : b.width ≡ 1 → Covers layout levels axis (record { from = u + 1; width = size; lines = b.lines; apart = b.apart; unit = stride })
+          covers_run narrow =
               record {
                 few = omega arith;
                 many = so.many;
                 far = so.far;
-                step = omega (arith, strideIs, pointsTo-pos tops u);
+                step = omega (arith, stride_is, points_to_pos tops u);
                 short = omega (arith, within, mul_comm stride size);
                 low = omega (arith, so.low, grows);
                 banded =
                     λ c from ground.
-                    rw (one, sizeIs, strideIs) (next-run _ ground u less other _ _ (rw narrow at (banded-one c from ground)));
+                    rw (one, size_is, stride_is) (next_run _ ground u less other _ _ (rw narrow at (banded_one c from ground)));
               }
 
-          pub covers-wider : b.width * b.unit ≡ stride →
+          pub covers_wider : b.width * b.unit ≡ stride →
               Covers layout levels axis (record { from = u + 1; width = b.width * size; lines = b.lines; apart = b.apart; unit = b.unit })
-          covers-wider ends =
+          covers_wider ends =
               record {
                 few = omega arith;
                 many = so.many;
@@ -172,21 +172,21 @@ module _ (layout : Layout) (levels : List ℕ) (axis : ℕ) where
                 low = omega (arith, so.low, grows);
                 banded =
                     λ c from ground.
-                    rw (one, sizeIs) (wider-run _ ground u less other _ _ _ (banded-one c from ground) (ends ∙ strideIs));
+                    rw (one, size_is) (wider_run _ ground u less other _ _ _ (banded_one c from ground) (ends ∙ stride_is));
               }
 
-          pub covers-lines : Covers layout levels axis (record { from = u + 1; width = b.width; lines = size; apart = stride; unit = b.unit })
-          covers-lines =
+          pub covers_lines : Covers layout levels axis (record { from = u + 1; width = b.width; lines = size; apart = stride; unit = b.unit })
+          covers_lines =
               record {
                 few = omega arith;
-                many = omega (arith, sizeIs, across-pos (at levels u));
-                far = omega (arith, strideIs, pointsTo-pos tops u);
+                many = omega (arith, size_is, across_pos (at levels u));
+                far = omega (arith, stride_is, points_to_pos tops u);
                 step = so.step;
                 short = omega (arith, so.short, grows);
                 low = omega (arith, within, mul_comm stride size);
                 banded =
                     λ c from ground.
-                    rw (sizeIs, strideIs) (next-lines _ ground u less other _ _ _ (banded-one c from ground) so.short);
+                    rw (size_is, stride_is) (next_lines _ ground u less other _ _ _ (banded_one c from ground) so.short);
               }
 
         pub covers_more : (b.lines ≡ 1 → ⊥) → b.lines * b.apart ≡ stride →
@@ -194,7 +194,7 @@ module _ (layout : Layout) (levels : List ℕ) (axis : ℕ) where
         covers_more many ends =
             record {
               few = omega arith;
-              many = mul-pos so.many (omega (arith, sizeIs, across-pos (at levels u)));
+              many = mul-pos so.many (omega (arith, size_is, across_pos (at levels u)));
               far = so.far;
               step = so.step;
               short = omega (arith, so.short, grows);
@@ -209,7 +209,7 @@ module _ (layout : Layout) (levels : List ℕ) (axis : ℕ) where
                   );
               banded =
                   λ c from ground.
-                  rw sizeIs
-                  (more-lines _ ground u _ _ _ _ (so.banded c from ground) less other (ends ∙ strideIs) so.many
+                  rw size_is
+                  (more_lines _ ground u _ _ _ _ (so.banded c from ground) less other (ends ∙ stride_is) so.many
                   ((so.banded c from ground).wide (omega (arith, so.many))));
             }

@@ -11,16 +11,16 @@ use native.Mathlib.Nat.{pow-suc}
 use native.Mathlib.Omega.{arith}
 use lib.IntN.{ℤ}
 use lib.Pow.{pow_pos, pow_mono}
-use Rattle.naturals.proofs.Cases.{le-or-lt, eq-or-not}
+use Rattle.naturals.proofs.Cases.{le_or_lt, eq_or_not}
 use Rattle.numbering.specs.Parent.{twos}
-use Rattle.component_grids.proofs.Places.{place-low, place-high}
-use Rattle.component_grids.proofs.Beside.{reach-le}
-use Rattle.component_boxes.proofs.Reach.{reach-multiple}
-use Rattle.component_sweeps.specs.Steps.{CanBand, LoweredOn, InBand, Turn, placeOn, middle, Turned, Row, Along, Reaches, ClassOf, LineOf}
-use Rattle.component_sweeps.proofs.Apart.{Apart, turned_none, limited-next, turned-both}
-use Rattle.component_sweeps.proofs.Reaching.{reach-grows, reach-less, middle-only}
-use Rattle.component_sweeps.proofs.Lines.{Parents, box-low, kinds-apart, band-can, band-turned, band-still}
-use Rattle.component_sweeps.proofs.Bounds.{times-most, stride_most, half-most, end-most}
+use Rattle.component_grids.proofs.Places.{place_low, place_high}
+use Rattle.component_grids.proofs.Beside.{reach_le}
+use Rattle.component_boxes.proofs.Reach.{reach_multiple}
+use Rattle.component_sweeps.specs.Steps.{CanBand, LoweredOn, InBand, Turn, place_on, middle, Turned, Row, Along, Reaches, ClassOf, LineOf}
+use Rattle.component_sweeps.proofs.Apart.{Apart, turned_none, limited_next, turned_both}
+use Rattle.component_sweeps.proofs.Reaching.{reach_grows, reach_less, middle_only}
+use Rattle.component_sweeps.proofs.Lines.{Parents, box_low, kinds_apart, band_can, band_turned, band_still}
+use Rattle.component_sweeps.proofs.Bounds.{times_most, stride_most, half_most, end_most}
 
 -- A place that reaches less far.
 abbrev pub Finer : ℕ → ℕ → Type 0
@@ -42,94 +42,94 @@ module _ (q width lines apart unit stride place half own end : ℕ) (g : Turn) (
 
     -- ---- how large the numbers are
 
-    pub half-fits : (half ≤ place) × (half ≤ 256) × (place ≤ 512)
-    half-fits = (
-      omega (arith, of.middle.halfIs, of.middle.placeIs, box-low g of.numbers.ground t axis),
-      omega (arith, of.middle.halfIs, half-most g of.numbers.ground t axis),
-      omega (arith, of.middle.placeIs, place-high g.tops g.centre t, end-most g of.numbers.ground t),
+    pub half_fits : (half ≤ place) × (half ≤ 256) × (place ≤ 512)
+    half_fits = (
+      omega (arith, of.middle.half_is, of.middle.place_is, box_low g of.numbers.ground t axis),
+      omega (arith, of.middle.half_is, half_most g of.numbers.ground t axis),
+      omega (arith, of.middle.place_is, place_high g.tops g.centre t, end_most g of.numbers.ground t),
     )
 
-    pub half-some : 1 ≤ half
-    half-some = omega (arith, of.middle.halfIs, pow_pos (g.levels t))
+    pub half_some : 1 ≤ half
+    half_some = omega (arith, of.middle.half_is, pow_pos (g.levels t))
 
-    pub own-most : own ≤ place
-    own-most =
+    pub own_most : own ≤ place
+    own_most =
         omega (
           arith,
-          of.middle.reachIs,
-          reach-le place (omega (arith, of.middle.placeIs, place-low g.tops g.centre t)),
+          of.middle.reach_is,
+          reach_le place (omega (arith, of.middle.place_is, place_low g.tops g.centre t)),
         )
 
-    pub stride-small : stride ≤ 32768
-    stride-small = omega (arith, of.numbers.strideIs, stride_most g of.numbers.ground t axis)
+    pub stride_small : stride ≤ 32768
+    stride_small = omega (arith, of.numbers.stride_is, stride_most g of.numbers.ground t axis)
 
-    pub far-most : stride * own ≤ 16777216
-    far-most = times-most stride own 32768 512 stride-small (omega (arith, own-most, half-fits))
+    pub far_most : stride * own ≤ 16777216
+    far_most = times_most stride own 32768 512 stride_small (omega (arith, own_most, half_fits))
 
-    pub middle-most : (half - 1) * stride ≤ 8388608
-    middle-most = times-most (half - 1) stride 256 32768 (omega (arith, half-fits)) stride-small
+    pub middle_most : (half - 1) * stride ≤ 8388608
+    middle_most = times_most (half - 1) stride 256 32768 (omega (arith, half_fits)) stride_small
 
-    pub first-most : q < 32768
-    first-most = omega (arith, of.first.near.inside, of.numbers.ground.small)
+    pub first_most : q < 32768
+    first_most = omega (arith, of.first.near.inside, of.numbers.ground.small)
 
     -- ---- the loop
 
-    pub refining-starts : Refining xs 1
-    refining-starts =
+    pub refining_starts : Refining xs 1
+    refining_starts =
         record {
           power = 0;
           is = refl;
           most = omega arith;
-          turned = turned_none g.axes g.tops t xs (λ p l. omega (arith, l.there, pow_pos (twos (placeOn g p t))));
+          turned = turned_none g.axes g.tops t xs (λ p l. omega (arith, l.there, pow_pos (twos (place_on g p t))));
         }
 
     module _ (ys : List ℤ) (r : ℕ) (s : Refining ys r) where
-      pub refining-some : 1 ≤ r
-      refining-some = omega (arith, s.is, pow_pos s.power)
+      pub refining_some : 1 ≤ r
+      refining_some = omega (arith, s.is, pow_pos s.power)
 
-      refining-most : r ≤ half
-      refining-most = omega (arith, s.is, of.middle.halfIs, pow_mono {i = s.power} {j = g.levels t} s.most)
+      refining_most : r ≤ half
+      refining_most = omega (arith, s.is, of.middle.half_is, pow_mono {i = s.power} {j = g.levels t} s.most)
 
       -- One reach more.
       module _ (less : r < half) where
         finer : s.power < g.levels t
         finer =
-            le-or-lt (g.levels t) s.power
-            (λ le. absurd (omega (arith, s.is, of.middle.halfIs, pow_mono {i = g.levels t} {j = s.power} le)))
+            le_or_lt (g.levels t) s.power
+            (λ le. absurd (omega (arith, s.is, of.middle.half_is, pow_mono {i = g.levels t} {j = s.power} le)))
             (λ lt. lt)
 
         separate : Apart g.axes g.tops t (Along g g.from q (Finer r)) (Along g g.from q (Reaches r))
         separate =
-            kinds-apart g of.numbers.ground g.from q
+            kinds_apart g of.numbers.ground g.from q
             (λ y same less. omega arith)
-            (λ b y some there same less. omega (arith, reach-grows b y some there))
+            (λ b y some there same less. omega (arith, reach_grows b y some there))
 
-        pub refining-class : ClassOf q width lines apart unit stride (place - half) (place + half) r end g ys
-        refining-class =
+        pub refining_class : ClassOf q width lines apart unit stride (place - half) (place + half) r end g ys
+        refining_class =
             record {
               numbers = of.numbers;
               first = of.first;
-              lowIs = omega (arith, half-fits, of.middle.halfIs, of.middle.placeIs);
-              highIs = omega (arith, of.middle.halfIs, of.middle.placeIs);
+              low_is = omega (arith, half_fits, of.middle.half_is, of.middle.place_is);
+              high_is = omega (arith, of.middle.half_is, of.middle.place_is);
               power = s.power;
-              reachIs = s.is;
+              reach_is = s.is;
               finer = finer;
-              asked = limited-next g.axes g.tops t separate s.turned (λ p l. l.row) (λ p l. l.row) of.asked;
+              asked = limited_next g.axes g.tops t separate s.turned (λ p l. l.row) (λ p l. l.row) of.asked;
             }
 
-        pub refining-steps : (zs : List ℤ) → Turned g (Along g g.from q (Reaches r)) ys zs → Refining zs (r * 2)
-        refining-steps zs u =
+        pub refining_steps : (zs : List ℤ) → Turned g (Along g g.from q (Reaches r)) ys zs → Refining zs (r * 2)
+        refining_steps zs u =
             record {
               power = suc s.power;
               is = omega (arith, s.is, pow-suc 2 s.power);
               most = finer;
               turned =
-                  turned-both g.axes g.tops t separate s.turned
+                  turned_both g.axes g.tops t separate s.turned
                   (λ p l. record { row = l.row; there = omega (arith, l.there) })
-                  (λ p l. record { row = l.row; there = omega (arith, l.there, refining-some) })
+                  (λ p l. record { row = l.row; there = omega (arith, l.there, refining_some) })
                   (λ p l.
-                  let y = placeOn g p t in
-                  eq-or-not (2 ^ twos y) r
+                  let y = place_on g p t in
+                  eq_or_not (2 ^ twos y) r
                   (λ e. inr (record { row = l.row; there = e }))
                   (λ ne.
                   inl
@@ -139,7 +139,7 @@ module _ (q width lines apart unit stride place half own end : ℕ) (g : Turn) (
                         omega (
                           arith,
                           s.is,
-                          reach-less s.power y (omega (arith, l.there, s.is)) (λ e. ne (e ∙ sym s.is)),
+                          reach_less s.power y (omega (arith, l.there, s.is)) (λ e. ne (e ∙ sym s.is)),
                         );
                   })))
                   u;
@@ -147,63 +147,63 @@ module _ (q width lines apart unit stride place half own end : ℕ) (g : Turn) (
 
       -- The middle.
       module _ (all : half ≤ r) where
-        h-is : place ≡ placeOn g q t + (half - 1)
-        h-is = omega (arith, of.first.own, of.middle.halfIs, of.middle.placeIs, half-some)
+        h_is : place ≡ place_on g q t + (half - 1)
+        h_is = omega (arith, of.first.own, of.middle.half_is, of.middle.place_is, half_some)
 
         inside : place < middle g t + 2 ^ g.levels t
-        inside = omega (arith, of.middle.placeIs, pow_pos (g.levels t))
+        inside = omega (arith, of.middle.place_is, pow_pos (g.levels t))
 
         far : half ≤ 2 ^ twos place
         far =
             omega (
               arith,
-              of.middle.halfIs,
-              reach-multiple (g.levels t) (of.numbers.ground.fits.times t) place
-                  (omega (arith, of.middle.placeIs, place-low g.tops g.centre t))
-                  (of.middle.placeIs ∙ of.numbers.ground.fits.aligned t axis),
+              of.middle.half_is,
+              reach_multiple (g.levels t) (of.numbers.ground.fits.times t) place
+                  (omega (arith, of.middle.place_is, place_low g.tops g.centre t))
+                  (of.middle.place_is ∙ of.numbers.ground.fits.aligned t axis),
             )
 
         last_apart : Apart g.axes g.tops t (Along g g.from q (Finer r)) (Along g g.from q (λ y. y ≡ place))
         last_apart =
-            kinds-apart g of.numbers.ground g.from q
-            (λ y same less. omega (arith, far, refining-most, ap (λ (n : ℕ). 2 ^ twos n) same))
+            kinds_apart g of.numbers.ground g.from q
+            (λ y same less. omega (arith, far, refining_most, ap (λ (n : ℕ). 2 ^ twos n) same))
             (λ b y some there same less.
-            omega (arith, reach-grows b y some there, far, refining-most, ap (λ (n : ℕ). 2 ^ twos n) same))
+            omega (arith, reach_grows b y some there, far, refining_most, ap (λ (n : ℕ). 2 ^ twos n) same))
 
-        pub last-can : (left right : Bool) → Parents place own end left right → CanBand (q + (half - 1) * stride) width lines apart unit (stride * own) left right ys
-        last-can left right parents =
-            band-can g width lines apart unit stride end of.numbers q of.first (half - 1) place h-is inside own (sym of.middle.reachIs) left right parents ys
-            (limited-next g.axes g.tops t last_apart s.turned (λ p l. l.row) (λ p l. l.row) of.asked)
+        pub last_can : (left right : Bool) → Parents place own end left right → CanBand (q + (half - 1) * stride) width lines apart unit (stride * own) left right ys
+        last_can left right parents =
+            band_can g width lines apart unit stride end of.numbers q of.first (half - 1) place h_is inside own (sym of.middle.reach_is) left right parents ys
+            (limited_next g.axes g.tops t last_apart s.turned (λ p l. l.row) (λ p l. l.row) of.asked)
 
-        with-middle : (zs : List ℤ) → Turned g (Along g g.from q (λ y. y ≡ place)) ys zs → Turned g (Row g g.from q) xs zs
-        with-middle zs turned =
-            turned-both g.axes g.tops t last_apart s.turned (λ p l. l.row) (λ p l. l.row)
+        with_middle : (zs : List ℤ) → Turned g (Along g g.from q (λ y. y ≡ place)) ys zs → Turned g (Row g g.from q) xs zs
+        with_middle zs turned =
+            turned_both g.axes g.tops t last_apart s.turned (λ p l. l.row) (λ p l. l.row)
             (λ p row.
-            let y = placeOn g p t in
-            le-or-lt half (2 ^ twos y)
+            let y = place_on g p t in
+            le_or_lt half (2 ^ twos y)
             (λ far.
             inr
             (record {
               row = row;
               there =
-                  middle-only (g.levels t) (of.numbers.ground.fits.times t) y (place-low g.tops p t)
+                  middle_only (g.levels t) (of.numbers.ground.fits.times t) y (place_low g.tops p t)
                   (omega (arith, row.near.low t axis, of.numbers.ground.fits.aligned t axis))
                   (omega (arith, row.near.high t axis, of.numbers.ground.fits.aligned t axis))
-                  (omega (arith, of.middle.halfIs))
+                  (omega (arith, of.middle.half_is))
                   ∙ sym (of.numbers.ground.fits.aligned t axis)
-                  ∙ sym of.middle.placeIs;
+                  ∙ sym of.middle.place_is;
             }))
             (λ less. inl (record { row = row; there = omega arith })))
             turned
 
-        pub line-ends : (left right : Bool) → Parents place own end left right → (zs : List ℤ) →
+        pub line_ends : (left right : Bool) → Parents place own end left right → (zs : List ℤ) →
             LoweredOn (stride * own) left right (InBand (q + (half - 1) * stride) width lines apart unit) ys zs → Turned g (Row g g.from q) xs zs
-        line-ends left right parents zs s =
-            with-middle zs
-            (band-turned g width lines apart unit stride end of.numbers q of.first (half - 1) place h-is inside own (sym of.middle.reachIs) left right
+        line_ends left right parents zs s =
+            with_middle zs
+            (band_turned g width lines apart unit stride end of.numbers q of.first (half - 1) place h_is inside own (sym of.middle.reach_is) left right
             parents ys zs s)
 
-        pub line-still : place ≡ own → place + own ≡ end → Turned g (Row g g.from q) xs ys
-        line-still left right =
-            with-middle ys
-            (band-still g width lines apart unit stride end of.numbers q of.first (half - 1) place h-is inside own (sym of.middle.reachIs) left right ys)
+        pub line_still : place ≡ own → place + own ≡ end → Turned g (Row g g.from q) xs ys
+        line_still left right =
+            with_middle ys
+            (band_still g width lines apart unit stride end of.numbers q of.first (half - 1) place h_is inside own (sym of.middle.reach_is) left right ys)

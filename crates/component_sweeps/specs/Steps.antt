@@ -1,40 +1,40 @@
 -- What a turn of one axis in a box asks and leaves.
 -- Assumes nothing.
 use Rattle.std.specs.Prelude.{Bool, true, List, ◌≡◌, ℕ, suc, ◌+◌, ◌-◌, ◌*◌, ◌^◌, ◌≤◌, ◌<◌, ℤ, ◌+ℤ◌, ◌-ℤ◌, length, if◌then◌else◌}
-use Rattle.integers.specs.Half.{half, inLimit}
+use Rattle.integers.specs.Half.{half, in_limit}
 use Rattle.numbering.specs.Point.{at}
 use Rattle.numbering.specs.Parent.{twos}
-use Rattle.hierarchy.specs.Turns.{valueAt, forward}
-use Rattle.shapes.specs.Shapes.{mostPoints}
-use Rattle.component_grids.specs.Component.{across, pointsTo, placeAt, neighbour}
+use Rattle.hierarchy.specs.Turns.{value_at, forward}
+use Rattle.shapes.specs.Shapes.{most_points}
+use Rattle.component_grids.specs.Component.{across, points_to, place_at, neighbour}
 use Rattle.component_boxes.specs.Boxes.{Near, Fits}
 use Rattle.component_sweeps.specs.declared.Spread.{Spread}
 use Rattle.component_sweeps.specs.declared.Layout.{Layout}
 
 -- The top levels of a layout, by axis.
-abbrev pub topsOf : Layout → ℕ → ℕ
-topsOf g = at g.tops
+abbrev pub tops_of : Layout → ℕ → ℕ
+tops_of g = at g.tops
 
 -- The layout of a component grid of at most 32,768 points.
 pub record Laid (g : Layout) : Type 0 where
   pub some : 1 ≤ g.axes
   pub few : g.axes ≤ 8
-  pub low : (t : ℕ) → topsOf g t ≤ 8
-  pub strides : (t : ℕ) → t < g.axes → at g.strides t ≡ pointsTo (topsOf g) t
-  pub small : pointsTo (topsOf g) g.axes ≤ mostPoints
+  pub low : (t : ℕ) → tops_of g t ≤ 8
+  pub strides : (t : ℕ) → t < g.axes → at g.strides t ≡ points_to (tops_of g) t
+  pub small : points_to (tops_of g) g.axes ≤ most_points
 
 module _ (d : ℕ) (tops : ℕ → ℕ) (t : ℕ) (set : ℕ → Type 0) where
   -- A table of the grid's points: its values are within the content limit, and those of the set are so after a forward turn on axis t.
   pub record Limited (xs : List ℤ) : Type 0 where
-    pub long : length xs ≡ pointsTo tops d
-    pub before : (p : ℕ) → inLimit (valueAt xs p) ≡ true
-    pub after : (p : ℕ) → set p → inLimit (forward (neighbour d tops) t (valueAt xs) (suc p)) ≡ true
+    pub long : length xs ≡ points_to tops d
+    pub before : (p : ℕ) → in_limit (value_at xs p) ≡ true
+    pub after : (p : ℕ) → set p → in_limit (forward (neighbour d tops) t (value_at xs) (suc p)) ≡ true
 
   -- The points of the set are turned forward on axis t, and all others are as they were.
   pub record TurnedOn (xs ys : List ℤ) : Type 0 where
     pub long : length ys ≡ length xs
-    pub on : (p : ℕ) → set p → valueAt ys (suc p) ≡ forward (neighbour d tops) t (valueAt xs) (suc p)
-    pub off : (p : ℕ) → (set p → ⊥) → valueAt ys (suc p) ≡ valueAt xs (suc p)
+    pub on : (p : ℕ) → set p → value_at ys (suc p) ≡ forward (neighbour d tops) t (value_at xs) (suc p)
+    pub off : (p : ℕ) → (set p → ⊥) → value_at ys (suc p) ≡ value_at xs (suc p)
 
 -- ---- one value, and a set of values
 
@@ -48,16 +48,16 @@ ahead p far some = if some then suc (p + far) else 0
 -- The value at position p less half the sum of those two.
 unfoldable pub lowered : List ℤ → ℕ → ℕ → Bool → Bool → ℤ
 lowered xs p far left right =
-    valueAt xs (suc p) -ℤ half (valueAt xs (behind p far left) +ℤ valueAt xs (ahead p far right))
+    value_at xs (suc p) -ℤ half (value_at xs (behind p far left) +ℤ value_at xs (ahead p far right))
 
 -- One position.
 pub record CanStep (p far : ℕ) (left right : Bool) (xs : List ℤ) : Type 0 where
   pub inside : p < length xs
   pub before : left ≡ true → far ≤ p
   pub after : right ≡ true → p + far < length xs
-  pub own : inLimit (valueAt xs (suc p)) ≡ true
-  pub behindIn : inLimit (valueAt xs (behind p far left)) ≡ true
-  pub aheadIn : inLimit (valueAt xs (ahead p far right)) ≡ true
+  pub own : in_limit (value_at xs (suc p)) ≡ true
+  pub behind_in : in_limit (value_at xs (behind p far left)) ≡ true
+  pub ahead_in : in_limit (value_at xs (ahead p far right)) ≡ true
 
 -- A set of positions.
 module _ (far : ℕ) (left right : Bool) (set : ℕ → Type 0) where
@@ -70,8 +70,8 @@ module _ (far : ℕ) (left right : Bool) (set : ℕ → Type 0) where
   -- Its values are lowered, and all others are as they were.
   pub record LoweredOn (xs ys : List ℤ) : Type 0 where
     pub long : length ys ≡ length xs
-    pub on : (p : ℕ) → set p → valueAt ys (suc p) ≡ lowered xs p far left right
-    pub off : (p : ℕ) → (set p → ⊥) → valueAt ys (suc p) ≡ valueAt xs (suc p)
+    pub on : (p : ℕ) → set p → value_at ys (suc p) ≡ lowered xs p far left right
+    pub off : (p : ℕ) → (set p → ⊥) → value_at ys (suc p) ≡ value_at xs (suc p)
 
 -- So many positions, each a unit from the one before.
 pub record InRun (first width unit p : ℕ) : Type 0 where
@@ -111,11 +111,11 @@ pub record Turn : Type 0 where
   pub from : ℕ
 
 module _ (g : Turn) where
-  abbrev pub placeOn : ℕ → ℕ → ℕ
-  placeOn p t = placeAt g.tops p t
+  abbrev pub place_on : ℕ → ℕ → ℕ
+  place_on p t = place_at g.tops p t
 
   abbrev pub middle : ℕ → ℕ
-  middle t = placeAt g.tops g.centre t
+  middle t = place_at g.tops g.centre t
 
   abbrev pub InBox : ℕ → Type 0
   InBox = Near g.axes g.tops g.levels g.centre
@@ -132,27 +132,27 @@ module _ (g : Turn) where
     pub fits : Fits g.axes g.tops g.levels g.centre
     pub low : (t : ℕ) → g.tops t ≤ 8
     pub few : g.axes ≤ 8
-    pub small : pointsTo g.tops g.axes ≤ mostPoints
+    pub small : points_to g.tops g.axes ≤ most_points
 
   -- The box's points that have the places of position q on the axes from j on, the turned one aside.
   pub record Row (j q p : ℕ) : Type 0 where
     pub near : InBox p
-    pub same : (u : ℕ) → j ≤ u → u < g.axes → (u ≡ g.axis → ⊥) → placeOn p u ≡ placeOn q u
+    pub same : (u : ℕ) → j ≤ u → u < g.axes → (u ≡ g.axis → ⊥) → place_on p u ≡ place_on q u
 
   -- Those among them whose place on the turned axis is of a kind.
   pub record Along (j q : ℕ) (kind : ℕ → Type 0) (p : ℕ) : Type 0 where
     pub row : Row j q p
-    pub there : kind (placeOn p g.axis)
+    pub there : kind (place_on p g.axis)
 
   -- Position q is the first of them: on the axes below j and on the turned one it has the box's lowest place.
   pub record First (j q : ℕ) : Type 0 where
     pub near : InBox q
-    pub below : (u : ℕ) → u < j → u < g.axes → placeOn q u + 2 ^ g.levels u ≡ middle u + 1
-    pub own : placeOn q g.axis + 2 ^ g.levels g.axis ≡ middle g.axis + 1
+    pub below : (u : ℕ) → u < j → u < g.axes → place_on q u + 2 ^ g.levels u ≡ middle u + 1
+    pub own : place_on q g.axis + 2 ^ g.levels g.axis ≡ middle g.axis + 1
 
   -- The points of the lines of a band with one place on the turned axis: those that have the places of position q on the axes from j on.
   abbrev pub Across : ℕ → ℕ → ℕ → Type 0
-  Across j q = Along j q (λ x. x ≡ placeOn q g.axis)
+  Across j q = Along j q (λ x. x ≡ place_on q g.axis)
 
   -- From the first of them on, they are a band.
   pub record Banded (j width lines apart unit : ℕ) : Type 0 where
@@ -166,14 +166,14 @@ module _ (g : Turn) where
   pub record Numbers (width lines apart unit stride end : ℕ) : Type 0 where
     pub ground : Ground
     pub banded : Banded g.from width lines apart unit
-    pub strideIs : stride ≡ pointsTo g.tops g.axis
-    pub endIs : end ≡ 2 ^ suc (g.tops g.axis)
+    pub stride_is : stride ≡ points_to g.tops g.axis
+    pub end_is : end ≡ 2 ^ suc (g.tops g.axis)
 
   -- Of the middle point there: its place, and how far the box and the point itself reach.
   pub record Middle (place half reach : ℕ) : Type 0 where
-    pub placeIs : place ≡ middle g.axis
-    pub halfIs : half ≡ 2 ^ g.levels g.axis
-    pub reachIs : reach ≡ 2 ^ twos place
+    pub place_is : place ≡ middle g.axis
+    pub half_is : half ≡ 2 ^ g.levels g.axis
+    pub reach_is : reach ≡ 2 ^ twos place
 
 -- A place that reaches so far.
 abbrev pub Reaches : ℕ → ℕ → Type 0
@@ -184,10 +184,10 @@ module _ (q width lines apart unit stride low high reach end : ℕ) where
   pub record ClassOf (g : Turn) (xs : List ℤ) : Type 0 where
     pub numbers : Numbers g width lines apart unit stride end
     pub first : First g g.from q
-    pub lowIs : low + 2 ^ g.levels g.axis ≡ middle g g.axis
-    pub highIs : high ≡ middle g g.axis + 2 ^ g.levels g.axis
+    pub low_is : low + 2 ^ g.levels g.axis ≡ middle g g.axis
+    pub high_is : high ≡ middle g g.axis + 2 ^ g.levels g.axis
     pub power : ℕ
-    pub reachIs : reach ≡ 2 ^ power
+    pub reach_is : reach ≡ 2 ^ power
     pub finer : power < g.levels g.axis
     pub asked : Asked g (Along g g.from q (Reaches reach)) xs
 
@@ -216,12 +216,12 @@ module _ (q width lines apart unit stride place half reach end : ℕ) where
 -- All lines of the box's points that have the places of position q from axis j on.
 module _ (strides sizes : List ℕ) (axis from width lines apart unit place half reach end j q : ℕ) where
   pub record RowsOf (g : Turn) (xs : List ℤ) : Type 0 where
-    pub axisIs : axis ≡ g.axis
-    pub fromIs : from ≡ g.from
-    pub numbers : Numbers g width lines apart unit (pointsTo g.tops g.axis) end
+    pub axis_is : axis ≡ g.axis
+    pub from_is : from ≡ g.from
+    pub numbers : Numbers g width lines apart unit (points_to g.tops g.axis) end
     pub middle : Middle g place half reach
-    pub stridesAre : (u : ℕ) → u < g.axes → at strides u ≡ pointsTo g.tops u
-    pub sizesAre : (u : ℕ) → u < g.axes → at sizes u ≡ across (g.levels u)
+    pub strides_are : (u : ℕ) → u < g.axes → at strides u ≡ points_to g.tops u
+    pub sizes_are : (u : ℕ) → u < g.axes → at sizes u ≡ across (g.levels u)
     pub least : from ≤ j
     pub most : j ≤ g.axes
     pub first : First g j q
@@ -237,11 +237,11 @@ module _ (strides sizes : List ℕ) (axis from width lines apart unit place half
 -- ---- the whole box
 
 -- The turn of axis t in the box of a layout.
-abbrev pub turnOf : Layout → List ℕ → ℕ → ℕ → ℕ → Turn
-turnOf g levels centre t from =
+abbrev pub turn_of : Layout → List ℕ → ℕ → ℕ → ℕ → Turn
+turn_of g levels centre t from =
     record {
       axes = g.axes;
-      tops = topsOf g;
+      tops = tops_of g;
       levels = at levels;
       centre = centre;
       axis = t;
@@ -250,15 +250,15 @@ turnOf g levels centre t from =
 
 -- Position q is the box's first, with the lowest place on each axis, and so many points the box has on each.
 pub record Corner (g : Layout) (levels : List ℕ) (centre : ℕ) (sizes : List ℕ) (q : ℕ) : Type 0 where
-  pub inside : q < pointsTo (topsOf g) g.axes
-  pub lowest : (u : ℕ) → u < g.axes → placeAt (topsOf g) q u + 2 ^ at levels u ≡ placeAt (topsOf g) centre u + 1
-  pub sizesAre : (u : ℕ) → u < g.axes → at sizes u ≡ across (at levels u)
+  pub inside : q < points_to (tops_of g) g.axes
+  pub lowest : (u : ℕ) → u < g.axes → place_at (tops_of g) q u + 2 ^ at levels u ≡ place_at (tops_of g) centre u + 1
+  pub sizes_are : (u : ℕ) → u < g.axes → at sizes u ≡ across (at levels u)
 
 -- What the bands of a box are made from.
 pub record Boxed (g : Layout) (levels sizes : List ℕ) (t : ℕ) : Type 0 where
   pub laid : Laid g
-  pub sizesAre : (u : ℕ) → u < g.axes → at sizes u ≡ across (at levels u)
-  pub within : (u : ℕ) → u < g.axes → at levels u ≤ topsOf g u
+  pub sizes_are : (u : ℕ) → u < g.axes → at sizes u ≡ across (at levels u)
+  pub within : (u : ℕ) → u < g.axes → at levels u ≤ tops_of g u
   pub axis : t < g.axes
 
 -- They have the box's points on so many axes, wherever it lies; and neither a run nor the lines reach beyond the points of these axes.
@@ -267,6 +267,6 @@ pub record Covers (g : Layout) (levels : List ℕ) (t : ℕ) (b : Spread) : Type
   pub many : 1 ≤ b.lines
   pub far : 1 ≤ b.apart
   pub step : 1 ≤ b.unit
-  pub short : b.width * b.unit ≤ pointsTo (topsOf g) b.from
-  pub low : b.lines * b.apart ≤ pointsTo (topsOf g) b.from
-  pub banded : (c from : ℕ) → Ground (turnOf g levels c t from) → Banded (turnOf g levels c t from) b.from b.width b.lines b.apart b.unit
+  pub short : b.width * b.unit ≤ points_to (tops_of g) b.from
+  pub low : b.lines * b.apart ≤ points_to (tops_of g) b.from
+  pub banded : (c from : ℕ) → Ground (turn_of g levels c t from) → Banded (turn_of g levels c t from) b.from b.width b.lines b.apart b.unit

@@ -4,9 +4,9 @@
 ghost use Rattle.std.specs.Prelude.{true, ◌≡◌, ◌+◌, ◌^◌, ◌<◌, ◌≤◌, length, set};
 ghost use Rattle.numbering.specs.Point.{at};
 ghost use Rattle.numbering.specs.Parent.{twos};
-ghost use Rattle.hierarchy.specs.Turns.{valueAt};
+ghost use Rattle.hierarchy.specs.Turns.{value_at};
 ghost use Rattle.component_boxes.specs.Boxes.{Near, Fits};
-ghost use Rattle.component_sweeps.specs.Steps.{topsOf, Laid, Limited, TurnedOn, behind, ahead, lowered, CanStep, LoweredOn, InRun, InBand, CanRun, CanBand, Class, ClassTurned, Line, LineTurned, Rows, RowsTurned, Corner, Boxed, Covers};
+ghost use Rattle.component_sweeps.specs.Steps.{tops_of, Laid, Limited, TurnedOn, behind, ahead, lowered, CanStep, LoweredOn, InRun, InBand, CanRun, CanBand, Class, ClassTurned, Line, LineTurned, Rows, RowsTurned, Corner, Boxed, Covers};
 
 // How a component grid is laid out: its axes, the top level of each, and how many positions two points that follow each other on it lie apart.
 #[derive(Clone, Copy)]
@@ -19,7 +19,7 @@ pub struct Layout {
 // The value so far behind a position, where one is wanted.
 fn value_behind(table: &[i64], p: usize, far: usize, some: bool) -> i64
     requires { some ≡ true → (far ≤ p) × (p < length table.now) }
-    ensures { result ≡ valueAt table.now (behind p far some) }
+    ensures { result ≡ value_at table.now (behind p far some) }
 {
     if some {
         return table[p - far];
@@ -30,7 +30,7 @@ fn value_behind(table: &[i64], p: usize, far: usize, some: bool) -> i64
 // The value so far ahead of a position, where one is wanted.
 fn value_ahead(table: &[i64], p: usize, far: usize, some: bool) -> i64
     requires { some ≡ true → p + far < length table.now }
-    ensures { result ≡ valueAt table.now (ahead p far some) }
+    ensures { result ≡ value_at table.now (ahead p far some) }
 {
     if some {
         return table[p + far];
@@ -273,7 +273,7 @@ fn reach_of(place: u32) -> usize
 
 // The box's first position, and how many points it has on each axis.
 fn corner(layout: Layout, levels: [u32; 8], centre: usize, sizes: &mut [usize; 8]) -> usize
-    requires { Laid layout × Fits layout.axes (topsOf layout) (at levels) centre × (length sizes.old ≡ 8) }
+    requires { Laid layout × Fits layout.axes (tops_of layout) (at levels) centre × (length sizes.old ≡ 8) }
     ensures { Corner layout levels centre sizes.new result }
 {
     let strides = layout.strides;
@@ -360,8 +360,8 @@ fn bands(layout: Layout, levels: [u32; 8], sizes: &[usize; 8], axis: usize) -> S
 
 // One axis of the box of these levels around the point at position `centre`.
 pub fn sweep(layout: Layout, levels: [u32; 8], centre: usize, axis: usize, table: &mut [i64])
-    requires { Laid layout × Fits layout.axes (topsOf layout) (at levels) centre × (axis < layout.axes) × Limited layout.axes (topsOf layout) axis (Near layout.axes (topsOf layout) (at levels) centre) table.old }
-    ensures { TurnedOn layout.axes (topsOf layout) axis (Near layout.axes (topsOf layout) (at levels) centre) table.old table.new }
+    requires { Laid layout × Fits layout.axes (tops_of layout) (at levels) centre × (axis < layout.axes) × Limited layout.axes (tops_of layout) axis (Near layout.axes (tops_of layout) (at levels) centre) table.old }
+    ensures { TurnedOn layout.axes (tops_of layout) axis (Near layout.axes (tops_of layout) (at levels) centre) table.old table.new }
 {
     let axes = layout.axes;
     let tops = layout.tops;

@@ -11,53 +11,53 @@ use lib.IntN.{ℤ}
 use lib.ListN.{length}
 use borrow.Author.Tests.{eqb-true, eq-eqb}
 use Rattle.naturals.specs.Test.{all}
-use Rattle.naturals.specs.FirstFailing.{Passes, firstFailing}
+use Rattle.naturals.specs.FirstFailing.{Passes, first_failing}
 use Rattle.refusals.specs.declared.Refusal.{Refusal}
 use Rattle.refusals.specs.declared.Refusal.TheVariants.{Axes, Level, TableLength, TooManyPoints, Rate, Contents}
 use Rattle.refusals.specs.declared.Verdict.{Verdict}
 use Rattle.refusals.specs.declared.Verdict.TheVariants.{Passed, Refused}
-use Rattle.refusals.specs.Refusals.{numberOf}
-use Rattle.refusals.specs.Checks.{unless, ◌andThen◌}
-use Rattle.refusals.proofs.Passing.{first-passed, next-passed, test-passed}
-use Rattle.shapes.specs.Shapes.{mostPoints}
-use Rattle.states.specs.After.{left, leftBy}
-use Rattle.tables.specs.Tables.{rateAt, checkRates}
-use Rattle.tables.proofs.Checking.{rate-place, rates-passed, rates-pass}
-use Rattle.components.specs.Components.{lowAt, checkLevels, gridPoints, checkGrid, checkComponent, componentTable, componentCoefficients}
+use Rattle.refusals.specs.Refusals.{number_of}
+use Rattle.refusals.specs.Checks.{unless, ◌and_then◌}
+use Rattle.refusals.proofs.Passing.{first_passed, next_passed, test_passed}
+use Rattle.shapes.specs.Shapes.{most_points}
+use Rattle.states.specs.After.{left, left_by}
+use Rattle.tables.specs.Tables.{rate_at, check_rates}
+use Rattle.tables.proofs.Checking.{rate_place, rates_passed, rates_pass}
+use Rattle.components.specs.Components.{low_at, check_levels, grid_points, check_grid, check_component, component_table, component_coefficients}
 use Rattle.components.specs.Accepted.{AcceptedOn}
 
 module _ (ls : List ℕ) (rs : List ℤ) where
   abbrev long : Verdict
-  long = unless (eqb (length rs) (gridPoints ls)) TableLength
+  long = unless (eqb (length rs) (grid_points ls)) TableLength
 
-  pub passed-accepted : checkComponent ls rs ≡ Passed → AcceptedOn ls rs
-  unfolding checkComponent
-  passed-accepted e =
-      let rest = next-passed (checkGrid ls) (long andThen checkRates rs) e in
-      let places = eqb-true (length rs) (gridPoints ls) (test-passed (eqb (length rs) (gridPoints ls)) TableLength (first-passed long (checkRates rs) rest)) in
+  pub passed_accepted : check_component ls rs ≡ Passed → AcceptedOn ls rs
+  unfolding check_component
+  passed_accepted e =
+      let rest = next_passed (check_grid ls) (long and_then check_rates rs) e in
+      let places = eqb-true (length rs) (grid_points ls) (test_passed (eqb (length rs) (grid_points ls)) TableLength (first_passed long (check_rates rs) rest)) in
       record {
-        grid = first-passed (checkGrid ls) (long andThen checkRates rs) e;
+        grid = first_passed (check_grid ls) (long and_then check_rates rs) e;
         long = places;
-        each = λ p h. sym (rate-place rs p) ∙ rates-passed rs (next-passed long (checkRates rs) rest) p (omega (arith, places));
+        each = λ p h. sym (rate_place rs p) ∙ rates_passed rs (next_passed long (check_rates rs) rest) p (omega (arith, places));
       }
 
   module _ (a : AcceptedOn ls rs) where
-    pub accepted-rates : Passes (rateAt rs) (length rs)
-    accepted-rates p h = rate-place rs p ∙ a.each p (omega (arith, a.long))
+    pub accepted_rates : Passes (rate_at rs) (length rs)
+    accepted_rates p h = rate_place rs p ∙ a.each p (omega (arith, a.long))
 
-    pub accepted-passed : checkComponent ls rs ≡ Passed
-    unfolding checkComponent
-    accepted-passed =
+    pub accepted_passed : check_component ls rs ≡ Passed
+    unfolding check_component
+    accepted_passed =
         rw (
           a.grid,
-          eq-eqb (length rs) (gridPoints ls) a.long,
-          rates-pass rs accepted-rates,
+          eq-eqb (length rs) (grid_points ls) a.long,
+          rates_pass rs accepted_rates,
         )
 
     -- Accepted rates have coefficients.
-    pub component-accepted : componentCoefficients ls rs ≡ left Passed (componentTable ls rs)
-    unfolding componentCoefficients
-    component-accepted = rw accepted-passed
+    pub component_accepted : component_coefficients ls rs ≡ left Passed (component_table ls rs)
+    unfolding component_coefficients
+    component_accepted = rw accepted_passed
 
 -- ---- 10 never occurs
 
@@ -67,42 +67,42 @@ NotTen v = v ≡ Refused Contents → ⊥
 
 number : Verdict → ℕ
 number Passed = 0
-number (Refused r) = numberOf r
+number (Refused r) = number_of r
 
-unless-other : (b : Bool) (r : Refusal) → (numberOf r ≡ 10 → ⊥) → NotTen (unless b r)
+unless_other : (b : Bool) (r : Refusal) → (number_of r ≡ 10 → ⊥) → NotTen (unless b r)
 unfolding number
-unless-other true r other e = omega (arith, ap number e)
-unless-other false r other e = other (ap number e)
+unless_other true r other e = omega (arith, ap number e)
+unless_other false r other e = other (ap number e)
 
-then-other : (v w : Verdict) → NotTen v → NotTen w → NotTen (v andThen w)
-then-other Passed w first next = next
-then-other (Refused r) w first next = first
+then_other : (v w : Verdict) → NotTen v → NotTen w → NotTen (v and_then w)
+then_other Passed w first next = next
+then_other (Refused r) w first next = first
 
-left-verdict : (xs ys : List ℤ) (v : Verdict) → (leftBy xs v ys).verdict ≡ v
-left-verdict xs ys Passed = refl
-left-verdict xs ys (Refused r) = refl
+left_verdict : (xs ys : List ℤ) (v : Verdict) → (left_by xs v ys).verdict ≡ v
+left_verdict xs ys Passed = refl
+left_verdict xs ys (Refused r) = refl
 
 module _ (ls : List ℕ) (xs : List ℤ) where
-  grid-other : NotTen (checkGrid ls)
-  unfolding checkGrid checkLevels
-  grid-other =
+  grid_other : NotTen (check_grid ls)
+  unfolding check_grid check_levels
+  grid_other =
       let few = leb 1 (length ls) && leb (length ls) 8 in
-      let low = all (lowAt ls) (length ls) in
-      let small = leb (gridPoints ls) mostPoints in
-      then-other (checkLevels ls) (unless small TooManyPoints)
-      (then-other (unless few Axes) (unless low Level) (unless-other few Axes (λ n. omega arith)) (unless-other low Level (λ n. omega arith)))
-      (unless-other small TooManyPoints (λ n. omega arith))
+      let low = all (low_at ls) (length ls) in
+      let small = leb (grid_points ls) most_points in
+      then_other (check_levels ls) (unless small TooManyPoints)
+      (then_other (unless few Axes) (unless low Level) (unless_other few Axes (λ n. omega arith)) (unless_other low Level (λ n. omega arith)))
+      (unless_other small TooManyPoints (λ n. omega arith))
 
-  rates-other : NotTen (checkRates xs)
-  unfolding checkRates
-  rates-other =
-      let first = firstFailing (rateAt xs) (length xs) in
-      unless-other (leb (length xs) first) (Rate first) (λ n. omega arith)
+  rates_other : NotTen (check_rates xs)
+  unfolding check_rates
+  rates_other =
+      let first = first_failing (rate_at xs) (length xs) in
+      unless_other (leb (length xs) first) (Rate first) (λ n. omega arith)
 
   -- The call is never refused with 10.
-  pub component-never-contents : (componentCoefficients ls xs).verdict ≡ Refused Contents → ⊥
-  unfolding componentCoefficients checkComponent
-  component-never-contents e =
-      then-other (checkGrid ls) (long ls xs andThen checkRates xs) grid-other
-      (then-other (long ls xs) (checkRates xs) (unless-other (eqb (length xs) (gridPoints ls)) TableLength (λ n. omega arith)) rates-other)
-      (sym (left-verdict xs (componentTable ls xs) (checkComponent ls xs)) ∙ e)
+  pub component_never_contents : (component_coefficients ls xs).verdict ≡ Refused Contents → ⊥
+  unfolding component_coefficients check_component
+  component_never_contents e =
+      then_other (check_grid ls) (long ls xs and_then check_rates xs) grid_other
+      (then_other (long ls xs) (check_rates xs) (unless_other (eqb (length xs) (grid_points ls)) TableLength (λ n. omega arith)) rates_other)
+      (sym (left_verdict xs (component_table ls xs) (check_component ls xs)) ∙ e)

@@ -9,60 +9,60 @@ use lib.Dec.{leb}
 use lib.ListN.{length, get_or-eq_default}
 use borrow.Author.Tests.{leb-true}
 use Rattle.naturals.specs.Test.{all}
-use Rattle.naturals.proofs.Cases.{le-or-lt}
-use Rattle.naturals.proofs.Tests.{and_left, and_right, all-at}
+use Rattle.naturals.proofs.Cases.{le_or_lt}
+use Rattle.naturals.proofs.Tests.{and_left, and_right, all_at}
 use Rattle.refusals.specs.declared.Refusal.TheVariants.{Axes, Level, TooManyPoints}
 use Rattle.refusals.specs.declared.Verdict.TheVariants.{Passed}
 use Rattle.refusals.specs.Checks.{unless}
-use Rattle.refusals.proofs.Passing.{first-passed, next-passed, test-passed}
-use Rattle.shapes.specs.Shapes.{mostPoints}
-use Rattle.components.specs.Components.{topsIn, lowAt, checkLevels, gridPoints, checkGrid}
+use Rattle.refusals.proofs.Passing.{first_passed, next_passed, test_passed}
+use Rattle.shapes.specs.Shapes.{most_points}
+use Rattle.components.specs.Components.{tops_in, low_at, check_levels, grid_points, check_grid}
 use Rattle.components.specs.Steps.{Counts}
 
 pub record LevelsIn (ls : List ℕ) : Type 0 where
   pub low : 1 ≤ length ls
   pub high : length ls ≤ 8
-  pub tops : (t : ℕ) → topsIn ls t ≤ 8
+  pub tops : (t : ℕ) → tops_in ls t ≤ 8
 
 module _ (ls : List ℕ) where
-  low-level : (t : ℕ) → lowAt ls t ≡ true → topsIn ls t ≤ 8
-  unfolding lowAt
-  low-level t low = leb-true (topsIn ls t) 8 low
+  low_level : (t : ℕ) → low_at ls t ≡ true → tops_in ls t ≤ 8
+  unfolding low_at
+  low_level t low = leb-true (tops_in ls t) 8 low
 
-  pub levels-passed : checkLevels ls ≡ Passed → LevelsIn ls
-  unfolding checkLevels
-  levels-passed e =
+  pub levels_passed : check_levels ls ≡ Passed → LevelsIn ls
+  unfolding check_levels
+  levels_passed e =
       let few = leb 1 (length ls) && leb (length ls) 8 in
       let axes = unless few Axes in
-      let levels = unless (all (lowAt ls) (length ls)) Level in
-      let between = test-passed few Axes (first-passed axes levels e) in
+      let levels = unless (all (low_at ls) (length ls)) Level in
+      let between = test_passed few Axes (first_passed axes levels e) in
       record {
         low = leb-true 1 (length ls) (and_left (leb 1 (length ls)) (leb (length ls) 8) between);
         high = leb-true (length ls) 8 (and_right (leb 1 (length ls)) (leb (length ls) 8) between);
-        tops = at-axis (test-passed (all (lowAt ls) (length ls)) Level (next-passed axes levels e));
+        tops = at_axis (test_passed (all (low_at ls) (length ls)) Level (next_passed axes levels e));
       }
     where
-      at-axis : all (lowAt ls) (length ls) ≡ true → (t : ℕ) → topsIn ls t ≤ 8
-      at-axis each t =
-          le-or-lt (length ls) t
+      at_axis : all (low_at ls) (length ls) ≡ true → (t : ℕ) → tops_in ls t ≤ 8
+      at_axis each t =
+          le_or_lt (length ls) t
           (λ past. omega (arith, get_or-eq_default ls 0 past))
-          (λ h. low-level t (all-at (lowAt ls) (length ls) each t h))
+          (λ h. low_level t (all_at (low_at ls) (length ls) each t h))
 
-  module _ (e : checkGrid ls ≡ Passed) where
-    pub grid-levels : checkLevels ls ≡ Passed
-    unfolding checkGrid
-    grid-levels = first-passed (checkLevels ls) (unless (leb (gridPoints ls) mostPoints) TooManyPoints) e
+  module _ (e : check_grid ls ≡ Passed) where
+    pub grid_levels : check_levels ls ≡ Passed
+    unfolding check_grid
+    grid_levels = first_passed (check_levels ls) (unless (leb (grid_points ls) most_points) TooManyPoints) e
 
-    pub grid-small : gridPoints ls ≤ mostPoints
-    unfolding checkGrid
-    grid-small =
-        leb-true (gridPoints ls) mostPoints
-        (test-passed (leb (gridPoints ls) mostPoints) TooManyPoints
-        (next-passed (checkLevels ls) (unless (leb (gridPoints ls) mostPoints) TooManyPoints) e))
+    pub grid_small : grid_points ls ≤ most_points
+    unfolding check_grid
+    grid_small =
+        leb-true (grid_points ls) most_points
+        (test_passed (leb (grid_points ls) most_points) TooManyPoints
+        (next_passed (check_levels ls) (unless (leb (grid_points ls) most_points) TooManyPoints) e))
 
     -- Then the count is the number of points.
-    pub count-exact : (points : ℕ) → Counts ls points → points ≡ gridPoints ls
-    count-exact points counts =
-        le-or-lt points mostPoints
+    pub count_exact : (points : ℕ) → Counts ls points → points ≡ grid_points ls
+    count_exact points counts =
+        le_or_lt points most_points
         (λ le. counts.exact le)
-        (λ gt. absurd (omega (arith, counts.more gt, grid-small)))
+        (λ gt. absurd (omega (arith, counts.more gt, grid_small)))

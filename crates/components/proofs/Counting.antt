@@ -9,56 +9,56 @@ use native.Mathlib.Numerals.{add-one}
 use native.Mathlib.Omega.{arith}
 use lib.ListN.{length}
 use lib.Pow.{pow_mono}
-use Rattle.component_grids.specs.Component.{across, pointsTo}
-use Rattle.component_grids.proofs.Places.{across-is, pointsTo-zero, pointsTo-suc}
-use Rattle.shapes.specs.Shapes.{mostPoints}
-use Rattle.component_boxes.proofs.Falling.{points-before}
-use Rattle.components.specs.Components.{topsIn, gridPoints}
+use Rattle.component_grids.specs.Component.{across, points_to}
+use Rattle.component_grids.proofs.Places.{across_is, points_to_zero, points_to_suc}
+use Rattle.shapes.specs.Shapes.{most_points}
+use Rattle.component_boxes.proofs.Falling.{points_before}
+use Rattle.components.specs.Components.{tops_in, grid_points}
 use Rattle.components.specs.Steps.{Counts}
 
 -- At most 511 points lie across.
-pub across-le : (n : ℕ) → n ≤ 8 → across n ≤ 511
-across-le n h = omega (arith, across-is n, pow_mono {i = suc n} {j = 9} (omega arith))
+pub across_le : (n : ℕ) → n ≤ 8 → across n ≤ 511
+across_le n h = omega (arith, across_is n, pow_mono {i = suc n} {j = 9} (omega arith))
 
 pub record Counted (ls : List ℕ) (t points : ℕ) : Type 0 where
   pub place : t ≤ length ls
-  pub product : points ≡ pointsTo (topsIn ls) t
-  pub small : points ≤ mostPoints
+  pub product : points ≡ points_to (tops_in ls) t
+  pub small : points ≤ most_points
 
-pub counted-starts : (ls : List ℕ) → Counted ls 0 1
-counted-starts ls = record { place = omega arith; product = sym (pointsTo-zero (topsIn ls)); small = omega arith }
+pub counted_starts : (ls : List ℕ) → Counted ls 0 1
+counted_starts ls = record { place = omega arith; product = sym (points_to_zero (tops_in ls)); small = omega arith }
 
 module _ {ls : List ℕ} {t points : ℕ} (counted : Counted ls t points) where
-  pub counted-ends : length ls ≤ t → Counts ls points
-  unfolding gridPoints
-  counted-ends h =
+  pub counted_ends : length ls ≤ t → Counts ls points
+  unfolding grid_points
+  counted_ends h =
       let last : t ≡ length ls = omega (arith, counted.place) in
       record {
-        exact = λ le. counted.product ∙ ap (pointsTo (topsIn ls)) last;
+        exact = λ le. counted.product ∙ ap (points_to (tops_in ls)) last;
         more = λ gt. absurd (omega (arith, counted.small));
       }
 
   -- One axis more, of a points.
-  module _ (a : ℕ) (e : a ≡ across (topsIn ls t)) where
-    pub counted-fits : topsIn ls t ≤ 8 → points * a < 2 ^ 64
-    counted-fits low =
-        omega (arith, mul-le-mul counted.small (across-le (topsIn ls t) low), ap (λ (x : ℕ). points * x) e)
+  module _ (a : ℕ) (e : a ≡ across (tops_in ls t)) where
+    pub counted_fits : tops_in ls t ≤ 8 → points * a < 2 ^ 64
+    counted_fits low =
+        omega (arith, mul-le-mul counted.small (across_le (tops_in ls t) low), ap (λ (x : ℕ). points * x) e)
 
-    product-next : points * a ≡ pointsTo (topsIn ls) (suc t)
-    product-next = rw (counted.product, e) (sym (pointsTo-suc (topsIn ls) t))
+    product_next : points * a ≡ points_to (tops_in ls) (suc t)
+    product_next = rw (counted.product, e) (sym (points_to_suc (tops_in ls) t))
 
-    pub counted-steps : t < length ls → points * a ≤ mostPoints → Counted ls (t + 1) (points * a)
-    counted-steps h le = rw add-one (record { place = h; product = product-next; small = le })
+    pub counted_steps : t < length ls → points * a ≤ most_points → Counted ls (t + 1) (points * a)
+    counted_steps h le = rw add-one (record { place = h; product = product_next; small = le })
 
-    pub counted-stops : t < length ls → mostPoints < points * a → Counts ls (points * a)
-    unfolding gridPoints
-    counted-stops h gt =
+    pub counted_stops : t < length ls → most_points < points * a → Counts ls (points * a)
+    unfolding grid_points
+    counted_stops h gt =
         record {
           exact = λ le. absurd (omega arith);
-          more = λ _. omega (arith, product-next, points-before (topsIn ls) (suc t) (length ls) h);
+          more = λ _. omega (arith, product_next, points_before (tops_in ls) (suc t) (length ls) h);
         }
 
     -- Of a grid that is not too large.
-    pub counted-small : gridPoints ls ≤ mostPoints → t < length ls → points * a ≤ mostPoints
-    unfolding gridPoints
-    counted-small few h = omega (arith, product-next, points-before (topsIn ls) (suc t) (length ls) h)
+    pub counted_small : grid_points ls ≤ most_points → t < length ls → points * a ≤ most_points
+    unfolding grid_points
+    counted_small few h = omega (arith, product_next, points_before (tops_in ls) (suc t) (length ls) h)

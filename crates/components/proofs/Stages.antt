@@ -8,36 +8,36 @@ use Prim.Native.Nat.{ℕ, zero, suc, ◌^◌, ◌≤◌, ◌<◌}
 use native.Mathlib.Omega.{arith}
 use lib.IntN.{ℤ, pos, nat_abs}
 use lib.ListN.{length, get_or}
-use Rattle.naturals.proofs.Cases.{le-or-lt}
-use Rattle.integers.specs.Half.{isEven, inLimit}
-use Rattle.integers.proofs.Sizes.{rate-size}
-use Rattle.hierarchy.specs.Turns.{valueAt, sumOn}
-use Rattle.hierarchy.specs.Sets.{everyAxis}
-use Rattle.hierarchy.proofs.Values.{value-zero, value-suc, value-past}
-use Rattle.hierarchy.proofs.Closed.{halves-whole}
+use Rattle.naturals.proofs.Cases.{le_or_lt}
+use Rattle.integers.specs.Half.{is_even, in_limit}
+use Rattle.integers.proofs.Sizes.{rate_size}
+use Rattle.hierarchy.specs.Turns.{value_at, sum_on}
+use Rattle.hierarchy.specs.Sets.{every_axis}
+use Rattle.hierarchy.proofs.Values.{value_zero, value_suc, value_past}
+use Rattle.hierarchy.proofs.Closed.{halves_whole}
 use Rattle.component_grids.specs.Component.{neighbour}
-use Rattle.component_boxes.specs.Stages.{stagesOf}
-use Rattle.component_boxes.proofs.Limits.{stage-in-limit}
-use Rattle.components.specs.Components.{topsIn, gridPoints}
+use Rattle.component_boxes.specs.Stages.{stages_of}
+use Rattle.component_boxes.proofs.Limits.{stage_in_limit}
+use Rattle.components.specs.Components.{tops_in, grid_points}
 use Rattle.components.specs.Accepted.{AcceptedOn}
-use Rattle.components.proofs.Checked.{levels-passed, grid-levels}
+use Rattle.components.proofs.Checked.{levels_passed, grid_levels}
 
 module _ (ls : List ℕ) (rs : List ℤ) where
   -- The sums that the turn of an axis meets, after the axes before it, are even.
-  pub component-halves-whole : (k : ℕ) → k < length ls → (p : ℕ) →
-      isEven (sumOn (neighbour (length ls) (topsIn ls)) k (stagesOf (length ls) (topsIn ls) (valueAt rs) k) p) ≡ true
-  unfolding stagesOf
-  component-halves-whole k h p = halves-whole (neighbour (length ls) (topsIn ls)) (length ls) everyAxis k (valueAt rs) p h
+  pub component_halves_whole : (k : ℕ) → k < length ls → (p : ℕ) →
+      is_even (sum_on (neighbour (length ls) (tops_in ls)) k (stages_of (length ls) (tops_in ls) (value_at rs) k) p) ≡ true
+  unfolding stages_of
+  component_halves_whole k h p = halves_whole (neighbour (length ls) (tops_in ls)) (length ls) every_axis k (value_at rs) p h
 
   module _ (a : AcceptedOn ls rs) where
-    pub rates-small : (p : ℕ) → nat_abs (valueAt rs p) ≤ 2 ^ 31
-    rates-small zero = rw (value-zero rs) (omega arith)
-    rates-small (suc p) =
-        le-or-lt (gridPoints ls) p
-        (λ past. rw (value-past rs (suc p) (omega (arith, a.long))) (omega arith))
-        (λ h. rw (value-suc rs p) (rate-size (get_or rs p (pos 0)) (a.each p h)))
+    pub rates_small : (p : ℕ) → nat_abs (value_at rs p) ≤ 2 ^ 31
+    rates_small zero = rw (value_zero rs) (omega arith)
+    rates_small (suc p) =
+        le_or_lt (grid_points ls) p
+        (λ past. rw (value_past rs (suc p) (omega (arith, a.long))) (omega arith))
+        (λ h. rw (value_suc rs p) (rate_size (get_or rs p (pos 0)) (a.each p h)))
 
     -- Every value is within the content limit after each of the axes.
-    pub component-in-limit : (k : ℕ) → k ≤ length ls → (p : ℕ) → inLimit (stagesOf (length ls) (topsIn ls) (valueAt rs) k p) ≡ true
-    component-in-limit =
-        stage-in-limit (length ls) (topsIn ls) (valueAt rs) (levels-passed ls (grid-levels ls a.grid)).high rates-small
+    pub component_in_limit : (k : ℕ) → k ≤ length ls → (p : ℕ) → in_limit (stages_of (length ls) (tops_in ls) (value_at rs) k p) ≡ true
+    component_in_limit =
+        stage_in_limit (length ls) (tops_in ls) (value_at rs) (levels_passed ls (grid_levels ls a.grid)).high rates_small

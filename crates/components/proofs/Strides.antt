@@ -7,58 +7,58 @@ use Prim.Native.Nat.{ℕ, ◌+◌, ◌*◌, ◌≤◌, ◌<◌}
 use native.Mathlib.Omega.{arith}
 use lib.ListN.{length, set, length-set}
 use lib.Seq.{get_or-set_same, get_or-set_other}
-use Rattle.naturals.proofs.Cases.{eq-or-not}
+use Rattle.naturals.proofs.Cases.{eq_or_not}
 use Rattle.refusals.specs.declared.Verdict.TheVariants.{Passed}
 use Rattle.numbering.specs.Point.{at}
-use Rattle.component_grids.specs.Component.{across, pointsTo}
-use Rattle.shapes.specs.Shapes.{mostPoints}
+use Rattle.component_grids.specs.Component.{across, points_to}
+use Rattle.shapes.specs.Shapes.{most_points}
 use Rattle.points.specs.Points.{eight}
-use Rattle.points.proofs.Eight.{padded-at}
-use Rattle.components.specs.Components.{topsIn, gridPoints, checkGrid}
+use Rattle.points.proofs.Eight.{padded_at}
+use Rattle.components.specs.Components.{tops_in, grid_points, check_grid}
 use Rattle.components.specs.Steps.{LaidOut}
-use Rattle.components.proofs.Checked.{LevelsIn, levels-passed, grid-levels, grid-small}
-use Rattle.components.proofs.Counting.{Counted, counted-starts, counted-steps, counted-small}
+use Rattle.components.proofs.Checked.{LevelsIn, levels_passed, grid_levels, grid_small}
+use Rattle.components.proofs.Counting.{Counted, counted_starts, counted_steps, counted_small}
 
 pub record Strided (ls strides : List ℕ) (t points : ℕ) : Type 0 where
   pub counted : Counted ls t points
   pub long : length strides ≡ 8
-  pub each : (u : ℕ) → u < t → at strides u ≡ pointsTo (topsIn ls) u
+  pub each : (u : ℕ) → u < t → at strides u ≡ points_to (tops_in ls) u
 
-pub strided-starts : (ls strides : List ℕ) → length strides ≡ 8 → Strided ls strides 0 1
-strided-starts ls strides e = record { counted = counted-starts ls; long = e; each = λ u h. absurd (omega arith) }
+pub strided_starts : (ls strides : List ℕ) → length strides ≡ 8 → Strided ls strides 0 1
+strided_starts ls strides e = record { counted = counted_starts ls; long = e; each = λ u h. absurd (omega arith) }
 
-module _ (ls : List ℕ) (passed : checkGrid ls ≡ Passed) where
+module _ (ls : List ℕ) (passed : check_grid ls ≡ Passed) where
   range : LevelsIn ls
-  range = levels-passed ls (grid-levels ls passed)
+  range = levels_passed ls (grid_levels ls passed)
 
   module _ (strides : List ℕ) (t points : ℕ) (strided : Strided ls strides t points) where
-    pub strided-steps : (a : ℕ) → a ≡ across (topsIn ls t) → t < length ls → Strided ls (set strides t points) (t + 1) (points * a)
-    strided-steps a e h =
-        let small : points * a ≤ mostPoints = counted-small strided.counted a e (grid-small ls passed) h in
+    pub strided_steps : (a : ℕ) → a ≡ across (tops_in ls t) → t < length ls → Strided ls (set strides t points) (t + 1) (points * a)
+    strided_steps a e h =
+        let small : points * a ≤ most_points = counted_small strided.counted a e (grid_small ls passed) h in
         record {
-          counted = counted-steps strided.counted a e h small;
+          counted = counted_steps strided.counted a e h small;
           long = length-set strides t points ∙ strided.long;
-          each = λ u lt. at-axis u (omega arith);
+          each = λ u lt. at_axis u (omega arith);
         }
       where
-        at-axis : (u : ℕ) → u ≤ t → at (set strides t points) u ≡ pointsTo (topsIn ls) u
-        at-axis u le =
-            eq-or-not u t
+        at_axis : (u : ℕ) → u ≤ t → at (set strides t points) u ≡ points_to (tops_in ls) u
+        at_axis u le =
+            eq_or_not u t
             (λ same. rw same (get_or-set_same strides t points 0 (omega (arith, range.high, strided.long)) ∙ strided.counted.product))
             (λ other. get_or-set_other strides t u points 0 other ∙ strided.each u (omega arith))
 
-    pub strided-ends : length ls ≤ t → LaidOut ls (record { axes = length ls; tops = eight (at ls); strides = strides })
-    unfolding gridPoints
-    strided-ends h =
-        let tops : at (eight (at ls)) ≡ topsIn ls = padded-at ls range.high in
+    pub strided_ends : length ls ≤ t → LaidOut ls (record { axes = length ls; tops = eight (at ls); strides = strides })
+    unfolding grid_points
+    strided_ends h =
+        let tops : at (eight (at ls)) ≡ tops_in ls = padded_at ls range.high in
         record {
           laid =
               record {
                 some = range.low;
                 few = range.high;
                 low = λ u. subst (λ (f : ℕ → ℕ). f u ≤ 8) (sym tops) (range.tops u);
-                strides = λ u lt. subst (λ (f : ℕ → ℕ). at strides u ≡ pointsTo f u) (sym tops) (strided.each u (omega arith));
-                small = subst (λ (f : ℕ → ℕ). pointsTo f (length ls) ≤ mostPoints) (sym tops) (grid-small ls passed);
+                strides = λ u lt. subst (λ (f : ℕ → ℕ). at strides u ≡ points_to f u) (sym tops) (strided.each u (omega arith));
+                small = subst (λ (f : ℕ → ℕ). points_to f (length ls) ≤ most_points) (sym tops) (grid_small ls passed);
               };
           axes = refl;
           tops = tops;

@@ -2,17 +2,17 @@
 -- Assumes nothing.
 use Rattle.std.specs.Prelude.{List, ◌≡◌, ℕ, ◌≤◌, ◌<◌, length}
 use Rattle.component_sweeps.specs.declared.Layout.{Layout}
-use Rattle.component_sweeps.specs.Steps.{topsOf, Laid}
-use Rattle.shapes.specs.Shapes.{mostPoints}
-use Rattle.components.specs.Components.{topsIn, gridPoints}
+use Rattle.component_sweeps.specs.Steps.{tops_of, Laid}
+use Rattle.shapes.specs.Shapes.{most_points}
+use Rattle.components.specs.Components.{tops_in, grid_points}
 
 -- The number of points of a grid, or where that is above 32,768 some number above it.
 pub record Counts (ls : List ℕ) (points : ℕ) : Type 0 where
-  pub exact : points ≤ mostPoints → points ≡ gridPoints ls
-  pub more : mostPoints < points → mostPoints < gridPoints ls
+  pub exact : points ≤ most_points → points ≡ grid_points ls
+  pub more : most_points < points → most_points < grid_points ls
 
 -- The layout of the grid of a list of top levels.
 pub record LaidOut (ls : List ℕ) (g : Layout) : Type 0 where
   pub laid : Laid g
   pub axes : g.axes ≡ length ls
-  pub tops : topsOf g ≡ topsIn ls
+  pub tops : tops_of g ≡ tops_in ls

@@ -4,7 +4,7 @@
 ghost use Rattle.std.specs.Prelude.{◌≡◌, ◌≤◌};
 ghost use Rattle.refusals.specs.declared.Verdict.TheVariants.{Passed};
 ghost use Rattle.states.specs.After.{left};
-ghost use Rattle.components.specs.Components.{checkLevels, checkGrid, checkComponent, componentCoefficients};
+ghost use Rattle.components.specs.Components.{check_levels, check_grid, check_component, component_coefficients};
 ghost use Rattle.components.specs.Steps.{Counts, LaidOut};
 
 use component_sweeps::Layout;
@@ -13,7 +13,7 @@ use shapes::MOST_POINTS;
 
 // Refused with 1 or 2.
 fn check_levels(levels: &[u32]) -> Verdict
-    ensures { result ≡ checkLevels levels.now }
+    ensures { result ≡ check_levels levels.now }
 {
     if levels.len() < 1 {
         return Verdict::Refused(Refusal::Axes);
@@ -33,7 +33,7 @@ fn check_levels(levels: &[u32]) -> Verdict
 
 // The product of the axes' points, which goes no further once it is above 32,768.
 fn count_points(levels: &[u32]) -> u64
-    requires { checkLevels levels.now ≡ Passed }
+    requires { check_levels levels.now ≡ Passed }
     ensures { Counts levels.now result }
 {
     let mut points: u64 = 1;
@@ -50,7 +50,7 @@ fn count_points(levels: &[u32]) -> u64
 
 // Refused with 1, 2 or 19.
 fn check_grid(levels: &[u32]) -> Verdict
-    ensures { result ≡ checkGrid levels.now }
+    ensures { result ≡ check_grid levels.now }
 {
     if let Verdict::Refused(r) = check_levels(levels) {
         return Verdict::Refused(r);
@@ -63,7 +63,7 @@ fn check_grid(levels: &[u32]) -> Verdict
 
 // Refused with 1, 2, 19, 3 or 4.
 fn check_component(levels: &[u32], table: &[i64]) -> Verdict
-    ensures { result ≡ checkComponent levels.now table.now }
+    ensures { result ≡ check_component levels.now table.now }
 {
     if let Verdict::Refused(r) = check_grid(levels) {
         return Verdict::Refused(r);
@@ -76,7 +76,7 @@ fn check_component(levels: &[u32], table: &[i64]) -> Verdict
 
 // The layout of a grid that the check passes: axis 1 runs fastest, so points that follow each other on an axis lie the points of the axes before apart.
 fn layout_of(levels: &[u32]) -> Layout
-    requires { checkGrid levels.now ≡ Passed }
+    requires { check_grid levels.now ≡ Passed }
     ensures { LaidOut levels.now result }
 {
     let mut strides: [usize; 8] = [0; 8];
@@ -96,7 +96,7 @@ fn layout_of(levels: &[u32]) -> Layout
 
 // Rates to coefficients: each rate times 2 to the number of axes, then every axis, in the order of the splits. Of a loaded table nothing is refused.
 pub fn component_coefficients(levels: &[u32], table: &mut [i64]) -> Verdict
-    ensures { left result table.new ≡ componentCoefficients levels.now table.old }
+    ensures { left result table.new ≡ component_coefficients levels.now table.old }
 {
     if let Verdict::Refused(r) = check_component(levels, table) {
         return Verdict::Refused(r);

@@ -5,36 +5,36 @@ use mathlib.Core.List.{List}
 use mathlib.Core.Path.{◌≡◌, ap, sym, ◌∙◌}
 use Prim.Native.Nat.{ℕ, ◌+◌, ◌-◌, ◌*◌, ◌^◌, ◌≤◌, ◌<◌}
 use native.Mathlib.Omega.{arith}
-use Rattle.naturals.specs.Sum.{sumTo}
-use Rattle.naturals.proofs.Sums.{term-le}
+use Rattle.naturals.specs.Sum.{sum_to}
+use Rattle.naturals.proofs.Sums.{term_le}
 use Rattle.numbering.specs.Count.{start}
 use Rattle.numbering.specs.Point.{at}
-use Rattle.numbering.specs.Number.{rank, firstOf}
+use Rattle.numbering.specs.Number.{rank, first_of}
 use Rattle.numbering.specs.Parent.{update}
-use Rattle.numbering.proofs.Subspaces.{first-is}
+use Rattle.numbering.proofs.Subspaces.{first_is}
 use Rattle.neighbours.specs.declared.Subspace.{Subspace}
 use Rattle.neighbours.specs.Steps.{Seen, Below}
 use Rattle.cursors.specs.Steps.{passed, Cursors}
-use Rattle.cursors.proofs.Lowering.{sum-lowered, passed-lower}
+use Rattle.cursors.proofs.Lowering.{sum_lowered, passed_lower}
 
 -- The first number of a lowered level vector: where its sum starts, and then the points of the raised level vectors that are passed.
-first-lowered : (d t s j : ℕ) (l : ℕ → ℕ) → t < d → sumTo l d ≡ s → j ≤ l t →
-    start d (s - j) + 2 ^ (s - j) * passed d t s j (rank l d) ≡ firstOf d (update l t (l t - j))
-first-lowered d t s j l axis sum high =
-    let low : j ≤ s = omega (arith, term-le l d t axis) in
+first_lowered : (d t s j : ℕ) (l : ℕ → ℕ) → t < d → sum_to l d ≡ s → j ≤ l t →
+    start d (s - j) + 2 ^ (s - j) * passed d t s j (rank l d) ≡ first_of d (update l t (l t - j))
+first_lowered d t s j l axis sum high =
+    let low : j ≤ s = omega (arith, term_le l d t axis) in
     let m : ℕ → ℕ = update l t (l t - j) in
-    ap (λ (r : ℕ). start d (s - j) + 2 ^ (s - j) * r) (passed-lower d t s j axis low l sum high)
-    ∙ ap (λ (s : ℕ). start d s + 2 ^ s * rank m d) (sym (sum-lowered d t s j axis low l sum high))
-    ∙ sym (first-is d m)
+    ap (λ (r : ℕ). start d (s - j) + 2 ^ (s - j) * r) (passed_lower d t s j axis low l sum high)
+    ∙ ap (λ (s : ℕ). start d s + 2 ^ s * rank m d) (sym (sum_lowered d t s j axis low l sum high))
+    ∙ sym (first_is d m)
 
-pub cursors-below : {v : Subspace} {sum : ℕ} {cs : List ℕ} → Seen v → sumTo (at v.levels) v.line.axes ≡ sum →
+pub cursors_below : {v : Subspace} {sum : ℕ} {cs : List ℕ} → Seen v → sum_to (at v.levels) v.line.axes ≡ sum →
     Cursors v.line sum (rank (at v.levels) v.line.axes) cs → Below v cs
-cursors-below {v} {sum} {cs} seen total cursors =
+cursors_below {v} {sum} {cs} seen total cursors =
     record { long = cursors.long; first = first }
   where
-    first : (j : ℕ) → 1 ≤ j → j ≤ v.own → at cs j ≡ firstOf v.line.axes (update (at v.levels) v.line.place (v.own - j))
+    first : (j : ℕ) → 1 ≤ j → j ≤ v.own → at cs j ≡ first_of v.line.axes (update (at v.levels) v.line.place (v.own - j))
     first j from to =
         let own : j ≤ at v.levels v.line.place = omega (arith, seen.own) in
-        cursors.first j from (omega (arith, total, term-le (at v.levels) v.line.axes v.line.place seen.axis))
-        ∙ first-lowered v.line.axes v.line.place sum j (at v.levels) seen.axis total own
-        ∙ ap (λ (o : ℕ). firstOf v.line.axes (update (at v.levels) v.line.place (o - j))) (sym seen.own)
+        cursors.first j from (omega (arith, total, term_le (at v.levels) v.line.axes v.line.place seen.axis))
+        ∙ first_lowered v.line.axes v.line.place sum j (at v.levels) seen.axis total own
+        ∙ ap (λ (o : ℕ). first_of v.line.axes (update (at v.levels) v.line.place (o - j))) (sym seen.own)

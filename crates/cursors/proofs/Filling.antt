@@ -7,13 +7,13 @@ use native.Mathlib.Nat.{mul-zero}
 use native.Mathlib.Omega.{arith}
 use lib.ListN.{length, set, length-set}
 use lib.Seq.{get_or-set_same, get_or-set_other}
-use Rattle.naturals.proofs.Cases.{eq-or-not}
+use Rattle.naturals.proofs.Cases.{eq_or_not}
 use Rattle.numbering.specs.Count.{vectors, start}
 use Rattle.numbering.specs.Point.{at}
-use Rattle.numbering.proofs.Numbering.{start-suc}
+use Rattle.numbering.proofs.Numbering.{start_suc}
 use Rattle.neighbours.specs.declared.Line.{Line}
 use Rattle.cursors.specs.Steps.{OnLine, Starts, passed}
-use Rattle.cursors.proofs.Lowering.{passed-none, passed-all}
+use Rattle.cursors.proofs.Lowering.{passed_none, passed_all}
 
 -- ---- a list that is filled in from place a on, up to place j, with the values of a function
 
@@ -28,30 +28,30 @@ fills {value} {long} {a} {list} j v filled inside e =
   where
     holds : (i : ℕ) → a ≤ i → i < j + 1 → at (set list j v) i ≡ value i
     holds i from to =
-        eq-or-not i j
+        eq_or_not i j
         (λ same. rw same (get_or-set_same list j v 0 (omega (arith, filled.size)) ∙ e))
         (λ ne. get_or-set_other list j i v 0 ne ∙ filled.holds i from (omega arith))
 
 -- ---- cursors
 
 -- Cursor j where the first b level vectors of sum s are passed.
-abbrev pub cursorAt : Line → ℕ → ℕ → ℕ → ℕ
-cursorAt line s b j = start line.axes (s - j) + 2 ^ (s - j) * passed line.axes line.place s j b
+abbrev pub cursor_at : Line → ℕ → ℕ → ℕ → ℕ
+cursor_at line s b j = start line.axes (s - j) + 2 ^ (s - j) * passed line.axes line.place s j b
 
 module _ {line : Line} {starts : List ℕ} (held : Starts line starts) (s j : ℕ) (low : s ≤ line.level) (le : j ≤ s) where
-  pub before-first : at starts (s - j) ≡ cursorAt line s 0 j
-  before-first =
+  pub before_first : at starts (s - j) ≡ cursor_at line s 0 j
+  before_first =
       omega (
         arith,
         held.first (s - j) (omega arith),
-        ap (λ (r : ℕ). 2 ^ (s - j) * r) (passed-none line.axes line.place s j),
+        ap (λ (r : ℕ). 2 ^ (s - j) * r) (passed_none line.axes line.place s j),
         mul-zero (2 ^ (s - j)),
       )
 
-  pub after-last : OnLine line → at starts (s + 1 - j) ≡ cursorAt line s (vectors line.axes s) j
-  after-last on =
+  pub after_last : OnLine line → at starts (s + 1 - j) ≡ cursor_at line s (vectors line.axes s) j
+  after_last on =
       let next : s + 1 - j ≡ suc (s - j) = omega arith in
       ap (at starts) next
       ∙ held.first (suc (s - j)) (omega arith)
-      ∙ start-suc line.axes (s - j)
-      ∙ ap (λ (r : ℕ). start line.axes (s - j) + 2 ^ (s - j) * r) (sym (passed-all line.axes line.place s j on.place le))
+      ∙ start_suc line.axes (s - j)
+      ∙ ap (λ (r : ℕ). start line.axes (s - j) + 2 ^ (s - j) * r) (sym (passed_all line.axes line.place s j on.place le))

@@ -6,9 +6,9 @@ use mathlib.Core.Path.{◌≡◌, ap}
 use mathlib.Core.Logic.{◌⊎◌, ⊎_elim}
 use Prim.Native.Nat.{ℕ, zero, suc, ◌≤◌, ◌<◌}
 use native.Mathlib.Omega.{arith}
-use Rattle.naturals.specs.Sum.{sumTo}
-use Rattle.naturals.proofs.Cases.{le-or-lt}
-use Rattle.naturals.proofs.Sums.{sumTo-zero, sumTo-suc}
+use Rattle.naturals.specs.Sum.{sum_to}
+use Rattle.naturals.proofs.Cases.{le_or_lt}
+use Rattle.naturals.proofs.Sums.{sum_to_zero, sum_to_suc}
 
 -- A mark is 1, and 0 where there is none; `value` gives the marked numbers in order, and `place` the place of each among them.
 pub record Marks (mark value place : ℕ → ℕ) (n m : ℕ) : Type 0 where
@@ -20,38 +20,38 @@ pub record Marks (mark value place : ℕ → ℕ) (n m : ℕ) : Type 0 where
 module _ {mark value place : ℕ → ℕ} {n m : ℕ} (s : Marks mark value place n m) where
   -- The marked numbers below b are the first ones, as many as there are marks.
   record Split (b : ℕ) : Type 0 where
-    few : sumTo mark b ≤ m
-    before : (q : ℕ) → q < m → value q < b → q < sumTo mark b
-    after : (q : ℕ) → q < m → b ≤ value q → sumTo mark b ≤ q
+    few : sum_to mark b ≤ m
+    before : (q : ℕ) → q < m → value q < b → q < sum_to mark b
+    after : (q : ℕ) → q < m → b ≤ value q → sum_to mark b ≤ q
 
   unmarked : (b : ℕ) → Split b → mark b ≡ 0 → Split (suc b)
   unmarked b so e =
       record {
-        few = omega (arith, sumTo-suc mark b, so.few);
+        few = omega (arith, sum_to_suc mark b, so.few);
         before =
             λ q h lt.
-            le-or-lt b (value q)
+            le_or_lt b (value q)
             (λ le. let here : value q ≡ b = omega arith in omega (arith, s.marked q h, ap mark here))
-            (λ less. omega (arith, sumTo-suc mark b, so.before q h less));
-        after = λ q h le. omega (arith, sumTo-suc mark b, so.after q h (omega arith));
+            (λ less. omega (arith, sum_to_suc mark b, so.before q h less));
+        after = λ q h le. omega (arith, sum_to_suc mark b, so.after q h (omega arith));
       }
 
-  one-more : (b : ℕ) → Split b → (p : ℕ) → p < m → value p ≡ b → Split (suc b)
-  one-more b so p in_m e =
-      let counted : sumTo mark (suc b) ≡ suc (sumTo mark b) = omega (arith, sumTo-suc mark b, s.marked p in_m, ap mark e) in
-      let next : p ≡ sumTo mark b =
-      le-or-lt p (sumTo mark b)
+  one_more : (b : ℕ) → Split b → (p : ℕ) → p < m → value p ≡ b → Split (suc b)
+  one_more b so p in_m e =
+      let counted : sum_to mark (suc b) ≡ suc (sum_to mark b) = omega (arith, sum_to_suc mark b, s.marked p in_m, ap mark e) in
+      let next : p ≡ sum_to mark b =
+      le_or_lt p (sum_to mark b)
       (λ le. omega (arith, so.after p in_m (omega arith)))
-      (λ gt. omega (arith, so.before (sumTo mark b) (omega arith) (omega (arith, s.rises (sumTo mark b) p gt in_m))))
+      (λ gt. omega (arith, so.before (sum_to mark b) (omega arith) (omega (arith, s.rises (sum_to mark b) p gt in_m))))
       in
       record {
         few = omega arith;
-        before = λ q h lt. le-or-lt q p (λ le. omega arith) (λ gt. omega (arith, s.rises p q gt h));
+        before = λ q h lt. le_or_lt q p (λ le. omega arith) (λ gt. omega (arith, s.rises p q gt h));
         after =
             λ q h le.
-            le-or-lt (suc p) q
+            le_or_lt (suc p) q
             (λ gt. omega arith)
-            (λ lt. le-or-lt p q
+            (λ lt. le_or_lt p q
             (λ ge. let same : q ≡ p = omega arith in omega (arith, ap value same))
             (λ less. omega (arith, s.rises q p less in_m)));
       }
@@ -59,25 +59,25 @@ module _ {mark value place : ℕ → ℕ} {n m : ℕ} (s : Marks mark value plac
   split : (b : ℕ) → b ≤ n → Split b
   split zero h =
       record {
-        few = omega (arith, sumTo-zero mark);
+        few = omega (arith, sum_to_zero mark);
         before = λ q in_m lt. omega arith;
-        after = λ q in_m le. omega (arith, sumTo-zero mark);
+        after = λ q in_m le. omega (arith, sum_to_zero mark);
       }
   split (suc b) h =
       let so = split b (omega arith) in
-      ⊎_elim (unmarked b so) (λ there. one-more b so (place b) there.0 there.1) (s.other b (omega arith))
+      ⊎_elim (unmarked b so) (λ there. one_more b so (place b) there.0 there.1) (s.other b (omega arith))
 
-  pub marks-before : (q : ℕ) → q < m → sumTo mark (value q) ≡ q
-  marks-before q h =
+  pub marks_before : (q : ℕ) → q < m → sum_to mark (value q) ≡ q
+  marks_before q h =
       let b : ℕ = value q in
       let so = split b (omega (arith, s.inside q h)) in
-      le-or-lt q (sumTo mark b)
+      le_or_lt q (sum_to mark b)
       (λ le. omega (arith, so.after q h (omega arith)))
-      (λ gt. omega (arith, so.before (sumTo mark b) (omega arith) (s.rises (sumTo mark b) q gt h)))
+      (λ gt. omega (arith, so.before (sum_to mark b) (omega arith) (s.rises (sum_to mark b) q gt h)))
 
-  pub all-marks : sumTo mark n ≡ m
-  all-marks =
+  pub all_marks : sum_to mark n ≡ m
+  all_marks =
       let so = split n (omega arith) in
-      le-or-lt m (sumTo mark n)
+      le_or_lt m (sum_to mark n)
       (λ le. omega (arith, so.few))
-      (λ gt. omega (arith, so.before (sumTo mark n) gt (s.inside (sumTo mark n) gt)))
+      (λ gt. omega (arith, so.before (sum_to mark n) gt (s.inside (sum_to mark n) gt)))

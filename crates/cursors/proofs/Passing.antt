@@ -8,31 +8,31 @@ use native.Mathlib.Nat.{mul-suc, mul-le-mul_left}
 use native.Mathlib.Omega.{arith}
 use lib.ListN.{length, set, length-set}
 use lib.Seq.{get_or-set_same, get_or-set_other}
-use Rattle.naturals.specs.Sum.{sumTo}
-use Rattle.naturals.proofs.Cases.{eq-or-not, le-or-lt}
-use Rattle.naturals.proofs.Sums.{term-le}
+use Rattle.naturals.specs.Sum.{sum_to}
+use Rattle.naturals.proofs.Cases.{eq_or_not, le_or_lt}
+use Rattle.naturals.proofs.Sums.{term_le}
 use Rattle.naturals.proofs.Shifts.{one_shifted}
 use Rattle.numbering.specs.Count.{vectors, start}
 use Rattle.numbering.specs.Point.{at}
 use Rattle.numbering.specs.Number.{rank}
-use Rattle.numbering.proofs.Numbering.{start-suc}
+use Rattle.numbering.proofs.Numbering.{start_suc}
 use Rattle.shapes.proofs.Totals.{start_small}
 use Rattle.neighbours.specs.declared.Line.{Line}
 use Rattle.neighbours.specs.declared.Subspace.{Subspace}
 use Rattle.neighbours.specs.Steps.{Seen}
 use Rattle.cursors.specs.Steps.{passed, Cursors}
-use Rattle.cursors.proofs.Lowering.{does-reach, does-not-reach, passed-step, passed-lower, lowered-rank_lt}
-use Rattle.cursors.proofs.Filling.{cursorAt}
+use Rattle.cursors.proofs.Lowering.{does_reach, does_not_reach, passed_step, passed_lower, lowered_rank_lt}
+use Rattle.cursors.proofs.Filling.{cursor_at}
 
 -- The cursors below j are those where b level vectors are passed, the others still those where a are.
 pub record Moved (line : Line) (s a b j : ℕ) (cursors : List ℕ) : Type 0 where
   pub low : s ≤ line.level
   pub long : length cursors ≡ 9
-  pub done : (i : ℕ) → 1 ≤ i → i < j → i ≤ s → at cursors i ≡ cursorAt line s b i
-  pub left : (i : ℕ) → 1 ≤ i → j ≤ i → i ≤ s → at cursors i ≡ cursorAt line s a i
+  pub done : (i : ℕ) → 1 ≤ i → i < j → i ≤ s → at cursors i ≡ cursor_at line s b i
+  pub left : (i : ℕ) → 1 ≤ i → j ≤ i → i ≤ s → at cursors i ≡ cursor_at line s a i
 
-pub moved-starts : {line : Line} {s a b : ℕ} {cursors : List ℕ} → Cursors line s a cursors → Moved line s a b 1 cursors
-moved-starts held =
+pub moved_starts : {line : Line} {s a b : ℕ} {cursors : List ℕ} → Cursors line s a cursors → Moved line s a b 1 cursors
+moved_starts held =
     record {
       low = held.low;
       long = held.long;
@@ -40,9 +40,9 @@ moved-starts held =
       left = λ i from ge le. held.first i from le;
     }
 
-pub moved-steps : {line : Line} {s a b : ℕ} {cursors : List ℕ} (j v : ℕ) → Moved line s a b j cursors → j < 9 → v ≡ cursorAt line s b j →
+pub moved_steps : {line : Line} {s a b : ℕ} {cursors : List ℕ} (j v : ℕ) → Moved line s a b j cursors → j < 9 → v ≡ cursor_at line s b j →
     Moved line s a b (j + 1) (set cursors j v)
-moved-steps {line} {s} {a} {b} {cursors} j v moved inside e =
+moved_steps {line} {s} {a} {b} {cursors} j v moved inside e =
     record {
       low = moved.low;
       long = length-set cursors j v ∙ moved.long;
@@ -50,57 +50,57 @@ moved-steps {line} {s} {a} {b} {cursors} j v moved inside e =
       left = λ i from ge le. get_or-set_other cursors j i v 0 (λ same. omega arith) ∙ moved.left i from (omega arith) le;
     }
   where
-    done : (i : ℕ) → 1 ≤ i → i < j + 1 → i ≤ s → at (set cursors j v) i ≡ cursorAt line s b i
+    done : (i : ℕ) → 1 ≤ i → i < j + 1 → i ≤ s → at (set cursors j v) i ≡ cursor_at line s b i
     done i from to le =
-        eq-or-not i j
+        eq_or_not i j
         (λ same. rw same (get_or-set_same cursors j v 0 (omega (arith, moved.long)) ∙ e))
         (λ ne. get_or-set_other cursors j i v 0 ne ∙ moved.done i from (omega arith) le)
 
-pub moved-ends : {line : Line} {s a b own : ℕ} {cursors : List ℕ} → ((j : ℕ) → own < j → cursorAt line s a j ≡ cursorAt line s b j) →
+pub moved_ends : {line : Line} {s a b own : ℕ} {cursors : List ℕ} → ((j : ℕ) → own < j → cursor_at line s a j ≡ cursor_at line s b j) →
     Moved line s a b (suc own) cursors → Cursors line s b cursors
-moved-ends {own} stay moved =
+moved_ends {own} stay moved =
     record {
       low = moved.low;
       long = moved.long;
       first =
           λ j from to.
-          le-or-lt j own
+          le_or_lt j own
           (λ le. moved.done j from (omega arith) to)
           (λ past. moved.left j from past to ∙ stay j past);
     }
 
 -- A level vector that is met, of sum s.
-module _ {v : Subspace} {s : ℕ} (seen : Seen v) (sum : sumTo (at v.levels) v.line.axes ≡ s) where
+module _ {v : Subspace} {s : ℕ} (seen : Seen v) (sum : sum_to (at v.levels) v.line.axes ≡ s) where
   -- How many level vectors of the sum come before it.
   abbrev before : ℕ
   before = rank (at v.levels) v.line.axes
 
-  pub own-le : v.own ≤ s
-  own-le = omega (arith, seen.own, term-le (at v.levels) v.line.axes v.line.place seen.axis)
+  pub own_le : v.own ≤ s
+  own_le = omega (arith, seen.own, term_le (at v.levels) v.line.axes v.line.place seen.axis)
 
-  pub sum-le : s ≤ 8
-  sum-le = omega (arith, seen.sum, seen.top)
+  pub sum_le : s ≤ 8
+  sum_le = omega (arith, seen.sum, seen.top)
 
   -- The cursors past its level on the axis stay.
-  stays : (j : ℕ) → v.own < j → cursorAt v.line s (suc before) j ≡ cursorAt v.line s before j
+  stays : (j : ℕ) → v.own < j → cursor_at v.line s (suc before) j ≡ cursor_at v.line s before j
   stays j past =
-      let none = does-not-reach (at v.levels) v.line.axes v.line.place s j seen.axis sum (omega (arith, seen.own)) in
+      let none = does_not_reach (at v.levels) v.line.axes v.line.place s j seen.axis sum (omega (arith, seen.own)) in
       ap (λ (r : ℕ). start v.line.axes (s - j) + 2 ^ (s - j) * r)
-      (omega (arith, passed-step v.line.axes v.line.place s j before, none))
+      (omega (arith, passed_step v.line.axes v.line.place s j before, none))
 
-  pub moved-up : {cursors : List ℕ} → Moved v.line s before (suc before) (suc v.own) cursors → Cursors v.line s (suc before) cursors
-  moved-up moved = moved-ends (λ j past. sym (stays j past)) moved
+  pub moved_up : {cursors : List ℕ} → Moved v.line s before (suc before) (suc v.own) cursors → Cursors v.line s (suc before) cursors
+  moved_up moved = moved_ends (λ j past. sym (stays j past)) moved
 
-  pub moved-down : {cursors : List ℕ} → Moved v.line s (suc before) before (suc v.own) cursors → Cursors v.line s before cursors
-  moved-down moved = moved-ends stays moved
+  pub moved_down : {cursors : List ℕ} → Moved v.line s (suc before) before (suc v.own) cursors → Cursors v.line s before cursors
+  moved_down moved = moved_ends stays moved
 
   -- The others step by as many points as the level vector below has.
   module _ (j : ℕ) (to : j ≤ v.own) where
-    steps : cursorAt v.line s (suc before) j ≡ cursorAt v.line s before j + 2 ^ (s - j)
+    steps : cursor_at v.line s (suc before) j ≡ cursor_at v.line s before j + 2 ^ (s - j)
     steps =
-        let one = does-reach (at v.levels) v.line.axes v.line.place s j seen.axis sum (omega (arith, seen.own)) in
+        let one = does_reach (at v.levels) v.line.axes v.line.place s j seen.axis sum (omega (arith, seen.own)) in
         let more : passed v.line.axes v.line.place s j (suc before) ≡ suc (passed v.line.axes v.line.place s j before)
-        = omega (arith, passed-step v.line.axes v.line.place s j before, one)
+        = omega (arith, passed_step v.line.axes v.line.place s j before, one)
         in
         omega (
           arith,
@@ -109,31 +109,31 @@ module _ {v : Subspace} {s : ℕ} (seen : Seen v) (sum : sumTo (at v.levels) v.l
         )
 
     shifted : 1 * 2 ^ (s - j) % 2 ^ 64 ≡ 2 ^ (s - j)
-    shifted = one_shifted 64 (s - j) (omega (arith, sum-le))
+    shifted = one_shifted 64 (s - j) (omega (arith, sum_le))
 
-    pub stepped-up : (c : ℕ) → c ≡ cursorAt v.line s before j → c + 1 * 2 ^ (s - j) % 2 ^ 64 ≡ cursorAt v.line s (suc before) j
-    stepped-up c e = omega (arith, steps, shifted)
+    pub stepped_up : (c : ℕ) → c ≡ cursor_at v.line s before j → c + 1 * 2 ^ (s - j) % 2 ^ 64 ≡ cursor_at v.line s (suc before) j
+    stepped_up c e = omega (arith, steps, shifted)
 
-    pub stepped-down : (c : ℕ) → c ≡ cursorAt v.line s (suc before) j → c - 1 * 2 ^ (s - j) % 2 ^ 64 ≡ cursorAt v.line s before j
-    stepped-down c e = omega (arith, steps, shifted)
+    pub stepped_down : (c : ℕ) → c ≡ cursor_at v.line s (suc before) j → c - 1 * 2 ^ (s - j) % 2 ^ 64 ≡ cursor_at v.line s before j
+    stepped_down c e = omega (arith, steps, shifted)
 
-    pub step-fits : (c : ℕ) → c ≡ cursorAt v.line s (suc before) j → 1 * 2 ^ (s - j) % 2 ^ 64 ≤ c
-    step-fits c e = omega (arith, steps, shifted)
+    pub step_fits : (c : ℕ) → c ≡ cursor_at v.line s (suc before) j → 1 * 2 ^ (s - j) % 2 ^ 64 ≤ c
+    step_fits c e = omega (arith, steps, shifted)
 
     -- A step ends within the numbers of the smaller sum.
-    pub cursor-small : cursorAt v.line s (suc before) j < 2 ^ 32
-    cursor-small =
+    pub cursor_small : cursor_at v.line s (suc before) j < 2 ^ 32
+    cursor_small =
         let high : j ≤ at v.levels v.line.place = omega (arith, seen.own) in
-        let le : j ≤ s = omega (arith, own-le) in
-        let lower = passed-lower v.line.axes v.line.place s j seen.axis le (at v.levels) sum high in
+        let le : j ≤ s = omega (arith, own_le) in
+        let lower = passed_lower v.line.axes v.line.place s j seen.axis le (at v.levels) sum high in
         let below : suc (passed v.line.axes v.line.place s j before) ≤ vectors v.line.axes (s - j)
-        = omega (arith, lower, lowered-rank_lt v.line.axes v.line.place s j seen.axis le (at v.levels) sum high)
+        = omega (arith, lower, lowered_rank_lt v.line.axes v.line.place s j seen.axis le (at v.levels) sum high)
         in
         omega (
           arith,
           steps,
           mul-suc (2 ^ (s - j)) (passed v.line.axes v.line.place s j before),
           mul-le-mul_left (2 ^ (s - j)) below,
-          start-suc v.line.axes (s - j),
-          start_small v.line.axes (omega (arith, seen.axis)) seen.few (suc (s - j)) (omega (arith, sum-le)),
+          start_suc v.line.axes (s - j),
+          start_small v.line.axes (omega (arith, seen.axis)) seen.few (suc (s - j)) (omega (arith, sum_le)),
         )

@@ -2,10 +2,10 @@
 -- axis.
 -- Assumes nothing.
 use Rattle.std.specs.Prelude.{List, ◌≡◌, ℕ, suc, ◌+◌, ◌-◌, ◌*◌, ◌^◌, ◌≤◌, ◌<◌, leb, length, if◌then◌else◌}
-use Rattle.naturals.specs.Sum.{sumTo}
+use Rattle.naturals.specs.Sum.{sum_to}
 use Rattle.numbering.specs.Count.{start}
 use Rattle.numbering.specs.Point.{at}
-use Rattle.numbering.specs.Inverse.{levelOf}
+use Rattle.numbering.specs.Inverse.{level_of}
 use Rattle.neighbours.specs.declared.Line.{Line}
 
 -- A shape within the limits, and one of its axes.
@@ -22,10 +22,10 @@ pub record Starts (line : Line) (starts : List ℕ) : Type 0 where
 -- Of the level lists of d axes with the level sum s: 1 if the one that r others come before has a level of at least j on axis t, else 0; and how many of the
 -- first b have.
 unfoldable pub reaches : ℕ → ℕ → ℕ → ℕ → ℕ → ℕ
-reaches d t s j r = if leb j (levelOf d s r t) then 1 else 0
+reaches d t s j r = if leb j (level_of d s r t) then 1 else 0
 
 unfoldable pub passed : ℕ → ℕ → ℕ → ℕ → ℕ → ℕ
-passed d t s j b = sumTo (reaches d t s j) b
+passed d t s j b = sum_to (reaches d t s j) b
 
 -- Of the level lists of sum s the first b are passed. Those of them with a level of at least j on the axis, each lowered by j there, are the first level lists
 -- of sum s − j: cursor j is the number of the first point that comes after these. Places 0 and past s are not read.

@@ -3,7 +3,7 @@
 #![tactic(auto)]
 
 ghost use Rattle.std.specs.Prelude.{◌≡◌, suc, ◌≤◌};
-ghost use Rattle.naturals.specs.Sum.{sumTo};
+ghost use Rattle.naturals.specs.Sum.{sum_to};
 ghost use Rattle.numbering.specs.Count.{vectors};
 ghost use Rattle.numbering.specs.Number.{rank};
 ghost use Rattle.numbering.specs.Point.{at};
@@ -59,7 +59,7 @@ pub fn after_last(line: Line, sum: u32, starts: &[u64; 10]) -> [u64; 9]
 
 // One level list on: each cursor that stands at a list below this one steps over it.
 pub fn pass(v: Subspace, sum: u32, cursors: &mut [u64; 9])
-    requires { Seen v × (sumTo (at v.levels) v.line.axes ≡ sum) × Cursors v.line sum (rank (at v.levels) v.line.axes) cursors.old }
+    requires { Seen v × (sum_to (at v.levels) v.line.axes ≡ sum) × Cursors v.line sum (rank (at v.levels) v.line.axes) cursors.old }
     ensures { Cursors v.line sum (suc (rank (at v.levels) v.line.axes)) cursors.new }
 {
     let mut j: u32 = 1;
@@ -71,7 +71,7 @@ pub fn pass(v: Subspace, sum: u32, cursors: &mut [u64; 9])
 
 // One level list back: each cursor that stands after a list below this one steps back to it.
 pub fn pass_back(v: Subspace, sum: u32, cursors: &mut [u64; 9])
-    requires { Seen v × (sumTo (at v.levels) v.line.axes ≡ sum) × Cursors v.line sum (suc (rank (at v.levels) v.line.axes)) cursors.old }
+    requires { Seen v × (sum_to (at v.levels) v.line.axes ≡ sum) × Cursors v.line sum (suc (rank (at v.levels) v.line.axes)) cursors.old }
     ensures { Cursors v.line sum (rank (at v.levels) v.line.axes) cursors.new }
 {
     let mut j: u32 = 1;

@@ -11,84 +11,84 @@ use lib.IntN.{ℤ}
 use lib.ListN.{length}
 use borrow.Author.Tests.{leb-true, eqb-true}
 use Rattle.naturals.specs.Test.{all}
-use Rattle.naturals.proofs.Tests.{all-at}
+use Rattle.naturals.proofs.Tests.{all_at}
 use Rattle.naturals.proofs.FirstFailing.{none_first}
 use Rattle.refusals.specs.declared.Refusal.{Refusal}
 use Rattle.refusals.specs.declared.Refusal.TheVariants.{ListLength, Coordinate, Contents}
 use Rattle.refusals.specs.declared.Verdict.TheVariants as verdict
 use Rattle.refusals.specs.Checks.{unless}
-use Rattle.refusals.proofs.Passing.{first-passed, next-passed, test-passed}
-use Rattle.integers.specs.Half.{contentAt}
+use Rattle.refusals.proofs.Passing.{first_passed, next_passed, test_passed}
+use Rattle.integers.specs.Half.{content_at}
 use Rattle.numbering.specs.Point.{at}
-use Rattle.hierarchy.specs.Turns.{valueAt}
+use Rattle.hierarchy.specs.Turns.{value_at}
 use Rattle.shapes.proofs.Checked.{InRange}
-use Rattle.surfaces.specs.Weights.{unit, isCoordinate}
-use Rattle.surfaces.specs.Surface.{estimateAt}
+use Rattle.surfaces.specs.Weights.{unit, is_coordinate}
+use Rattle.surfaces.specs.Surface.{estimate_at}
 use Rattle.states.specs.declared.State.{State}
-use Rattle.states.specs.States.{checkState}
-use Rattle.states.proofs.Checked.{Stands, state-passed}
+use Rattle.states.specs.States.{check_state}
+use Rattle.states.proofs.Checked.{Stands, state_passed}
 use Rattle.evaluation.specs.Steps.{Listed, Evaluable}
 use Rattle.estimates.specs.declared.Estimated.TheVariants.{Value, Refused}
-use Rattle.estimates.specs.Estimates.{checkForward, insideAt, firstOutside, checkCoordinates, checkEstimate, estimateInUnit, estimate}
+use Rattle.estimates.specs.Estimates.{check_forward, inside_at, first_outside, check_coordinates, check_estimate, estimate_in_unit, estimate}
 
 -- Where no coordinate is outside, each is at most the unit.
-each-inside : (d : ℕ) (cs : List ℕ) → d ≤ firstOutside unit d cs → (t : ℕ) → t < d → at cs t ≤ unit
-unfolding firstOutside insideAt isCoordinate
-each-inside d cs le t h = leb-true (at cs t) unit (none_first (insideAt unit cs) d le t h)
+each_inside : (d : ℕ) (cs : List ℕ) → d ≤ first_outside unit d cs → (t : ℕ) → t < d → at cs t ≤ unit
+unfolding first_outside inside_at is_coordinate
+each_inside d cs le t h = leb-true (at cs t) unit (none_first (inside_at unit cs) d le t h)
 
 module _ (s : State) (xs : List ℤ) (cs : List ℕ) where
-  pub unchecked : (r : Refusal) → checkState s (length xs) ≡ verdict.Refused r → estimate s xs cs ≡ Refused r
-  unfolding estimateInUnit checkEstimate
+  pub unchecked : (r : Refusal) → check_state s (length xs) ≡ verdict.Refused r → estimate s xs cs ≡ Refused r
+  unfolding estimate_in_unit check_estimate
   unchecked r e = rw e
 
-  module _ (e : checkState s (length xs) ≡ verdict.Passed) where
+  module _ (e : check_state s (length xs) ≡ verdict.Passed) where
     stands : Stands s (length xs)
-    stands = state-passed s (length xs) e
+    stands = state_passed s (length xs) e
 
-    pub in-range : InRange s.shape
-    in-range = stands.range
+    pub in_range : InRange s.shape
+    in_range = stands.range
 
-    pub half-turned : (r : Refusal) → checkForward s ≡ verdict.Refused r → estimate s xs cs ≡ Refused r
-    unfolding estimateInUnit checkEstimate
-    half-turned r f = rw (e, f)
+    pub half_turned : (r : Refusal) → check_forward s ≡ verdict.Refused r → estimate s xs cs ≡ Refused r
+    unfolding estimate_in_unit check_estimate
+    half_turned r f = rw (e, f)
 
-    module _ (f : checkForward s ≡ verdict.Passed) where
-      pub outside : (r : Refusal) → checkCoordinates unit s.shape.axes cs ≡ verdict.Refused r → estimate s xs cs ≡ Refused r
-      unfolding estimateInUnit checkEstimate
+    module _ (f : check_forward s ≡ verdict.Passed) where
+      pub outside : (r : Refusal) → check_coordinates unit s.shape.axes cs ≡ verdict.Refused r → estimate s xs cs ≡ Refused r
+      unfolding estimate_in_unit check_estimate
       outside r g = rw (e, f, g)
 
-      module _ (g : checkCoordinates unit s.shape.axes cs ≡ verdict.Passed) where
-        pub past-limit : all (contentAt xs) (length xs) ≡ false → estimate s xs cs ≡ Refused Contents
-        unfolding estimateInUnit checkEstimate
-        past-limit h = rw (e, f, g, h)
+      module _ (g : check_coordinates unit s.shape.axes cs ≡ verdict.Passed) where
+        pub past_limit : all (content_at xs) (length xs) ≡ false → estimate s xs cs ≡ Refused Contents
+        unfolding estimate_in_unit check_estimate
+        past_limit h = rw (e, f, g, h)
 
         listed : Listed s.shape.axes cs
-        unfolding checkCoordinates
+        unfolding check_coordinates
         listed =
             let d = s.shape.axes in
             let lengths = unless (eqb (length cs) d) ListLength in
-            let places = unless (leb d (firstOutside unit d cs)) (Coordinate (suc (firstOutside unit d cs))) in
+            let places = unless (leb d (first_outside unit d cs)) (Coordinate (suc (first_outside unit d cs))) in
             record {
-              few = in-range.high;
-              long = eqb-true (length cs) d (test-passed (eqb (length cs) d) ListLength (first-passed lengths places g));
+              few = in_range.high;
+              long = eqb-true (length cs) d (test_passed (eqb (length cs) d) ListLength (first_passed lengths places g));
               coordinates =
-                  each-inside d cs
-                  (leb-true d (firstOutside unit d cs)
-                  (test-passed (leb d (firstOutside unit d cs)) (Coordinate (suc (firstOutside unit d cs))) (next-passed lengths places g)));
+                  each_inside d cs
+                  (leb-true d (first_outside unit d cs)
+                  (test_passed (leb d (first_outside unit d cs)) (Coordinate (suc (first_outside unit d cs))) (next_passed lengths places g)));
             }
 
-        module _ (h : all (contentAt xs) (length xs) ≡ true) where
+        module _ (h : all (content_at xs) (length xs) ≡ true) where
           pub evaluable : Evaluable s.shape xs cs
-          unfolding contentAt valueAt
+          unfolding content_at value_at
           evaluable =
               record {
-                some = in-range.low;
-                low = in-range.top;
+                some = in_range.low;
+                low = in_range.top;
                 long = stands.long;
-                contents = λ p lt. all-at (contentAt xs) (length xs) h p (omega (arith, stands));
+                contents = λ p lt. all_at (content_at xs) (length xs) h p (omega (arith, stands));
                 listed = listed;
               }
 
-          pub estimated : estimate s xs cs ≡ Value (estimateAt s.shape (valueAt xs) (at cs))
-          unfolding estimateInUnit checkEstimate
+          pub estimated : estimate s xs cs ≡ Value (estimate_at s.shape (value_at xs) (at cs))
+          unfolding estimate_in_unit check_estimate
           estimated = rw (e, f, g, h)

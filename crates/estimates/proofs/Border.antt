@@ -5,16 +5,16 @@ use mathlib.Core.List.{List}
 use Prim.Native.Nat.{ℕ, ◌<◌}
 use lib.IntN.{ℤ, pos}
 use Rattle.numbering.specs.Point.{at}
-use Rattle.hierarchy.specs.Turns.{valueAt}
+use Rattle.hierarchy.specs.Turns.{value_at}
 use Rattle.surfaces.specs.Weights.{unit}
 use Rattle.surfaces.specs.Border.{OnBorder}
-use Rattle.surfaces.proofs.Border.{border-estimate}
+use Rattle.surfaces.proofs.Border.{border_estimate}
 use Rattle.states.specs.declared.State.{State}
 use Rattle.estimates.specs.declared.Estimated.TheVariants.{Value}
 use Rattle.estimates.specs.Estimates.{estimate}
 use Rattle.estimates.proofs.Rounding.{answered}
 
-pub answer-border : (s : State) (table : List ℤ) (xs : List ℕ) (t : ℕ) → t < s.shape.axes → OnBorder unit (at xs) t →
+pub answer_border : (s : State) (table : List ℤ) (xs : List ℕ) (t : ℕ) → t < s.shape.axes → OnBorder unit (at xs) t →
     (v : ℤ) → estimate s table xs ≡ Value v → v ≡ pos 0
-answer-border s table xs t axis border =
-    answered s table xs (λ (v : ℤ). v ≡ pos 0) (border-estimate s.shape (at xs) t axis border (valueAt table))
+answer_border s table xs t axis border =
+    answered s table xs (λ (v : ℤ). v ≡ pos 0) (border_estimate s.shape (at xs) t axis border (value_at table))

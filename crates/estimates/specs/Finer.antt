@@ -3,9 +3,9 @@
 use Rattle.std.specs.Prelude.{List, map, ℕ, ◌*◌}
 
 -- Coordinates and weights were counted in 65,536ths.
-unfoldable pub oldUnit : ℕ
-oldUnit = 65536
+unfoldable pub old_unit : ℕ
+old_unit = 65536
 
 -- Each coordinate times f.
-unfoldable pub eachTimes : ℕ → List ℕ → List ℕ
-eachTimes f xs = map (λ (x : ℕ). x * f) xs
+unfoldable pub each_times : ℕ → List ℕ → List ℕ
+each_times f xs = map (λ (x : ℕ). x * f) xs

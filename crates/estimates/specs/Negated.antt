@@ -8,6 +8,6 @@ unfoldable pub negated : List ℤ → List ℤ
 negated table = map neg_ℤ table
 
 -- A refusal stays.
-abbrev pub negatedAnswer : Estimated → Estimated
-negatedAnswer (Value z) = Value (neg_ℤ z)
-negatedAnswer (Refused r) = Refused r
+abbrev pub negated_answer : Estimated → Estimated
+negated_answer (Value z) = Value (neg_ℤ z)
+negated_answer (Refused r) = Refused r

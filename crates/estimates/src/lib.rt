@@ -3,7 +3,7 @@
 
 ghost use Rattle.std.specs.Prelude.{◌≡◌, ◌≤◌};
 ghost use Rattle.surfaces.specs.Weights.{unit};
-ghost use Rattle.estimates.specs.Estimates.{checkForward, checkCoordinates, estimate};
+ghost use Rattle.estimates.specs.Estimates.{check_forward, check_coordinates, estimate};
 
 use refusals::{Refusal, Verdict};
 use states::State;
@@ -18,7 +18,7 @@ pub enum Estimated {
 // Every axis is forward, else refused with 17 and the first that is not.
 fn check_forward(state: State) -> Verdict
     requires { state.shape.axes ≤ 8 }
-    ensures { result ≡ checkForward state }
+    ensures { result ≡ check_forward state }
 {
     let shape = state.shape;
     let first = states::first_axis(state, false);
@@ -30,7 +30,7 @@ fn check_forward(state: State) -> Verdict
 
 // A coordinate for each axis, else refused with 7; none too large, else with 8 and the first axis where it is.
 fn check_coordinates(axes: u32, coordinates: &[u32]) -> Verdict
-    ensures { result ≡ checkCoordinates unit axes coordinates.now }
+    ensures { result ≡ check_coordinates unit axes coordinates.now }
 {
     if coordinates.len() as u64 != axes as u64 {
         return Verdict::Refused(Refusal::ListLength);

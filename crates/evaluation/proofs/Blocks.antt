@@ -6,120 +6,120 @@ use mathlib.Core.Logic.{⊎_elim}
 use Prim.Native.Nat.{ℕ, suc, ◌+◌, ◌*◌, ◌^◌, ◌≤◌, ◌<◌}
 use native.Mathlib.Nat.{eq-zero-or-pos}
 use native.Mathlib.Omega.{arith}
-use Rattle.naturals.specs.Sum.{sumTo}
-use Rattle.naturals.proofs.Cases.{le-or-lt}
-use Rattle.naturals.proofs.Sums.{sumTo-cong}
+use Rattle.naturals.specs.Sum.{sum_to}
+use Rattle.naturals.proofs.Cases.{le_or_lt}
+use Rattle.naturals.proofs.Sums.{sum_to_cong}
 use Rattle.numbering.specs.Count.{start}
 use Rattle.numbering.specs.Point.{IsPoint}
-use Rattle.numbering.specs.Number.{digit, position, firstOf}
-use Rattle.numbering.specs.Inverse.{indexOf}
-use Rattle.numbering.proofs.Numbering.{points-is}
-use Rattle.numbering.proofs.Position.{position-lt, position-cong, position-of-index, index-of-position, index-odd, index_below}
-use Rattle.numbering.proofs.Subspaces.{indices-in, block-below, block-levels, block-indices}
+use Rattle.numbering.specs.Number.{digit, position, first_of}
+use Rattle.numbering.specs.Inverse.{index_of}
+use Rattle.numbering.proofs.Numbering.{points_is}
+use Rattle.numbering.proofs.Position.{position_lt, position_cong, position_of_index, index_of_position, index_odd, index_below}
+use Rattle.numbering.proofs.Subspaces.{indices_in, block_below, block_levels, block_indices}
 use Rattle.shapes.specs.declared.Shape.{Shape}
-use Rattle.shapes.specs.Shapes.{pointsOf}
-use Rattle.grids.proofs.Sparse.{points-sparse, levels-sparse, indices-sparse}
+use Rattle.shapes.specs.Shapes.{points_of}
+use Rattle.grids.proofs.Sparse.{points_sparse, levels_sparse, indices_sparse}
 use Rattle.surfaces.specs.Weights.{unit, weight, joint}
-use Rattle.surfaces.specs.Surface.{weightIn, jointIn, weightOn, jointAt}
-use Rattle.surfaces.proofs.Hat.{weight-high}
-use Rattle.surfaces.proofs.Joint.{joint-above, joint-cong}
-use Rattle.surfaces.proofs.Cells.{only-half}
-use Rattle.axis_weights.specs.Steps.{cellOf, indexOfCell}
-use Rattle.axis_weights.proofs.Weighing.{cell-inside, index_below as taken-within}
+use Rattle.surfaces.specs.Surface.{weight_in, joint_in, weight_on, joint_at}
+use Rattle.surfaces.proofs.Hat.{weight_high}
+use Rattle.surfaces.proofs.Joint.{joint_above, joint_cong}
+use Rattle.surfaces.proofs.Cells.{only_half}
+use Rattle.axis_weights.specs.Steps.{cell_of, index_of_cell}
+use Rattle.axis_weights.proofs.Weighing.{cell_inside, index_below as taken_within}
 
 -- ---- the points of a level vector
 
 -- The weight on axis t at the coordinates x of a point of the levels l and indices i.
-abbrev pub weightsOf : (ℕ → ℕ) → (ℕ → ℕ) → (ℕ → ℕ) → ℕ → ℕ
-weightsOf x l i t = weight unit (x t) (l t) (i t)
+abbrev pub weights_of : (ℕ → ℕ) → (ℕ → ℕ) → (ℕ → ℕ) → ℕ → ℕ
+weights_of x l i t = weight unit (x t) (l t) (i t)
 
 -- The points of a shape are those before the level sum past its top level.
-pub count-is : (s : Shape) → pointsOf s ≡ start s.axes (suc s.level)
-count-is s = points-sparse s.axes s.level ∙ points-is s.axes s.level
+pub count_is : (s : Shape) → points_of s ≡ start s.axes (suc s.level)
+count_is s = points_sparse s.axes s.level ∙ points_is s.axes s.level
 
-module _ (s : Shape) (l : ℕ → ℕ) (rest : (t : ℕ) → s.axes ≤ t → l t ≡ 0) (low : sumTo l s.axes ≤ s.level)
-    (j : ℕ) (j-in : j < 2 ^ sumTo l s.axes) where
-  pub block_within : firstOf s.axes l + j < pointsOf s
-  block_within = omega (arith, block-below s.axes s.level l rest low j j-in, points-is s.axes s.level, count-is s)
+module _ (s : Shape) (l : ℕ → ℕ) (rest : (t : ℕ) → s.axes ≤ t → l t ≡ 0) (low : sum_to l s.axes ≤ s.level)
+    (j : ℕ) (j_in : j < 2 ^ sum_to l s.axes) where
+  pub block_within : first_of s.axes l + j < points_of s
+  block_within = omega (arith, block_below s.axes s.level l rest low j j_in, points_is s.axes s.level, count_is s)
 
-  block-joint : (x : ℕ → ℕ) → jointAt s x (firstOf s.axes l + j) ≡ joint unit (weightsOf x l (indexOf l j)) s.axes
-  unfolding jointIn weightIn
-  block-joint x =
-      let p : ℕ = firstOf s.axes l + j in
-      joint-cong unit (weightOn s x p) (weightsOf x l (indexOf l j)) s.axes
+  block_joint : (x : ℕ → ℕ) → joint_at s x (first_of s.axes l + j) ≡ joint unit (weights_of x l (index_of l j)) s.axes
+  unfolding joint_in weight_in
+  block_joint x =
+      let p : ℕ = first_of s.axes l + j in
+      joint_cong unit (weight_on s x p) (weights_of x l (index_of l j)) s.axes
       (λ t h.
       ap₂ (weight unit (x t))
-      (ap (λ (m : ℕ → ℕ). m t) (levels-sparse s.axes s.level p ∙ block-levels s.axes s.level l rest low j j-in))
-      (ap (λ (i : ℕ → ℕ). i t) (indices-sparse s.axes s.level p ∙ block-indices s.axes s.level l rest low j j-in)
-      ∙ indices-in s.axes l j t h))
+      (ap (λ (m : ℕ → ℕ). m t) (levels_sparse s.axes s.level p ∙ block_levels s.axes s.level l rest low j j_in))
+      (ap (λ (i : ℕ → ℕ). i t) (indices_sparse s.axes s.level p ∙ block_indices s.axes s.level l rest low j j_in)
+      ∙ indices_in s.axes l j t h))
 
 -- ---- the point in whose cells the coordinates lie
 
 module _ (x l : ℕ → ℕ) where
   -- Its index on axis t, what the axis adds to its position, and the position.
-  unfoldable pub takenIndex : ℕ → ℕ
-  takenIndex t = indexOfCell (cellOf (x t) (l t))
+  unfoldable pub taken_index : ℕ → ℕ
+  taken_index t = index_of_cell (cell_of (x t) (l t))
 
-  unfoldable pub takenStep : ℕ → ℕ
-  takenStep t = cellOf (x t) (l t) * 2 ^ sumTo l t
+  unfoldable pub taken_step : ℕ → ℕ
+  taken_step t = cell_of (x t) (l t) * 2 ^ sum_to l t
 
-  unfoldable pub takenAt : ℕ → ℕ
-  takenAt d = sumTo takenStep d
+  unfoldable pub taken_at : ℕ → ℕ
+  taken_at d = sum_to taken_step d
 
-  taken-position : (d : ℕ) → position l takenIndex d ≡ takenAt d
-  unfolding position digit takenAt takenStep takenIndex
-  taken-position d = sumTo-cong _ _ d (λ t h. ap (λ (a : ℕ). a * 2 ^ sumTo l t) (omega arith))
+  taken_position : (d : ℕ) → position l taken_index d ≡ taken_at d
+  unfolding position digit taken_at taken_step taken_index
+  taken_position d = sum_to_cong _ _ d (λ t h. ap (λ (a : ℕ). a * 2 ^ sum_to l t) (omega arith))
 
-  taken-point : (d : ℕ) → IsPoint d (sumTo l d) l takenIndex
-  unfolding takenIndex
-  taken-point d =
+  taken_point : (d : ℕ) → IsPoint d (sum_to l d) l taken_index
+  unfolding taken_index
+  taken_point d =
       record {
         sum = omega arith;
         odd = λ t h. omega arith;
-        below = λ t h. taken-within (x t) (l t);
+        below = λ t h. taken_within (x t) (l t);
       }
 
-  pub taken-below : (d : ℕ) → takenAt d < 2 ^ sumTo l d
-  taken-below d = rw (sym (taken-position d)) (position-lt (taken-point d) d (omega arith))
+  pub taken_below : (d : ℕ) → taken_at d < 2 ^ sum_to l d
+  taken_below d = rw (sym (taken_position d)) (position_lt (taken_point d) d (omega arith))
 
-  taken-index : (d t : ℕ) → t < d → indexOf l (takenAt d) t ≡ takenIndex t
-  taken-index d t h = ap (λ (q : ℕ). indexOf l q t) (sym (taken-position d)) ∙ index-of-position (taken-point d) t h
+  taken_index_lem : (d t : ℕ) → t < d → index_of l (taken_at d) t ≡ taken_index t
+  taken_index_lem d t h = ap (λ (q : ℕ). index_of l q t) (sym (taken_position d)) ∙ index_of_position (taken_point d) t h
 
-module _ (s : Shape) (x l : ℕ → ℕ) (rest : (t : ℕ) → s.axes ≤ t → l t ≡ 0) (low : sumTo l s.axes ≤ s.level) where
-  pub taken-joint : jointAt s x (firstOf s.axes l + takenAt x l s.axes) ≡ joint unit (weightsOf x l (takenIndex x l)) s.axes
-  taken-joint =
-      block-joint s l rest low (takenAt x l s.axes) (taken-below x l s.axes) x
-      ∙ joint-cong unit _ _ s.axes (λ t h. ap (weight unit (x t) (l t)) (taken-index x l s.axes t h))
+module _ (s : Shape) (x l : ℕ → ℕ) (rest : (t : ℕ) → s.axes ≤ t → l t ≡ 0) (low : sum_to l s.axes ≤ s.level) where
+  pub taken_joint : joint_at s x (first_of s.axes l + taken_at x l s.axes) ≡ joint unit (weights_of x l (taken_index x l)) s.axes
+  taken_joint =
+      block_joint s l rest low (taken_at x l s.axes) (taken_below x l s.axes) x
+      ∙ joint_cong unit _ _ s.axes (λ t h. ap (weight unit (x t) (l t)) (taken_index_lem x l s.axes t h))
 
-  module _ (inside : (t : ℕ) → t < s.axes → x t ≤ unit) (j : ℕ) (j-in : j < 2 ^ sumTo l s.axes) where
+  module _ (inside : (t : ℕ) → t < s.axes → x t ≤ unit) (j : ℕ) (j_in : j < 2 ^ sum_to l s.axes) where
     -- On each axis a weight above 0 is that of the cell's index.
-    index-taken : (t : ℕ) → t < s.axes → 0 < weight unit (x t) (l t) (indexOf l j t) → indexOf l j t ≡ takenIndex x l t
-    unfolding takenIndex
-    index-taken t h some =
-        le-or-lt unit (x t)
+    index_taken : (t : ℕ) → t < s.axes → 0 < weight unit (x t) (l t) (index_of l j t) → index_of l j t ≡ taken_index x l t
+    unfolding taken_index
+    index_taken t h some =
+        le_or_lt unit (x t)
         (λ border.
         let e : x t ≡ unit = omega (arith, inside t h) in
         absurd (omega (
           arith,
-          ap (λ (y : ℕ). weight unit y (l t) (indexOf l j t)) e,
-          weight-high unit (l t) (indexOf l j t) (index_below l j t),
+          ap (λ (y : ℕ). weight unit y (l t) (index_of l j t)) e,
+          weight_high unit (l t) (index_of l j t) (index_below l j t),
         )))
         (λ within.
         omega (
           arith,
-          index-odd l j t,
-          only-half unit (x t) (l t) (indexOf l j t) (index-odd l j t) some,
-          cell-inside (x t) (l t) within,
+          index_odd l j t,
+          only_half unit (x t) (l t) (index_of l j t) (index_odd l j t) some,
+          cell_inside (x t) (l t) within,
         ))
 
-    pub block-zero : (j ≡ takenAt x l s.axes → ⊥) → jointAt s x (firstOf s.axes l + j) ≡ 0
-    block-zero other =
-        block-joint s l rest low j j-in x
-        ∙ ⊎_elim (λ none. none) (λ some. absurd (other (same some))) (eq-zero-or-pos (joint unit (weightsOf x l (indexOf l j)) s.axes))
+    pub block_zero : (j ≡ taken_at x l s.axes → ⊥) → joint_at s x (first_of s.axes l + j) ≡ 0
+    block_zero other =
+        block_joint s l rest low j j_in x
+        ∙ ⊎_elim (λ none. none) (λ some. absurd (other (same some))) (eq-zero-or-pos (joint unit (weights_of x l (index_of l j)) s.axes))
       where
-        same : 0 < joint unit (weightsOf x l (indexOf l j)) s.axes → j ≡ takenAt x l s.axes
+        same : 0 < joint unit (weights_of x l (index_of l j)) s.axes → j ≡ taken_at x l s.axes
         same some =
-            sym (position-of-index l j s.axes j-in)
-            ∙ position-cong l (indexOf l j) l (takenIndex x l) s.axes (λ t h. refl)
-            (λ t h. index-taken t h (joint-above unit (weightsOf x l (indexOf l j)) s.axes some t h))
-            ∙ taken-position x l s.axes
+            sym (position_of_index l j s.axes j_in)
+            ∙ position_cong l (index_of l j) l (taken_index x l) s.axes (λ t h. refl)
+            (λ t h. index_taken t h (joint_above unit (weights_of x l (index_of l j)) s.axes some t h))
+            ∙ taken_position x l s.axes

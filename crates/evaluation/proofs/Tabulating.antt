@@ -6,8 +6,8 @@ use mathlib.Core.Path.{◌≡◌}
 use Prim.Native.Nat.{ℕ, ◌*◌, ◌≤◌, ◌<◌}
 use native.Mathlib.Omega.{arith}
 use Rattle.surfaces.specs.Weights.{unit}
-use Rattle.surfaces.proofs.Cells.{weight-le}
-use Rattle.axis_weights.specs.Steps.{cellOf, indexOfCell}
+use Rattle.surfaces.proofs.Cells.{weight_le}
+use Rattle.axis_weights.specs.Steps.{cell_of, index_of_cell}
 use Rattle.evaluation.specs.Steps.{entry, Tabulated, Bounded}
 use Rattle.axis_weights.proofs.Weighing.{cell_below}
 
@@ -18,12 +18,12 @@ pub record Tabulating (x : ℕ → ℕ) (d : ℕ) (ws cells : List ℕ) (k t lev
   pub done : Tabulated x k ws cells
 
 -- Full tables are bounded.
-pub tabulated-bounded : {x : ℕ → ℕ} {d : ℕ} {ws cells : List ℕ} → d ≤ 8 → Tabulated x (9 * d) ws cells → Bounded d ws cells
-tabulated-bounded {x} {d} few table =
+pub tabulated_bounded : {x : ℕ → ℕ} {d : ℕ} {ws cells : List ℕ} → d ≤ 8 → Tabulated x (9 * d) ws cells → Bounded d ws cells
+tabulated_bounded {x} {d} few table =
     record {
       few = few;
-      long-weights = table.long-weights;
-      long-cells = table.long-cells;
-      weight = λ t l h small. rw (table.weight t l small (omega arith)) (weight-le unit (x t) l (indexOfCell (cellOf (x t) l)));
+      long_weights = table.long_weights;
+      long_cells = table.long_cells;
+      weight = λ t l h small. rw (table.weight t l small (omega arith)) (weight_le unit (x t) l (index_of_cell (cell_of (x t) l)));
       cell = λ t l h small. rw (table.cell t l small (omega arith)) (cell_below (x t) l);
     }

@@ -2,11 +2,11 @@
 #![tactic(auto)]
 
 ghost use Rattle.std.specs.Prelude.{◌≡◌, ◌*◌, ◌≤◌};
-ghost use Rattle.naturals.specs.Sum.{sumTo};
+ghost use Rattle.naturals.specs.Sum.{sum_to};
 ghost use Rattle.numbering.specs.Point.{at};
-ghost use Rattle.hierarchy.specs.Turns.{valueAt};
-ghost use Rattle.surfaces.specs.Surface.{estimateAt};
-ghost use Rattle.evaluation.specs.Steps.{Tabulated, jointOf, positionOf, Bounded, Listed, Evaluable};
+ghost use Rattle.hierarchy.specs.Turns.{value_at};
+ghost use Rattle.surfaces.specs.Surface.{estimate_at};
+ghost use Rattle.evaluation.specs.Steps.{Tabulated, joint_of, position_of, Bounded, Listed, Evaluable};
 
 use shapes::Shape;
 use surfaces::BITS;
@@ -54,8 +54,8 @@ struct Term {
 }
 
 fn taken(axes: usize, levels: [u32; 8], weights: &[u64; 72], cells: &[u64; 72]) -> Term
-    requires { Bounded axes weights.now cells.now × (sumTo (at levels) axes ≤ 8) }
-    ensures { (result.position ≡ positionOf cells.now (at levels) axes) × (result.joint ≡ jointOf weights.now (at levels) axes) }
+    requires { Bounded axes weights.now cells.now × (sum_to (at levels) axes ≤ 8) }
+    ensures { (result.position ≡ position_of cells.now (at levels) axes) × (result.joint ≡ joint_of weights.now (at levels) axes) }
 {
     let mut position: u64 = 0;
     let mut joint: u64 = 1 << BITS;
@@ -78,7 +78,7 @@ fn taken(axes: usize, levels: [u32; 8], weights: &[u64; 72], cells: &[u64; 72]) 
 // The estimate at these coordinates.
 pub fn evaluate(shape: Shape, table: &[i64], coordinates: &[u32]) -> i64
     requires { Evaluable shape table.now coordinates.now }
-    ensures { result ≡ estimateAt shape (valueAt table.now) (at coordinates.now) }
+    ensures { result ≡ estimate_at shape (value_at table.now) (at coordinates.now) }
 {
     let hats = tabulated(shape.axes as usize, coordinates);
     let weights = hats.weights;

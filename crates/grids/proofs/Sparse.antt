@@ -5,23 +5,23 @@ use mathlib.Core.Path.{◌≡◌, refl}
 use Prim.Native.Nat.{ℕ}
 use Rattle.numbering.specs.Count.{points}
 use Rattle.numbering.specs.Number.{number}
-use Rattle.numbering.specs.Inverse.{levelAt, indexAt}
-use Rattle.shapes.specs.Shapes.{sparse, pointsOf}
-use Rattle.grids.specs.Grids.{numberOf, levelOn, indexOn}
+use Rattle.numbering.specs.Inverse.{level_at, index_at}
+use Rattle.shapes.specs.Shapes.{sparse, points_of}
+use Rattle.grids.specs.Grids.{number_of, level_on, index_on}
 
 module _ (d n : ℕ) where
-  pub points-sparse : pointsOf (sparse d n) ≡ points d n
-  unfolding pointsOf
-  points-sparse = refl
+  pub points_sparse : points_of (sparse d n) ≡ points d n
+  unfolding points_of
+  points_sparse = refl
 
-  pub number-sparse : (l i : ℕ → ℕ) → numberOf (sparse d n) l i ≡ number d l i
-  unfolding numberOf
-  number-sparse l i = refl
+  pub number_sparse : (l i : ℕ → ℕ) → number_of (sparse d n) l i ≡ number d l i
+  unfolding number_of
+  number_sparse l i = refl
 
-  pub levels-sparse : (p : ℕ) → levelOn (sparse d n) p ≡ levelAt d n p
-  unfolding levelOn
-  levels-sparse p = refl
+  pub levels_sparse : (p : ℕ) → level_on (sparse d n) p ≡ level_at d n p
+  unfolding level_on
+  levels_sparse p = refl
 
-  pub indices-sparse : (p : ℕ) → indexOn (sparse d n) p ≡ indexAt d n p
-  unfolding indexOn
-  indices-sparse p = refl
+  pub indices_sparse : (p : ℕ) → index_on (sparse d n) p ≡ index_at d n p
+  unfolding index_on
+  indices_sparse p = refl

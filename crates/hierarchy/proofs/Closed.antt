@@ -8,13 +8,13 @@ use native.Mathlib.Nat.{two-pow-succ, add-zero}
 use native.Mathlib.Omega.{arith}
 use lib.IntN.{ℤ, pos, ◌+ℤ◌, ◌*ℤ◌, zero-*ℤ}
 use Rattle.std.specs.Prelude.{if◌then◌else◌}
-use Rattle.naturals.proofs.Cases.{eq-or-not, true-or-false}
-use Rattle.integers.proofs.Products.{times-plus, times-one}
-use Rattle.integers.specs.Half.{isEven}
+use Rattle.naturals.proofs.Cases.{eq_or_not, true_or_false}
+use Rattle.integers.proofs.Products.{times_plus, times_one}
+use Rattle.integers.specs.Half.{is_even}
 use Rattle.hierarchy.specs.Grid.{Neighbours, Grid}
-use Rattle.hierarchy.specs.Turns.{sumOn, forward}
-use Rattle.hierarchy.specs.Sets.{scaled, swept, tableOf}
-use Rattle.hierarchy.proofs.Turned.{twice, turned, forward-twice, turned-twice, turned-swap, twice-even}
+use Rattle.hierarchy.specs.Turns.{sum_on, forward}
+use Rattle.hierarchy.specs.Sets.{scaled, swept, table_of}
+use Rattle.hierarchy.proofs.Turned.{twice, turned, forward_twice, turned_twice, turned_swap, twice_even}
 
 -- A table doubled k times.
 unfoldable pub doubled : ℕ → (ℕ → ℤ) → ℕ → ℤ
@@ -22,25 +22,25 @@ doubled zero f = f
 doubled (suc k) f = twice (doubled k f)
 
 -- Doubling d times is multiplying by 2^d.
-times-suc : (z : ℤ) (d : ℕ) → z *ℤ pos (2 ^ suc d) ≡ z *ℤ pos (2 ^ d) +ℤ z *ℤ pos (2 ^ d)
-times-suc z d = ap (λ (n : ℕ). z *ℤ pos n) (two-pow-succ d) ∙ times-plus z (2 ^ d) (2 ^ d)
+times_suc : (z : ℤ) (d : ℕ) → z *ℤ pos (2 ^ suc d) ≡ z *ℤ pos (2 ^ d) +ℤ z *ℤ pos (2 ^ d)
+times_suc z d = ap (λ (n : ℕ). z *ℤ pos n) (two-pow-succ d) ∙ times_plus z (2 ^ d) (2 ^ d)
 
-scaled-zero : (r : ℕ → ℤ) (p : ℕ) → scaled 0 r p ≡ r p
+scaled_zero : (r : ℕ → ℤ) (p : ℕ) → scaled 0 r p ≡ r p
 unfolding scaled
-scaled-zero r p = times-one (r p)
+scaled_zero r p = times_one (r p)
 
-scaled-suc : (d : ℕ) (r : ℕ → ℤ) (p : ℕ) → scaled (suc d) r p ≡ twice (scaled d r) p
+scaled_suc : (d : ℕ) (r : ℕ → ℤ) (p : ℕ) → scaled (suc d) r p ≡ twice (scaled d r) p
 unfolding scaled twice
-scaled-suc d r p = times-suc (r p) d
+scaled_suc d r p = times_suc (r p) d
 
-pub scaled-border : (d : ℕ) (r : ℕ → ℤ) → r 0 ≡ pos 0 → scaled d r 0 ≡ pos 0
+pub scaled_border : (d : ℕ) (r : ℕ → ℤ) → r 0 ≡ pos 0 → scaled d r 0 ≡ pos 0
 unfolding scaled
-scaled-border d r z = ap (λ (v : ℤ). v *ℤ pos (2 ^ d)) z ∙ zero-*ℤ (pos (2 ^ d))
+scaled_border d r z = ap (λ (v : ℤ). v *ℤ pos (2 ^ d)) z ∙ zero-*ℤ (pos (2 ^ d))
 
-pub scaled-doubled : (d : ℕ) (r : ℕ → ℤ) → scaled d r ≡ doubled d r
+pub scaled_doubled : (d : ℕ) (r : ℕ → ℤ) → scaled d r ≡ doubled d r
 unfolding doubled
-scaled-doubled zero r = fun_ext (scaled-zero r)
-scaled-doubled (suc d) r = fun_ext (scaled-suc d r) ∙ ap twice (scaled-doubled d r)
+scaled_doubled zero r = fun_ext (scaled_zero r)
+scaled_doubled (suc d) r = fun_ext (scaled_suc d r) ∙ ap twice (scaled_doubled d r)
 
 module _ (nb : Neighbours) where
   -- Each of the first k axes turns or doubles.
@@ -52,66 +52,66 @@ module _ (nb : Neighbours) where
   unfolding closed
   closed_in set k r e = rw e
 
-  closed-out : (set : ℕ → Bool) (k : ℕ) (r : ℕ → ℤ) → set k ≡ false → closed set (suc k) r ≡ twice (closed set k r)
+  closed_out : (set : ℕ → Bool) (k : ℕ) (r : ℕ → ℤ) → set k ≡ false → closed set (suc k) r ≡ twice (closed set k r)
   unfolding closed
-  closed-out set k r e = rw e
+  closed_out set k r e = rw e
 
-  turned-doubled : (t j : ℕ) (f : ℕ → ℤ) → turned nb t (doubled j f) ≡ doubled j (turned nb t f)
+  turned_doubled : (t j : ℕ) (f : ℕ → ℤ) → turned nb t (doubled j f) ≡ doubled j (turned nb t f)
   unfolding doubled
-  turned-doubled t zero f = refl
-  turned-doubled t (suc j) f = turned-twice nb t (doubled j f) ∙ ap twice (turned-doubled t j f)
+  turned_doubled t zero f = refl
+  turned_doubled t (suc j) f = turned_twice nb t (doubled j f) ∙ ap twice (turned_doubled t j f)
 
-  doubled-twice : (j : ℕ) (f : ℕ → ℤ) → doubled j (twice f) ≡ twice (doubled j f)
+  doubled_twice : (j : ℕ) (f : ℕ → ℤ) → doubled j (twice f) ≡ twice (doubled j f)
   unfolding doubled
-  doubled-twice zero f = refl
-  doubled-twice (suc j) f = ap twice (doubled-twice j f)
+  doubled_twice zero f = refl
+  doubled_twice (suc j) f = ap twice (doubled_twice j f)
 
-  doubled-suc : (j : ℕ) (f : ℕ → ℤ) → doubled (suc j) f ≡ twice (doubled j f)
+  doubled_suc : (j : ℕ) (f : ℕ → ℤ) → doubled (suc j) f ≡ twice (doubled j f)
   unfolding doubled
-  doubled-suc j f = refl
+  doubled_suc j f = refl
 
   -- After k axes, what is left of the 2^d is a doubling for each axis to come.
-  swept-closed : (set : ℕ → Bool) (k j : ℕ) (r : ℕ → ℤ) → swept nb set k (doubled (k + j) r) ≡ doubled j (closed set k r)
+  swept_closed : (set : ℕ → Bool) (k j : ℕ) (r : ℕ → ℤ) → swept nb set k (doubled (k + j) r) ≡ doubled j (closed set k r)
   unfolding swept closed
-  swept-closed set zero j r = ap (λ (n : ℕ). doubled n r) (omega arith)
-  swept-closed set (suc k) j r =
+  swept_closed set zero j r = ap (λ (n : ℕ). doubled n r) (omega arith)
+  swept_closed set (suc k) j r =
       let below : swept nb set k (doubled (suc k + j) r) ≡ twice (doubled j (closed set k r)) =
       ap (λ (n : ℕ). swept nb set k (doubled n r)) (omega arith)
-      ∙ swept-closed set k (suc j) r
-      ∙ doubled-suc j (closed set k r) in
-      true-or-false (set k)
+      ∙ swept_closed set k (suc j) r
+      ∙ doubled_suc j (closed set k r) in
+      true_or_false (set k)
       (λ e.
       rw e
       (ap (forward nb k) below
-      ∙ forward-twice nb k (doubled j (closed set k r))
-      ∙ turned-doubled k j (closed set k r)))
-      (λ e. rw e (below ∙ sym (doubled-twice j (closed set k r))))
+      ∙ forward_twice nb k (doubled j (closed set k r))
+      ∙ turned_doubled k j (closed set k r)))
+      (λ e. rw e (below ∙ sym (doubled_twice j (closed set k r))))
 
   -- Every half in the table of a set is whole: the sums that the turn of axis k meets, after the axes before it, are even.
-  pub halves-whole : (d : ℕ) (set : ℕ → Bool) (k : ℕ) (r : ℕ → ℤ) (p : ℕ) → k < d →
-      isEven (sumOn nb k (swept nb set k (scaled d r)) p) ≡ true
-  halves-whole d set k r p h =
+  pub halves_whole : (d : ℕ) (set : ℕ → Bool) (k : ℕ) (r : ℕ → ℤ) (p : ℕ) → k < d →
+      is_even (sum_on nb k (swept nb set k (scaled d r)) p) ≡ true
+  halves_whole d set k r p h =
       let j : ℕ = d - suc k in
       let e : d ≡ k + suc j = omega arith in
-      ap (λ (f : ℕ → ℤ). isEven (sumOn nb k f p))
-      (ap (swept nb set k) (scaled-doubled d r ∙ ap (λ (n : ℕ). doubled n r) e)
-      ∙ swept-closed set k (suc j) r
-      ∙ doubled-suc j (closed set k r))
-      ∙ twice-even nb k (doubled j (closed set k r)) p
+      ap (λ (f : ℕ → ℤ). is_even (sum_on nb k f p))
+      (ap (swept nb set k) (scaled_doubled d r ∙ ap (λ (n : ℕ). doubled n r) e)
+      ∙ swept_closed set k (suc j) r
+      ∙ doubled_suc j (closed set k r))
+      ∙ twice_even nb k (doubled j (closed set k r)) p
 
   -- The table of a set in closed form.
-  pub table-closed : (d : ℕ) (set : ℕ → Bool) (r : ℕ → ℤ) → tableOf nb d set r ≡ closed set d r
-  unfolding tableOf doubled
-  table-closed d set r =
-      ap (swept nb set d) (scaled-doubled d r ∙ ap (λ (n : ℕ). doubled n r) (sym (add-zero d))) ∙ swept-closed set d 0 r
+  pub table_closed : (d : ℕ) (set : ℕ → Bool) (r : ℕ → ℤ) → table_of nb d set r ≡ closed set d r
+  unfolding table_of doubled
+  table_closed d set r =
+      ap (swept nb set d) (scaled_doubled d r ∙ ap (λ (n : ℕ). doubled n r) (sym (add-zero d))) ∙ swept_closed set d 0 r
 
   -- The closed form looks at the first k axes of the set alone.
-  pub closed-cong : (set other : ℕ → Bool) (k : ℕ) (r : ℕ → ℤ) → ((t : ℕ) → t < k → set t ≡ other t) → closed set k r ≡ closed other k r
+  pub closed_cong : (set other : ℕ → Bool) (k : ℕ) (r : ℕ → ℤ) → ((t : ℕ) → t < k → set t ≡ other t) → closed set k r ≡ closed other k r
   unfolding closed
-  closed-cong set other zero r same = refl
-  closed-cong set other (suc k) r same =
+  closed_cong set other zero r same = refl
+  closed_cong set other (suc k) r same =
       ap₂ (λ (b : Bool) (f : ℕ → ℤ). if b then turned nb k f else twice f) (same k (omega arith))
-      (closed-cong set other k r (λ t h. same t (omega arith)))
+      (closed_cong set other k r (λ t h. same t (omega arith)))
 
   -- What is left of the table of a set without axis t, where t is one of the first k and not in the set: twice it is the table, and its turn is
   -- the table of the set with t.
@@ -130,34 +130,34 @@ module _ (nb : Neighbours) where
     pub step : (k t : ℕ) (set other : ℕ → Bool) (r : ℕ → ℤ) → t < k → With t set other → Step k t set other r
     step zero t set other r h w = absurd (omega arith)
     step (suc k) t set other r h w =
-        eq-or-not t k
+        eq_or_not t k
         (λ e.
         record {
           rest = closed set k r;
-          before = closed-out set k r (ap set (sym e) ∙ w.out);
+          before = closed_out set k r (ap set (sym e) ∙ w.out);
           after =
               closed_in other k r (ap other (sym e) ∙ w.inside)
-              ∙ ap (turned nb k) (sym (closed-cong set other k r (λ u lt. w.same u (λ f. omega arith))))
+              ∙ ap (turned nb k) (sym (closed_cong set other k r (λ u lt. w.same u (λ f. omega arith))))
               ∙ ap (λ (u : ℕ). turned nb u (closed set k r)) (sym e);
         })
         (λ e.
         let s = step k t set other r (omega arith) w in
-        true-or-false (set k)
+        true_or_false (set k)
         (λ b.
         record {
           rest = turned nb k s.rest;
-          before = closed_in set k r b ∙ ap (turned nb k) s.before ∙ turned-twice nb k s.rest;
+          before = closed_in set k r b ∙ ap (turned nb k) s.before ∙ turned_twice nb k s.rest;
           after =
               closed_in other k r (sym (w.same k (λ f. e (sym f))) ∙ b)
               ∙ ap (turned nb k) s.after
-              ∙ turned-swap nb m depth grid k t s.rest (λ f. e (sym f));
+              ∙ turned_swap nb m depth grid k t s.rest (λ f. e (sym f));
         })
         (λ b.
         record {
           rest = twice s.rest;
-          before = closed-out set k r b ∙ ap twice s.before;
+          before = closed_out set k r b ∙ ap twice s.before;
           after =
-              closed-out other k r (sym (w.same k (λ f. e (sym f))) ∙ b)
+              closed_out other k r (sym (w.same k (λ f. e (sym f))) ∙ b)
               ∙ ap twice s.after
-              ∙ sym (turned-twice nb t s.rest);
+              ∙ sym (turned_twice nb t s.rest);
         }))

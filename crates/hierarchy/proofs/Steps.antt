@@ -6,75 +6,75 @@ use mathlib.Core.Bool.{Bool, true}
 use Prim.Native.Nat.{ℕ, zero, suc, ◌^◌, ◌≤◌, ◌<◌}
 use native.Mathlib.Omega.{arith}
 use lib.IntN.{ℤ, pos, nat_abs}
-use Rattle.naturals.proofs.Cases.{true-or-false}
+use Rattle.naturals.proofs.Cases.{true_or_false}
 use Rattle.naturals.proofs.Tests.{all_from}
 use Rattle.numbering.specs.declared.Side.{Side}
 use Rattle.numbering.specs.declared.Side.TheVariants.{Left, Right}
-use Rattle.integers.specs.Half.{isEven, inLimit}
+use Rattle.integers.specs.Half.{is_even, in_limit}
 use Rattle.hierarchy.specs.Grid.{Neighbours, Grid}
-use Rattle.hierarchy.specs.Turns.{sumOn, forward, acceptedAt, accepted, backward}
-use Rattle.hierarchy.specs.Sets.{tableOf}
-use Rattle.hierarchy.proofs.Turned.{twice, turned, twice-even, forward-twice}
-use Rattle.hierarchy.proofs.Closed.{closed, table-closed, With, Step, step}
-use Rattle.hierarchy.proofs.Inverse.{back-of-forward}
-use Rattle.hierarchy.proofs.Bounds.{in-limit}
+use Rattle.hierarchy.specs.Turns.{sum_on, forward, accepted_at, accepted, backward}
+use Rattle.hierarchy.specs.Sets.{table_of}
+use Rattle.hierarchy.proofs.Turned.{twice, turned, twice_even, forward_twice}
+use Rattle.hierarchy.proofs.Closed.{closed, table_closed, With, Step, step}
+use Rattle.hierarchy.proofs.Inverse.{back_of_forward}
+use Rattle.hierarchy.proofs.Bounds.{in_limit_lem}
 
 module _ (m : ℕ) (nb : Neighbours) (depth : ℕ → ℕ → ℕ) (grid : Grid m nb depth) where
   -- Nothing at the border and past the points.
-  closed-still : (set : ℕ → Bool) (k : ℕ) (r : ℕ → ℤ) → r 0 ≡ pos 0 → (p : ℕ) → r p ≡ pos 0 →
+  closed_still : (set : ℕ → Bool) (k : ℕ) (r : ℕ → ℤ) → r 0 ≡ pos 0 → (p : ℕ) → r p ≡ pos 0 →
       ((t : ℕ) (b : Side) → nb t b p ≡ 0) → ((j : ℕ) → j < k → closed nb set j r 0 ≡ pos 0) → closed nb set k r p ≡ pos 0
   unfolding closed twice turned
-  closed-still set zero r z p e still below = e
-  closed-still set (suc k) r z p e still below =
-      let here = closed-still set k r z p e still (λ j h. below j (omega arith)) in
-      true-or-false (set k)
+  closed_still set zero r z p e still below = e
+  closed_still set (suc k) r z p e still below =
+      let here = closed_still set k r z p e still (λ j h. below j (omega arith)) in
+      true_or_false (set k)
       (λ b. rw (b, still k Left, still k Right, here, below k (omega arith)))
       (λ b. rw (b, here))
 
-  closed-zero : (set : ℕ → Bool) (k : ℕ) (r : ℕ → ℤ) → r 0 ≡ pos 0 → closed nb set k r 0 ≡ pos 0
+  closed_zero : (set : ℕ → Bool) (k : ℕ) (r : ℕ → ℤ) → r 0 ≡ pos 0 → closed nb set k r 0 ≡ pos 0
   unfolding closed twice turned
-  closed-zero set zero r z = z
-  closed-zero set (suc k) r z =
-      true-or-false (set k)
-      (λ b. rw (b, grid.border k Left, grid.border k Right, closed-zero set k r z))
-      (λ b. rw (b, closed-zero set k r z))
+  closed_zero set zero r z = z
+  closed_zero set (suc k) r z =
+      true_or_false (set k)
+      (λ b. rw (b, grid.border k Left, grid.border k Right, closed_zero set k r z))
+      (λ b. rw (b, closed_zero set k r z))
 
-  pub table-zero : (d : ℕ) (set : ℕ → Bool) (r : ℕ → ℤ) → r 0 ≡ pos 0 → tableOf nb d set r 0 ≡ pos 0
-  table-zero d set r z = ap (λ (f : ℕ → ℤ). f 0) (table-closed nb d set r) ∙ closed-zero set d r z
+  pub table_zero : (d : ℕ) (set : ℕ → Bool) (r : ℕ → ℤ) → r 0 ≡ pos 0 → table_of nb d set r 0 ≡ pos 0
+  table_zero d set r z = ap (λ (f : ℕ → ℤ). f 0) (table_closed nb d set r) ∙ closed_zero set d r z
 
-  pub table-past : (d : ℕ) (set : ℕ → Bool) (r : ℕ → ℤ) → r 0 ≡ pos 0 → (p : ℕ) → m < p → r p ≡ pos 0 → tableOf nb d set r p ≡ pos 0
-  table-past d set r z p h e =
-      ap (λ (f : ℕ → ℤ). f p) (table-closed nb d set r)
-      ∙ closed-still set d r z p e (λ t b. grid.past t b p h) (λ j lt. closed-zero set j r z)
+  pub table_past : (d : ℕ) (set : ℕ → Bool) (r : ℕ → ℤ) → r 0 ≡ pos 0 → (p : ℕ) → m < p → r p ≡ pos 0 → table_of nb d set r p ≡ pos 0
+  table_past d set r z p h e =
+      ap (λ (f : ℕ → ℤ). f p) (table_closed nb d set r)
+      ∙ closed_still set d r z p e (λ t b. grid.past t b p h) (λ j lt. closed_zero set j r z)
 
   module _ (d t : ℕ) (r : ℕ → ℤ) (axis : t < d) (set other : ℕ → Bool) (w : With nb t set other) where
-    one-step : Step nb d t set other r
-    one-step = step nb m depth grid d t set other r axis w
+    one_step : Step nb d t set other r
+    one_step = step nb m depth grid d t set other r axis w
 
-    table_before : tableOf nb d set r ≡ twice one-step.rest
-    table_before = table-closed nb d set r ∙ one-step.before
+    table_before : table_of nb d set r ≡ twice one_step.rest
+    table_before = table_closed nb d set r ∙ one_step.before
 
-    table-after : tableOf nb d other r ≡ turned nb t one-step.rest
-    table-after = table-closed nb d other r ∙ one-step.after
+    table_after : table_of nb d other r ≡ turned nb t one_step.rest
+    table_after = table_closed nb d other r ∙ one_step.after
 
-    pub forward-table : forward nb t (tableOf nb d set r) ≡ tableOf nb d other r
-    forward-table = ap (forward nb t) table_before ∙ forward-twice nb t one-step.rest ∙ sym table-after
+    pub forward_table : forward nb t (table_of nb d set r) ≡ table_of nb d other r
+    forward_table = ap (forward nb t) table_before ∙ forward_twice nb t one_step.rest ∙ sym table_after
 
-    pub sums-even : (p : ℕ) → isEven (sumOn nb t (tableOf nb d set r) p) ≡ true
-    sums-even p = ap (λ (f : ℕ → ℤ). isEven (sumOn nb t f p)) table_before ∙ twice-even nb t one-step.rest p
+    pub sums_even : (p : ℕ) → is_even (sum_on nb t (table_of nb d set r) p) ≡ true
+    sums_even p = ap (λ (f : ℕ → ℤ). is_even (sum_on nb t f p)) table_before ∙ twice_even nb t one_step.rest p
 
-    pub forward-accepted : d ≤ 8 → ((p : ℕ) → nat_abs (r p) ≤ 2 ^ 31) → accepted nb m t (tableOf nb d set r) ≡ true
-    unfolding accepted acceptedAt
-    forward-accepted few small =
-        all_from (acceptedAt nb t (tableOf nb d set r)) m
+    pub forward_accepted : d ≤ 8 → ((p : ℕ) → nat_abs (r p) ≤ 2 ^ 31) → accepted nb m t (table_of nb d set r) ≡ true
+    unfolding accepted accepted_at
+    forward_accepted few small =
+        all_from (accepted_at nb t (table_of nb d set r)) m
         (λ p h.
         rw (
-          ap (λ (f : ℕ → ℤ). inLimit (f (suc p))) (table-closed nb d set r) ∙ in-limit nb set d r few small (suc p),
-          sums-even (suc p),
-          ap (λ (f : ℕ → ℤ). inLimit (f (suc p))) (forward-table ∙ table-closed nb d other r) ∙ in-limit nb other d r few small (suc p),
+          ap (λ (f : ℕ → ℤ). in_limit (f (suc p))) (table_closed nb d set r) ∙ in_limit_lem nb set d r few small (suc p),
+          sums_even (suc p),
+          ap (λ (f : ℕ → ℤ). in_limit (f (suc p))) (forward_table ∙ table_closed nb d other r) ∙ in_limit_lem nb other d r few small (suc p),
         ))
 
-    pub back-table : (k : ℕ) → r 0 ≡ pos 0 → ((p : ℕ) → depth t p < k) → backward nb k t (tableOf nb d other r) ≡ tableOf nb d set r
-    back-table k z shallow =
-        ap (backward nb k t) (sym forward-table)
-        ∙ fun_ext (λ p. back-of-forward m nb depth grid t k (tableOf nb d set r) (table-zero d set r z) p (shallow p))
+    pub back_table : (k : ℕ) → r 0 ≡ pos 0 → ((p : ℕ) → depth t p < k) → backward nb k t (table_of nb d other r) ≡ table_of nb d set r
+    back_table k z shallow =
+        ap (backward nb k t) (sym forward_table)
+        ∙ fun_ext (λ p. back_of_forward m nb depth grid t k (table_of nb d set r) (table_zero d set r z) p (shallow p))

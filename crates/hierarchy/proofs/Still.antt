@@ -6,20 +6,20 @@ use lib.IntN.{ℤ, pos, ◌-ℤ◌, +ℤ_idr}
 use Rattle.integers.specs.Half.{half}
 use Rattle.numbering.specs.declared.Side.TheVariants.{Left, Right}
 use Rattle.hierarchy.specs.Grid.{Neighbours, Still}
-use Rattle.hierarchy.specs.Turns.{sumOn, forward}
+use Rattle.hierarchy.specs.Turns.{sum_on, forward}
 
-pub half-zero : half (pos 0) ≡ pos 0
+pub half_zero : half (pos 0) ≡ pos 0
 unfolding half
-half-zero = refl
+half_zero = refl
 
 module _ (nb : Neighbours) (t : ℕ) (f : ℕ → ℤ) (z : f 0 ≡ pos 0) (p : ℕ) (still : Still nb t p) where
-  pub sum-still : sumOn nb t f p ≡ pos 0
-  unfolding sumOn
-  sum-still = rw (still Left, still Right, z) refl
+  pub sum_still : sum_on nb t f p ≡ pos 0
+  unfolding sum_on
+  sum_still = rw (still Left, still Right, z) refl
 
-  half-still : half (sumOn nb t f p) ≡ pos 0
-  half-still = ap half sum-still ∙ half-zero
+  half_still : half (sum_on nb t f p) ≡ pos 0
+  half_still = ap half sum_still ∙ half_zero
 
-  pub forward-still : forward nb t f p ≡ f p
+  pub forward_still : forward nb t f p ≡ f p
   unfolding forward
-  forward-still = ap (λ (h : ℤ). f p -ℤ h) half-still ∙ +ℤ_idr (f p)
+  forward_still = ap (λ (h : ℤ). f p -ℤ h) half_still ∙ +ℤ_idr (f p)

@@ -5,31 +5,31 @@ use mathlib.Core.Bool.{Bool}
 use Prim.Native.Nat.{ℕ, zero, suc}
 use native.Mathlib.Omega.{arith}
 use lib.IntN.{ℤ}
-use Rattle.naturals.proofs.Cases.{true-or-false}
+use Rattle.naturals.proofs.Cases.{true_or_false}
 use Rattle.integers.proofs.Linear.{leaf, ◌⊕◌, equal}
 use Rattle.hierarchy.specs.Grid.{Neighbours}
-use Rattle.hierarchy.specs.Sets.{tableOf}
-use Rattle.hierarchy.proofs.Turned.{twice, plus, turned, turned-plus}
-use Rattle.hierarchy.proofs.Closed.{closed, table-closed}
+use Rattle.hierarchy.specs.Sets.{table_of}
+use Rattle.hierarchy.proofs.Turned.{twice, plus, turned, turned_plus}
+use Rattle.hierarchy.proofs.Closed.{closed, table_closed}
 
-twice-plus-at : (f g : ℕ → ℤ) (p : ℕ) → twice (plus f g) p ≡ plus (twice f) (twice g) p
+twice_plus_at : (f g : ℕ → ℤ) (p : ℕ) → twice (plus f g) p ≡ plus (twice f) (twice g) p
 unfolding twice plus
-twice-plus-at f g p =
+twice_plus_at f g p =
     let a = leaf (f p) in
     let b = leaf (g p) in
     equal ((a ⊕ b) ⊕ (a ⊕ b)) ((a ⊕ a) ⊕ (b ⊕ b)) (omega arith)
 
 module _ (nb : Neighbours) where
-  closed-plus : (set : ℕ → Bool) (k : ℕ) (r s : ℕ → ℤ) → closed nb set k (plus r s) ≡ plus (closed nb set k r) (closed nb set k s)
+  closed_plus : (set : ℕ → Bool) (k : ℕ) (r s : ℕ → ℤ) → closed nb set k (plus r s) ≡ plus (closed nb set k r) (closed nb set k s)
   unfolding closed
-  closed-plus set zero r s = refl
-  closed-plus set (suc k) r s =
-      true-or-false (set k)
-      (λ e. rw e (ap (turned nb k) (closed-plus set k r s) ∙ turned-plus nb k (closed nb set k r) (closed nb set k s)))
-      (λ e. rw e (ap twice (closed-plus set k r s) ∙ fun_ext (twice-plus-at (closed nb set k r) (closed nb set k s))))
+  closed_plus set zero r s = refl
+  closed_plus set (suc k) r s =
+      true_or_false (set k)
+      (λ e. rw e (ap (turned nb k) (closed_plus set k r s) ∙ turned_plus nb k (closed nb set k r) (closed nb set k s)))
+      (λ e. rw e (ap twice (closed_plus set k r s) ∙ fun_ext (twice_plus_at (closed nb set k r) (closed nb set k s))))
 
-  pub table-plus : (d : ℕ) (set : ℕ → Bool) (r s : ℕ → ℤ) → tableOf nb d set (plus r s) ≡ plus (tableOf nb d set r) (tableOf nb d set s)
-  table-plus d set r s =
-      table-closed nb d set (plus r s)
-      ∙ closed-plus set d r s
-      ∙ ap₂ plus (sym (table-closed nb d set r)) (sym (table-closed nb d set s))
+  pub table_plus : (d : ℕ) (set : ℕ → Bool) (r s : ℕ → ℤ) → table_of nb d set (plus r s) ≡ plus (table_of nb d set r) (table_of nb d set s)
+  table_plus d set r s =
+      table_closed nb d set (plus r s)
+      ∙ closed_plus set d r s
+      ∙ ap₂ plus (sym (table_closed nb d set r)) (sym (table_closed nb d set s))

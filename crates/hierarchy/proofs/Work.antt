@@ -7,14 +7,14 @@ use mathlib.Core.List.{List, [], ◌∷◌}
 use Prim.Native.Nat.{ℕ, suc}
 use lib.IntN.{ℤ, pos, ◌+ℤ◌, ◌-ℤ◌}
 use borrow.Author.Tests.{eq-eqb, ne_eqb}
-use Rattle.naturals.proofs.Cases.{eq-or-not}
+use Rattle.naturals.proofs.Cases.{eq_or_not}
 use Rattle.integers.specs.Half.{half}
 use Rattle.numbering.specs.declared.Side.{Side}
 use Rattle.numbering.specs.declared.Side.TheVariants.{Left, Right}
 use Rattle.hierarchy.specs.Grid.{Neighbours, Still}
-use Rattle.hierarchy.specs.Turns.{sumOn, forward}
-use Rattle.hierarchy.specs.Work.{put, Item, worked, Ready, allWorked, countsAfter, Legal}
-use Rattle.hierarchy.proofs.Still.{forward-still}
+use Rattle.hierarchy.specs.Turns.{sum_on, forward}
+use Rattle.hierarchy.specs.Work.{put, Item, worked, Ready, all_worked, counts_after, Legal}
+use Rattle.hierarchy.proofs.Still.{forward_still}
 
 pub put_same : {A : Type 0} (f : ℕ → A) (p : ℕ) (v : A) → put f p v p ≡ v
 unfolding put
@@ -37,12 +37,12 @@ module _ (nb : Neighbours) (axis : ℕ → ℕ) where
   module _ (after : ℕ → ℕ → ℤ) (stages : Stages after) where
     -- A stage leaves alone what it does not move.
     unmoved : (k p : ℕ) → Still nb (axis k) p → after (suc k) p ≡ after k p
-    unmoved k p still = stages.next k p ∙ forward-still nb (axis k) (after k) (stages.border k) p still
+    unmoved k p still = stages.next k p ∙ forward_still nb (axis k) (after k) (stages.border k) p still
 
     -- What a ready step reads are the values of the whole stage.
     pub reads : (i : Item) (count : ℕ → ℕ) (f : ℕ → ℤ) → Ready nb axis i count → Holds after count f →
-        sumOn nb (axis i.stage) f i.point ≡ sumOn nb (axis i.stage) (after i.stage) i.point
-    unfolding sumOn
+        sum_on nb (axis i.stage) f i.point ≡ sum_on nb (axis i.stage) (after i.stage) i.point
+    unfolding sum_on
     reads i count f ready holds = ap₂ ◌+ℤ◌ (parent Left) (parent Right)
       where
         parent : (b : Side) → f (nb (axis i.stage) b i.point) ≡ after i.stage (nb (axis i.stage) b i.point)
@@ -58,26 +58,26 @@ module _ (nb : Neighbours) (axis : ℕ → ℕ) where
 
     put_holds : (count : ℕ → ℕ) (f : ℕ → ℤ) (p k : ℕ) (v : ℤ) → v ≡ after k p → Holds after count f → Holds after (put count p k) (put f p v)
     put_holds count f p k v e holds q =
-        eq-or-not q p
+        eq_or_not q p
         (λ same. rw same (put_same f p v ∙ e ∙ ap (λ (j : ℕ). after j p) (sym (put_same count p k))))
         (λ other. put_other f p v q other ∙ holds q ∙ ap (λ (j : ℕ). after j q) (sym (put_other count p k q other)))
 
-    pub step-holds : (i : Item) (count : ℕ → ℕ) (f : ℕ → ℤ) → Ready nb axis i count → Holds after count f →
+    pub step_holds : (i : Item) (count : ℕ → ℕ) (f : ℕ → ℤ) → Ready nb axis i count → Holds after count f →
         Holds after (put count i.point (suc i.stage)) (worked nb axis i f)
     unfolding worked
-    step-holds i count f ready holds =
-        put_holds count f i.point (suc i.stage) (f i.point -ℤ half (sumOn nb (axis i.stage) f i.point))
+    step_holds i count f ready holds =
+        put_holds count f i.point (suc i.stage) (f i.point -ℤ half (sum_on nb (axis i.stage) f i.point))
         (ap₂ (λ (v w : ℤ). v -ℤ half w) (holds i.point ∙ ap (λ (k : ℕ). after k i.point) ready.point) (reads i count f ready holds)
-        ∙ sym (stages.next i.stage i.point ∙ forward-at i.stage))
+        ∙ sym (stages.next i.stage i.point ∙ forward_at i.stage))
         holds
       where
-        forward-at : (k : ℕ) → forward nb (axis k) (after k) i.point ≡ after k i.point -ℤ half (sumOn nb (axis k) (after k) i.point)
-        forward-at k = unfold forward in refl
+        forward_at : (k : ℕ) → forward nb (axis k) (after k) i.point ≡ after k i.point -ℤ half (sum_on nb (axis k) (after k) i.point)
+        forward_at k = unfold forward in refl
 
     -- The theorem.
-    pub order-of-work : (is : List Item) (count : ℕ → ℕ) (f : ℕ → ℤ) → Legal nb axis is count → Holds after count f →
-        Holds after (countsAfter nb axis is count) (allWorked nb axis is f)
-    unfolding allWorked countsAfter
-    order-of-work [] count f legal holds = holds
-    order-of-work (i ∷ is) count f legal holds =
-        order-of-work is (put count i.point (suc i.stage)) (worked nb axis i f) legal.1 (step-holds i count f legal.0 holds)
+    pub order_of_work : (is : List Item) (count : ℕ → ℕ) (f : ℕ → ℤ) → Legal nb axis is count → Holds after count f →
+        Holds after (counts_after nb axis is count) (all_worked nb axis is f)
+    unfolding all_worked counts_after
+    order_of_work [] count f legal holds = holds
+    order_of_work (i ∷ is) count f legal holds =
+        order_of_work is (put count i.point (suc i.stage)) (worked nb axis i f) legal.1 (step_holds i count f legal.0 holds)

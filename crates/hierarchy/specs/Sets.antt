@@ -5,11 +5,11 @@ use Rattle.hierarchy.specs.Grid.{Neighbours}
 use Rattle.hierarchy.specs.Turns.{forward}
 
 -- The set of all axes, and the empty set.
-abbrev pub everyAxis : ℕ → Bool
-everyAxis t = true
+abbrev pub every_axis : ℕ → Bool
+every_axis t = true
 
-abbrev pub noAxis : ℕ → Bool
-noAxis t = false
+abbrev pub no_axis : ℕ → Bool
+no_axis t = false
 
 -- Each rate times 2^d.
 unfoldable pub scaled : ℕ → (ℕ → ℤ) → ℕ → ℤ
@@ -22,5 +22,5 @@ module _ (nb : Neighbours) where
   swept set (suc k) f = if set k then forward nb k (swept set k f) else swept set k f
 
   -- The table of a set of d axes: each rate times 2^d, then turned forward on each axis of the set.
-  unfoldable pub tableOf : ℕ → (ℕ → Bool) → (ℕ → ℤ) → ℕ → ℤ
-  tableOf d set r = swept set d (scaled d r)
+  unfoldable pub table_of : ℕ → (ℕ → Bool) → (ℕ → ℤ) → ℕ → ℤ
+  table_of d set r = swept set d (scaled d r)

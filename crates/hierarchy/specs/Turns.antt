@@ -2,36 +2,36 @@
 -- Assumes nothing.
 use Rattle.std.specs.Prelude.{Bool, ◌&&◌, List, [], ◌∷◌, ◌++◌, ℕ, zero, suc, ℤ, pos, ◌+ℤ◌, ◌-ℤ◌, get_or}
 use Rattle.naturals.specs.Test.{all}
-use Rattle.integers.specs.Half.{half, isEven, inLimit}
+use Rattle.integers.specs.Half.{half, is_even, in_limit}
 use Rattle.numbering.specs.declared.Side.TheVariants.{Left, Right}
 use Rattle.hierarchy.specs.Grid.{Neighbours}
 
 -- What a list of values holds at a code: 0 at the border and past the end.
-unfoldable pub valueAt : List ℤ → ℕ → ℤ
-valueAt xs zero = pos 0
-valueAt xs (suc p) = get_or xs p (pos 0)
+unfoldable pub value_at : List ℤ → ℕ → ℤ
+value_at xs zero = pos 0
+value_at xs (suc p) = get_or xs p (pos 0)
 
 -- The list of a table's values at the first m points.
-unfoldable pub valuesOf : ℕ → (ℕ → ℤ) → List ℤ
-valuesOf zero f = []
-valuesOf (suc m) f = valuesOf m f ++ (f (suc m) ∷ [])
+unfoldable pub values_of : ℕ → (ℕ → ℤ) → List ℤ
+values_of zero f = []
+values_of (suc m) f = values_of m f ++ (f (suc m) ∷ [])
 
 module _ (nb : Neighbours) where
   -- The sum of the two parents' values.
-  unfoldable pub sumOn : ℕ → (ℕ → ℤ) → ℕ → ℤ
-  sumOn t f p = f (nb t Left p) +ℤ f (nb t Right p)
+  unfoldable pub sum_on : ℕ → (ℕ → ℤ) → ℕ → ℤ
+  sum_on t f p = f (nb t Left p) +ℤ f (nb t Right p)
 
   -- Forward on axis t (hierarchization): each value becomes itself minus half the sum of its two parents' values.
   unfoldable pub forward : ℕ → (ℕ → ℤ) → ℕ → ℤ
-  forward t f p = f p -ℤ half (sumOn t f p)
+  forward t f p = f p -ℤ half (sum_on t f p)
 
   -- At one point the turn is accepted: the values before and after are within the content limit, and the sum is even.
-  unfoldable pub acceptedAt : ℕ → (ℕ → ℤ) → ℕ → Bool
-  acceptedAt t f p = inLimit (f (suc p)) && isEven (sumOn t f (suc p)) && inLimit (forward t f (suc p))
+  unfoldable pub accepted_at : ℕ → (ℕ → ℤ) → ℕ → Bool
+  accepted_at t f p = in_limit (f (suc p)) && is_even (sum_on t f (suc p)) && in_limit (forward t f (suc p))
 
   -- It is accepted at all m points.
   unfoldable pub accepted : ℕ → ℕ → (ℕ → ℤ) → Bool
-  accepted m t f = all (acceptedAt t f) m
+  accepted m t f = all (accepted_at t f) m
 
   -- Back on axis t (dehierarchization): the value at a code is the present one plus half the sum of the parents' values of the result.
   -- The first argument bounds how many parents lie one above the other.

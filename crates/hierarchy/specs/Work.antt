@@ -4,7 +4,7 @@ use Rattle.std.specs.Prelude.{◌≡◌, ◌⊎◌, List, [], ◌∷◌, ℕ, su
 use Rattle.integers.specs.Half.{half}
 use Rattle.numbering.specs.declared.Side.{Side}
 use Rattle.hierarchy.specs.Grid.{Neighbours, Still}
-use Rattle.hierarchy.specs.Turns.{sumOn}
+use Rattle.hierarchy.specs.Turns.{sum_on}
 
 -- A function with another value at one place.
 unfoldable pub put : {A : Type 0} → (ℕ → A) → ℕ → A → ℕ → A
@@ -19,7 +19,7 @@ pub record Item : Type 0 where
 module _ (nb : Neighbours) (axis : ℕ → ℕ) where
   -- One step in place: the value at the point becomes itself minus half the sum of its parents' values as they stand.
   unfoldable pub worked : Item → (ℕ → ℤ) → ℕ → ℤ
-  worked i f = put f i.point (f i.point -ℤ half (sumOn nb (axis i.stage) f i.point))
+  worked i f = put f i.point (f i.point -ℤ half (sum_on nb (axis i.stage) f i.point))
 
   -- A point's count says how many stages are done there. A step is ready if its point has done the stages before, and so have exactly its parents, save
   -- that a parent which the stage does not move may have done it too.
@@ -31,13 +31,13 @@ module _ (nb : Neighbours) (axis : ℕ → ℕ) where
         ⊎ ((count (nb (axis i.stage) b i.point) ≡ suc i.stage) × Still nb (axis i.stage) (nb (axis i.stage) b i.point))
 
   -- All steps of a list in turn, and the counts after them.
-  unfoldable pub allWorked : List Item → (ℕ → ℤ) → ℕ → ℤ
-  allWorked [] f = f
-  allWorked (i ∷ is) f = allWorked is (worked i f)
+  unfoldable pub all_worked : List Item → (ℕ → ℤ) → ℕ → ℤ
+  all_worked [] f = f
+  all_worked (i ∷ is) f = all_worked is (worked i f)
 
-  unfoldable pub countsAfter : List Item → (ℕ → ℕ) → ℕ → ℕ
-  countsAfter [] c = c
-  countsAfter (i ∷ is) c = countsAfter is (put c i.point (suc i.stage))
+  unfoldable pub counts_after : List Item → (ℕ → ℕ) → ℕ → ℕ
+  counts_after [] c = c
+  counts_after (i ∷ is) c = counts_after is (put c i.point (suc i.stage))
 
   -- A list is legal if each step is ready when its turn comes.
   abbrev pub Legal : List Item → (ℕ → ℕ) → Type 0

@@ -14,19 +14,19 @@ use Rattle.refusals.specs.declared.Refusal.TheVariants.{TableLength, FiledNumber
 use Rattle.refusals.specs.declared.Verdict.{Verdict}
 use Rattle.refusals.specs.declared.Verdict.TheVariants as verdict
 use Rattle.refusals.specs.Checks.{unless}
-use Rattle.refusals.proofs.Passing.{test-passed}
-use Rattle.integers.specs.Half.{isRate}
+use Rattle.refusals.proofs.Passing.{test_passed}
+use Rattle.integers.specs.Half.{is_rate}
 use Rattle.shapes.specs.declared.Shape.{Shape}
-use Rattle.shapes.specs.Shapes.{checkShape, pointsOf}
-use Rattle.house_numbers.specs.Reading.{Read, got, refused, ◌next◌, ◌thenRead◌}
-use Rattle.house_numbers.specs.Numbers.{groups, largest, limited, readNumber, rateOf}
-use Rattle.house_rates.specs.Rates.{prepended, readRates}
-use Rattle.house_file.specs.Files.{readHead, Contents, ended, readTable, readContents}
-use Rattle.house_numbers.proofs.Filing.{rate-filed}
+use Rattle.shapes.specs.Shapes.{check_shape, points_of}
+use Rattle.house_numbers.specs.Reading.{Read, got, refused, ◌next◌, ◌then_read◌}
+use Rattle.house_numbers.specs.Numbers.{groups, largest, limited, read_number, rate_of}
+use Rattle.house_rates.specs.Rates.{prepended, read_rates}
+use Rattle.house_file.specs.Files.{read_head, Contents, ended, read_table, read_contents}
+use Rattle.house_numbers.proofs.Filing.{rate_filed}
 
 -- Every place of a list holds a rate.
 abbrev pub AllRates : List ℤ → Type 0
-AllRates rates = (p : ℕ) → p < length rates → isRate (get_or rates p (pos 0)) ≡ true
+AllRates rates = (p : ℕ) → p < length rates → is_rate (get_or rates p (pos 0)) ≡ true
 
 -- What is read in two steps is read by the first and then by the second.
 pub record Through {A B : Type 0} (x : Read A) (f : A → List ℕ → Read B) (y : Read B) : Type 0 where
@@ -39,18 +39,18 @@ pub through : {A B : Type 0} (x : Read A) (f : A → List ℕ → Read B) {b : B
 through (got a middle) f e = record { value = a; middle = middle; first = refl; second = e }
 through (refused r) f e = let z : ◌≡◌ {A = ℕ} 0 1 = cc in absurd (omega arith)
 
-passed_first : {A : Type 0} (v : Verdict) (x : Read A) {a : A} {rest : List ℕ} → v thenRead x ≡ got a rest → v ≡ verdict.Passed
+passed_first : {A : Type 0} (v : Verdict) (x : Read A) {a : A} {rest : List ℕ} → v then_read x ≡ got a rest → v ≡ verdict.Passed
 passed_first verdict.Passed x e = refl
 passed_first (verdict.Refused r) x e = cc
 
-read_next : {A : Type 0} (v : Verdict) (x : Read A) {a : A} {rest : List ℕ} → v thenRead x ≡ got a rest → x ≡ got a rest
+read_next : {A : Type 0} (v : Verdict) (x : Read A) {a : A} {rest : List ℕ} → v then_read x ≡ got a rest → x ≡ got a rest
 read_next verdict.Passed x e = e
 read_next (verdict.Refused r) x e = cc
 
 -- A number that is read is that of its groups, and is small enough.
-module _ (bytes : List ℕ) (u : ℕ) (rest : List ℕ) (e : readNumber bytes ≡ got u rest) where
+module _ (bytes : List ℕ) (u : ℕ) (rest : List ℕ) (e : read_number bytes ≡ got u rest) where
   unlimited : Through (groups 5 bytes) limited (got u rest)
-  unfolding readNumber
+  unfolding read_number
   unlimited = through (groups 5 bytes) limited e
 
   test : Verdict
@@ -59,13 +59,13 @@ module _ (bytes : List ℕ) (u : ℕ) (rest : List ℕ) (e : readNumber bytes �
   gathered : Read ℕ
   gathered = got unlimited.value unlimited.middle
 
-  tested : test thenRead gathered ≡ got u rest
+  tested : test then_read gathered ≡ got u rest
   unfolding limited test gathered
   tested = unlimited.second
 
-  pub number-groups : groups 5 bytes ≡ got u rest
+  pub number_groups : groups 5 bytes ≡ got u rest
   unfolding gathered
-  number-groups = unlimited.first ∙ read_next test gathered tested
+  number_groups = unlimited.first ∙ read_next test gathered tested
 
   pub number_small : u ≤ largest
   unfolding test gathered
@@ -75,43 +75,43 @@ module _ (bytes : List ℕ) (u : ℕ) (rest : List ℕ) (e : readNumber bytes �
       omega (
         arith,
         is,
-        leb-true unlimited.value largest (test-passed (leb unlimited.value largest) FiledNumber (passed_first test gathered tested)),
+        leb-true unlimited.value largest (test_passed (leb unlimited.value largest) FiledNumber (passed_first test gathered tested)),
       )
 
 pub record Rated (m : ℕ) (rates : List ℤ) : Type 0 where
   pub many : length rates ≡ m
   pub each : AllRates rates
 
-none-rated : Rated 0 []
-none-rated = record { many = refl; each = λ p h. absurd (omega arith) }
+none_rated : Rated 0 []
+none_rated = record { many = refl; each = λ p h. absurd (omega arith) }
 
-one-rated : (m : ℕ) (rate : ℤ) (rates : List ℤ) → isRate rate ≡ true → Rated m rates → Rated (suc m) (rate ∷ rates)
-one-rated m rate rates is rated = record { many = ap suc rated.many; each = each }
+one_rated : (m : ℕ) (rate : ℤ) (rates : List ℤ) → is_rate rate ≡ true → Rated m rates → Rated (suc m) (rate ∷ rates)
+one_rated m rate rates is rated = record { many = ap suc rated.many; each = each }
   where
     each : AllRates (rate ∷ rates)
     each zero h = is
     each (suc p) h = rated.each p (omega arith)
 
-pub rates-rated : (m : ℕ) (bytes : List ℕ) (rates : List ℤ) (rest : List ℕ) → readRates m bytes ≡ got rates rest → Rated m rates
-unfolding readRates prepended
-rates-rated zero bytes rates rest e = let is : rates ≡ [] = cc in rw is none-rated
-rates-rated (suc m) bytes rates rest e =
-    let t = through (readNumber bytes) _ e in
-    let w = through (readRates m t.middle) (prepended (rateOf t.value)) t.second in
-    let one : got (rateOf t.value ∷ w.value) w.middle ≡ got rates rest = w.second in
-    let is : rates ≡ rateOf t.value ∷ w.value = cc in
+pub rates_rated : (m : ℕ) (bytes : List ℕ) (rates : List ℤ) (rest : List ℕ) → read_rates m bytes ≡ got rates rest → Rated m rates
+unfolding read_rates prepended
+rates_rated zero bytes rates rest e = let is : rates ≡ [] = cc in rw is none_rated
+rates_rated (suc m) bytes rates rest e =
+    let t = through (read_number bytes) _ e in
+    let w = through (read_rates m t.middle) (prepended (rate_of t.value)) t.second in
+    let one : got (rate_of t.value ∷ w.value) w.middle ≡ got rates rest = w.second in
+    let is : rates ≡ rate_of t.value ∷ w.value = cc in
     rw is
-    (one-rated m (rateOf t.value) w.value
-    (rate-filed t.value (number_small bytes t.value t.middle t.first))
-    (rates-rated m t.middle w.value w.middle w.first))
+    (one_rated m (rate_of t.value) w.value
+    (rate_filed t.value (number_small bytes t.value t.middle t.first))
+    (rates_rated m t.middle w.value w.middle w.first))
 
 -- An accepted file in its parts: d and n, and after them the rates and nothing else.
 pub record Whole (places : ℕ) (bytes : List ℕ) (s : Shape) (rates : List ℤ) (rest : List ℕ) : Type 0 where
   pub after : List ℕ
-  pub head : readHead bytes ≡ got s after
-  pub shaped : checkShape s ≡ verdict.Passed
-  pub room : pointsOf s ≤ places
-  pub filled : readRates (pointsOf s) after ≡ got rates rest
+  pub head : read_head bytes ≡ got s after
+  pub shaped : check_shape s ≡ verdict.Passed
+  pub room : points_of s ≤ places
+  pub filled : read_rates (points_of s) after ≡ got rates rest
   pub ends : length rest ≡ 0
 
 whole : (places : ℕ) (bytes : List ℕ) (s : Shape) (rates : List ℤ) (middle : List ℕ) (c : Contents) (rest : List ℕ) →
@@ -121,17 +121,17 @@ whole places bytes s rates middle c rest e w =
     let after : rest ≡ middle = cc in
     rw (contents, after) w
 
-pub contents-whole : (places : ℕ) (bytes : List ℕ) (c : Contents) (rest : List ℕ) → readContents places bytes ≡ got c rest →
+pub contents_whole : (places : ℕ) (bytes : List ℕ) (c : Contents) (rest : List ℕ) → read_contents places bytes ≡ got c rest →
     Whole places bytes c.shape c.rates rest
-unfolding readContents readTable ended
-contents-whole places bytes c rest e =
-    let h = through (readHead bytes) (readTable places) e in
+unfolding read_contents read_table ended
+contents_whole places bytes c rest e =
+    let h = through (read_head bytes) (read_table places) e in
     let s = h.value in
-    let n = pointsOf s in
-    let x = readRates n h.middle next ended s in
-    let places-test = unless (leb n places) TableLength in
-    let roomy = read_next (checkShape s) (places-test thenRead x) h.second in
-    let t = through (readRates n h.middle) (ended s) (read_next places-test x roomy) in
+    let n = points_of s in
+    let x = read_rates n h.middle next ended s in
+    let places_test = unless (leb n places) TableLength in
+    let roomy = read_next (check_shape s) (places_test then_read x) h.second in
+    let t = through (read_rates n h.middle) (ended s) (read_next places_test x roomy) in
     let end_test = unless (eqb (length t.middle) 0) BytesLeft in
     let all : Read Contents = got (record { shape = s; rates = t.value }) t.middle in
     let same : all ≡ got c rest = read_next end_test all t.second in
@@ -139,25 +139,25 @@ contents-whole places bytes c rest e =
     (record {
       after = h.middle;
       head = h.first;
-      shaped = passed_first (checkShape s) (places-test thenRead x) h.second;
-      room = leb-true n places (test-passed (leb n places) TableLength (passed_first places-test x roomy));
+      shaped = passed_first (check_shape s) (places_test then_read x) h.second;
+      room = leb-true n places (test_passed (leb n places) TableLength (passed_first places_test x roomy));
       filled = t.first;
-      ends = eqb-true (length t.middle) 0 (test-passed (eqb (length t.middle) 0) BytesLeft (passed_first end_test all t.second));
+      ends = eqb-true (length t.middle) 0 (test_passed (eqb (length t.middle) 0) BytesLeft (passed_first end_test all t.second));
     })
 
 pub record Accepted (places : ℕ) (s : Shape) (rates : List ℤ) (rest : List ℕ) : Type 0 where
-  pub shaped : checkShape s ≡ verdict.Passed
-  pub room : pointsOf s ≤ places
-  pub rated : Rated (pointsOf s) rates
+  pub shaped : check_shape s ≡ verdict.Passed
+  pub room : points_of s ≤ places
+  pub rated : Rated (points_of s) rates
   pub ends : length rest ≡ 0
 
-pub contents-accepted : (places : ℕ) (bytes : List ℕ) (c : Contents) (rest : List ℕ) → readContents places bytes ≡ got c rest →
+pub contents_accepted : (places : ℕ) (bytes : List ℕ) (c : Contents) (rest : List ℕ) → read_contents places bytes ≡ got c rest →
     Accepted places c.shape c.rates rest
-contents-accepted places bytes c rest e =
-    let w = contents-whole places bytes c rest e in
+contents_accepted places bytes c rest e =
+    let w = contents_whole places bytes c rest e in
     record {
       shaped = w.shaped;
       room = w.room;
-      rated = rates-rated (pointsOf c.shape) w.after c.rates rest w.filled;
+      rated = rates_rated (points_of c.shape) w.after c.rates rest w.filled;
       ends = w.ends;
     }

@@ -10,30 +10,30 @@ use lib.ListN.{length}
 use Rattle.refusals.specs.declared.Refusal.TheVariants.{TableLength}
 use Rattle.refusals.specs.declared.Verdict.TheVariants.{Passed}
 use Rattle.refusals.specs.Checks.{unless}
-use Rattle.shapes.specs.Shapes.{checkShape, pointsOf}
-use Rattle.house_numbers.specs.Reading.{got, ◌thenRead◌}
-use Rattle.house_rates.specs.Rates.{readRates}
-use Rattle.house_file.specs.Files.{readHead, Contents, ended, readTable, readContents}
-use Rattle.house_file.proofs.Accepting.{contents-whole}
+use Rattle.shapes.specs.Shapes.{check_shape, points_of}
+use Rattle.house_numbers.specs.Reading.{got, ◌then_read◌}
+use Rattle.house_rates.specs.Rates.{read_rates}
+use Rattle.house_file.specs.Files.{read_head, Contents, ended, read_table, read_contents}
+use Rattle.house_file.proofs.Accepting.{contents_whole}
 use Rattle.house_file.proofs.Answering.{head_first}
 
 pub record Parts (bytes : List ℕ) (c : Contents) : Type 0 where
   pub after : List ℕ
-  pub head : readHead bytes ≡ got c.shape after
-  pub shaped : checkShape c.shape ≡ Passed
-  pub filled : readRates (pointsOf c.shape) after ≡ got c.rates []
+  pub head : read_head bytes ≡ got c.shape after
+  pub shaped : check_shape c.shape ≡ Passed
+  pub filled : read_rates (points_of c.shape) after ≡ got c.rates []
 
 none : {A : Type 0} (l : List A) → length l ≡ 0 → l ≡ []
 none [] e = refl
 none (x ∷ l) e = absurd (omega arith)
 
 module _ (bytes : List ℕ) (c : Contents) where
-  pub accepted-parts : (places : ℕ) (rest : List ℕ) → readContents places bytes ≡ got c rest → Parts bytes c
-  accepted-parts places rest e =
-      let w = contents-whole places bytes c rest e in
+  pub accepted_parts : (places : ℕ) (rest : List ℕ) → read_contents places bytes ≡ got c rest → Parts bytes c
+  accepted_parts places rest e =
+      let w = contents_whole places bytes c rest e in
       record { after = w.after; head = w.head; shaped = w.shaped; filled = w.filled ∙ ap (got c.rates) (none rest w.ends) }
 
   -- It is accepted wherever there are enough places, and refused with 3 elsewhere.
-  pub parts-read : Parts bytes c → (places : ℕ) → readContents places bytes ≡ unless (leb (pointsOf c.shape) places) TableLength thenRead got c []
-  unfolding readTable ended
-  parts-read p places = head_first bytes places ∙ rw (p.head, p.shaped, p.filled)
+  pub parts_read : Parts bytes c → (places : ℕ) → read_contents places bytes ≡ unless (leb (points_of c.shape) places) TableLength then_read got c []
+  unfolding read_table ended
+  parts_read p places = head_first bytes places ∙ rw (p.head, p.shaped, p.filled)

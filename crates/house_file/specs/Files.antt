@@ -4,31 +4,31 @@ use Rattle.std.specs.Prelude.{List, ◌++◌, ℕ, leb, eqb, ℤ, length, drop}
 use Rattle.refusals.specs.declared.Refusal.TheVariants.{TableLength, BytesLeft}
 use Rattle.refusals.specs.Checks.{unless}
 use Rattle.shapes.specs.declared.Shape.{Shape}
-use Rattle.shapes.specs.Shapes.{sparse, checkShape, pointsOf}
+use Rattle.shapes.specs.Shapes.{sparse, check_shape, points_of}
 use Rattle.house_file.specs.declared.Opened.{Opened}
 use Rattle.house_file.specs.declared.Opened.TheVariants.{Holds, Refused}
-use Rattle.house_numbers.specs.Reading.{Read, got, refused, ◌next◌, ◌thenRead◌}
-use Rattle.house_numbers.specs.Numbers.{readNumber}
-use Rattle.house_rates.specs.Rates.{readRates}
+use Rattle.house_numbers.specs.Reading.{Read, got, refused, ◌next◌, ◌then_read◌}
+use Rattle.house_numbers.specs.Numbers.{read_number}
+use Rattle.house_rates.specs.Rates.{read_rates}
 
 -- d and n, before they are checked.
 abbrev pub named : ℕ → ℕ → List ℕ → Read Shape
 named d n rest = got (sparse d n) rest
 
-unfoldable pub readHead : List ℕ → Read Shape
-readHead bytes = readNumber bytes next (λ d more. readNumber more next named d)
+unfoldable pub read_head : List ℕ → Read Shape
+read_head bytes = read_number bytes next (λ d more. read_number more next named d)
 
 -- Where both were read, refused with 1 or 2.
-unfoldable pub headChecked : Shape → List ℕ → Read Shape
-headChecked s rest = checkShape s thenRead got s rest
+unfoldable pub head_checked : Shape → List ℕ → Read Shape
+head_checked s rest = check_shape s then_read got s rest
 
-abbrev pub shapeRead : Read Shape → Opened
-shapeRead (got s rest) = Holds s
-shapeRead (refused r) = Refused r
+abbrev pub shape_read : Read Shape → Opened
+shape_read (got s rest) = Holds s
+shape_read (refused r) = Refused r
 
 -- The shape that a file names, from d and n alone: 11 or 12 for d, 11 or 12 for n, then 1 or 2.
-unfoldable pub shapeOfFile : List ℕ → Opened
-shapeOfFile bytes = shapeRead (readHead bytes next headChecked)
+unfoldable pub shape_of_file : List ℕ → Opened
+shape_of_file bytes = shape_read (read_head bytes next head_checked)
 
 -- What a file holds.
 pub record Contents : Type 0 where
@@ -37,31 +37,31 @@ pub record Contents : Type 0 where
 
 -- After the last rate: bytes that are left are refused with 13.
 unfoldable pub ended : Shape → List ℤ → List ℕ → Read Contents
-ended s rates rest = unless (eqb (length rest) 0) BytesLeft thenRead got (record { shape = s; rates = rates }) rest
+ended s rates rest = unless (eqb (length rest) 0) BytesLeft then_read got (record { shape = s; rates = rates }) rest
 
 -- Once d and n are read: refused with 1 or 2, with 3 where the buffer has fewer than N places; then the rates.
-unfoldable pub readTable : ℕ → Shape → List ℕ → Read Contents
-readTable places s rest =
-    checkShape s
-    thenRead (unless (leb (pointsOf s) places) TableLength
-    thenRead (readRates (pointsOf s) rest next ended s))
+unfoldable pub read_table : ℕ → Shape → List ℕ → Read Contents
+read_table places s rest =
+    check_shape s
+    then_read (unless (leb (points_of s) places) TableLength
+    then_read (read_rates (points_of s) rest next ended s))
 
 -- A whole file, for a buffer of that many places.
-unfoldable pub readContents : ℕ → List ℕ → Read Contents
-readContents places bytes = readHead bytes next readTable places
+unfoldable pub read_contents : ℕ → List ℕ → Read Contents
+read_contents places bytes = read_head bytes next read_table places
 
 -- What the reader leaves: its answer, and the contents of the buffer.
 pub record AfterReading : Type 0 where
   pub answer : Opened
   pub table : List ℤ
 
-abbrev pub afterReading : Opened → List ℤ → AfterReading
-afterReading a xs = record { answer = a; table = xs }
+abbrev pub after_reading : Opened → List ℤ → AfterReading
+after_reading a xs = record { answer = a; table = xs }
 
 -- It fills the first N places and leaves the others; a refused file leaves the whole buffer as it was.
-abbrev pub filledWith : List ℤ → Read Contents → AfterReading
-filledWith table (got c rest) = afterReading (Holds c.shape) (c.rates ++ drop (length c.rates) table)
-filledWith table (refused r) = afterReading (Refused r) table
+abbrev pub filled_with : List ℤ → Read Contents → AfterReading
+filled_with table (got c rest) = after_reading (Holds c.shape) (c.rates ++ drop (length c.rates) table)
+filled_with table (refused r) = after_reading (Refused r) table
 
-unfoldable pub readFile : List ℕ → List ℤ → AfterReading
-readFile bytes table = filledWith table (readContents (length table) bytes)
+unfoldable pub read_file : List ℕ → List ℤ → AfterReading
+read_file bytes table = filled_with table (read_contents (length table) bytes)

@@ -3,24 +3,24 @@
 use Rattle.std.specs.Prelude.{List, ℕ, leb, drop}
 use Rattle.refusals.specs.declared.Refusal.TheVariants.{TableLength}
 use Rattle.refusals.specs.declared.Verdict.{Verdict}
-use Rattle.refusals.specs.Checks.{unless, ◌andThen◌}
+use Rattle.refusals.specs.Checks.{unless, ◌and_then◌}
 use Rattle.shapes.specs.declared.Shape.{Shape}
-use Rattle.shapes.specs.Shapes.{checkShape, pointsOf}
+use Rattle.shapes.specs.Shapes.{check_shape, points_of}
 use Rattle.house_file.specs.declared.Head.{Head}
 use Rattle.house_file.specs.declared.Head.TheVariants as head
 use Rattle.house_numbers.specs.Reading.{Read, got, refused}
-use Rattle.house_rates.specs.Rates.{readRates}
-use Rattle.house_rates.specs.Steps.{checkedRates}
+use Rattle.house_rates.specs.Rates.{read_rates}
+use Rattle.house_rates.specs.Steps.{checked_rates}
 
 -- d and n that the code answers, as what is read from the bytes.
-abbrev pub headIn : List ℕ → Head → Read Shape
-headIn bytes (head.Names s after) = got s (drop after bytes)
-headIn bytes (head.Refused r) = refused r
+abbrev pub head_in : List ℕ → Head → Read Shape
+head_in bytes (head.Names s after) = got s (drop after bytes)
+head_in bytes (head.Refused r) = refused r
 
 -- The checks of a shape and of the buffer's places.
-unfoldable pub checkPlaces : Shape → ℕ → Verdict
-checkPlaces s places = checkShape s andThen unless (leb (pointsOf s) places) TableLength
+unfoldable pub check_places : Shape → ℕ → Verdict
+check_places s places = check_shape s and_then unless (leb (points_of s) places) TableLength
 
 -- The checks of all that follows d and n.
-unfoldable pub checkedRest : ℕ → Shape → List ℕ → Verdict
-checkedRest places s rest = checkPlaces s places andThen checkedRates (readRates (pointsOf s) rest)
+unfoldable pub checked_rest : ℕ → Shape → List ℕ → Verdict
+checked_rest places s rest = check_places s places and_then checked_rates (read_rates (points_of s) rest)

@@ -13,10 +13,10 @@ fewest (suc k) n = if ltb n 128 then n ∷ [] else ((128 + n % 128) ∷ fewest k
 unfoldable pub written : ℕ → List ℕ
 written n = fewest 5 n
 
-unfoldable pub writtenRates : List ℤ → List ℕ
-writtenRates [] = []
-writtenRates (rate ∷ rates) = written (filed rate) ++ writtenRates rates
+unfoldable pub written_rates : List ℤ → List ℕ
+written_rates [] = []
+written_rates (rate ∷ rates) = written (filed rate) ++ written_rates rates
 
 -- d, n and the rates.
-unfoldable pub writtenFile : Shape → List ℤ → List ℕ
-writtenFile s rates = written s.axes ++ (written s.level ++ writtenRates rates)
+unfoldable pub written_file : Shape → List ℤ → List ℕ
+written_file s rates = written s.axes ++ (written s.level ++ written_rates rates)

@@ -2,8 +2,8 @@
 #![tactic(auto)]
 
 ghost use Rattle.std.specs.Prelude.{◌≡◌, length, drop};
-ghost use Rattle.house_file.specs.Files.{readHead, shapeOfFile, readTable, afterReading, filledWith, readFile};
-ghost use Rattle.house_file.specs.Steps.{headIn, checkPlaces, checkedRest};
+ghost use Rattle.house_file.specs.Files.{read_head, shape_of_file, read_table, after_reading, filled_with, read_file};
+ghost use Rattle.house_file.specs.Steps.{head_in, check_places, checked_rest};
 
 use house_numbers::Number;
 use refusals::{Refusal, Verdict};
@@ -25,7 +25,7 @@ pub enum Head {
 
 // d and n.
 pub fn read_head(bytes: &[u8]) -> Head
-    ensures { headIn bytes.now result ≡ readHead bytes.now }
+    ensures { head_in bytes.now result ≡ read_head bytes.now }
 {
     match house_numbers::number_at(bytes, 0) {
         Number::Refused(r) => Head::Refused(r),
@@ -44,7 +44,7 @@ pub fn read_head(bytes: &[u8]) -> Head
 
 // Refused with 1, 2 or 3: the shape, and fewer than N places.
 fn check_places(shape: Shape, places: usize) -> Verdict
-    ensures { result ≡ checkPlaces shape places }
+    ensures { result ≡ check_places shape places }
 {
     if let Verdict::Refused(r) = shapes::check_shape(shape) {
         return Verdict::Refused(r);
@@ -57,7 +57,7 @@ fn check_places(shape: Shape, places: usize) -> Verdict
 
 // The checks of all that follows d and n: the shape, fewer than N places, then the rates.
 pub fn check_rest(bytes: &[u8], from: usize, shape: Shape, places: usize) -> Verdict
-    ensures { result ≡ checkedRest places shape (drop from bytes.now) }
+    ensures { result ≡ checked_rest places shape (drop from bytes.now) }
 {
     if let Verdict::Refused(r) = check_places(shape, places) {
         return Verdict::Refused(r);
@@ -68,7 +68,7 @@ pub fn check_rest(bytes: &[u8], from: usize, shape: Shape, places: usize) -> Ver
 
 // Once d and n are read: first all checks, then the rates into the buffer.
 fn read_table(bytes: &[u8], from: usize, shape: Shape, table: &mut [i64]) -> Opened
-    ensures { afterReading result table.new ≡ filledWith table.old (readTable (length table.old) shape (drop from bytes.now)) }
+    ensures { after_reading result table.new ≡ filled_with table.old (read_table (length table.old) shape (drop from bytes.now)) }
 {
     if let Verdict::Refused(r) = check_rest(bytes, from, shape, table.len()) {
         return Opened::Refused(r);
@@ -80,7 +80,7 @@ fn read_table(bytes: &[u8], from: usize, shape: Shape, table: &mut [i64]) -> Ope
 
 // The reader: a file's rates into the first places of the buffer, and its shape as the answer. A refused file leaves the buffer as it was.
 pub fn read(bytes: &[u8], table: &mut [i64]) -> Opened
-    ensures { afterReading result table.new ≡ readFile bytes.now table.old }
+    ensures { after_reading result table.new ≡ read_file bytes.now table.old }
 {
     match read_head(bytes) {
         Head::Refused(r) => Opened::Refused(r),
@@ -90,7 +90,7 @@ pub fn read(bytes: &[u8], table: &mut [i64]) -> Opened
 
 // The shape that a file names, from its first two numbers alone.
 pub fn shape_of(bytes: &[u8]) -> Opened
-    ensures { result ≡ shapeOfFile bytes.now }
+    ensures { result ≡ shape_of_file bytes.now }
 {
     match read_head(bytes) {
         Head::Refused(r) => Opened::Refused(r),

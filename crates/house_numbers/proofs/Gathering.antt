@@ -17,9 +17,9 @@ use Rattle.std.specs.Prelude.{if◌then◌else◌}
 use Rattle.refusals.specs.declared.Refusal.TheVariants.{FileEnds, FiledNumber}
 use Rattle.refusals.specs.Checks.{unless}
 use Rattle.house_numbers.specs.declared.Number.TheVariants as number
-use Rattle.house_numbers.specs.Reading.{Read, got, refused, ◌next◌, ◌thenRead◌}
-use Rattle.house_numbers.specs.Numbers.{below, groups, largest, limited, readNumber}
-use Rattle.house_numbers.specs.Steps.{numberIn, limitedNumber}
+use Rattle.house_numbers.specs.Reading.{Read, got, refused, ◌next◌, ◌then_read◌}
+use Rattle.house_numbers.specs.Numbers.{below, groups, largest, limited, read_number}
+use Rattle.house_numbers.specs.Steps.{number_in, limited_number}
 
 -- A value, and so many units above it.
 abbrev pub above : ℕ → ℕ → ℕ → List ℕ → Read ℕ
@@ -29,16 +29,16 @@ pub record Gathered (bytes : List ℕ) (from value shift at : ℕ) : Type 0 wher
   pub left : ℕ
   pub places : shift + 7 * left ≡ 35
   pub small : value < 2 ^ shift
-  pub reads : readNumber (drop from bytes) ≡ groups left (drop at bytes) next above value (2 ^ shift) next limited
+  pub reads : read_number (drop from bytes) ≡ groups left (drop at bytes) next above value (2 ^ shift) next limited
 
-nothing-below : (x : Read ℕ) → x next above 0 1 ≡ x
-nothing-below (got high rest) = let same : 0 + 1 * high ≡ high = omega arith in rw same
-nothing-below (refused r) = refl
+nothing_below : (x : Read ℕ) → x next above 0 1 ≡ x
+nothing_below (got high rest) = let same : 0 + 1 * high ≡ high = omega arith in rw same
+nothing_below (refused r) = refl
 
-pub gathered-starts : (bytes : List ℕ) (from : ℕ) → Gathered bytes from 0 0 from
-unfolding readNumber
-gathered-starts bytes from =
-    record { left = 5; places = refl; small = omega arith; reads = ap (λ (x : Read ℕ). x next limited) (sym (nothing-below (groups 5 (drop from bytes)))) }
+pub gathered_starts : (bytes : List ℕ) (from : ℕ) → Gathered bytes from 0 0 from
+unfolding read_number
+gathered_starts bytes from =
+    record { left = 5; places = refl; small = omega arith; reads = ap (λ (x : Read ℕ). x next limited) (sym (nothing_below (groups 5 (drop from bytes)))) }
 
 one_more : (x : Read ℕ) (value unit low : ℕ) → x next below low next above value unit ≡ x next above (value + low * unit) (unit * 128)
 unfolding below
@@ -46,8 +46,8 @@ one_more (got high rest) value unit low =
     let same : value + unit * (low + 128 * high) ≡ value + low * unit + unit * 128 * high = omega arith in rw same
 one_more (refused r) value unit low = refl
 
-next-unit : (shift : ℕ) → 2 ^ (shift + 7) ≡ 2 ^ shift * 128
-next-unit shift = pow-add 2 shift 7
+next_unit : (shift : ℕ) → 2 ^ (shift + 7) ≡ 2 ^ shift * 128
+next_unit shift = pow-add 2 shift 7
 
 pub continued : (k b : ℕ) (rest : List ℕ) → 128 ≤ b → groups (suc k) (b ∷ rest) ≡ groups k rest next below (b - 128)
 unfolding groups
@@ -57,13 +57,13 @@ pub finished : (k b : ℕ) (rest : List ℕ) → b < 128 → groups (suc k) (b �
 unfolding groups
 finished k b rest h = rw (lt-ltb b 128 h)
 
-pub limited-in : (bytes : List ℕ) (value after : ℕ) → numberIn bytes (limitedNumber value after) ≡ limited value (drop after bytes)
-unfolding limitedNumber limited
-limited-in bytes value after = go (leb value largest)
+pub limited_in : (bytes : List ℕ) (value after : ℕ) → number_in bytes (limited_number value after) ≡ limited value (drop after bytes)
+unfolding limited_number limited
+limited_in bytes value after = go (leb value largest)
   where
     go : (t : Bool) →
-        numberIn bytes (if t then number.Got value after else number.Refused FiledNumber)
-        ≡ unless t FiledNumber thenRead got value (drop after bytes)
+        number_in bytes (if t then number.Got value after else number.Refused FiledNumber)
+        ≡ unless t FiledNumber then_read got value (drop after bytes)
     go true = refl
     go false = refl
 
@@ -72,7 +72,7 @@ module _ {bytes : List ℕ} {from value shift at : ℕ} (g : Gathered bytes from
   onwards k rest = groups k rest next above value (2 ^ shift) next limited
 
   -- Past the last group.
-  pub too_long : 35 ≤ shift → readNumber (drop from bytes) ≡ refused FiledNumber
+  pub too_long : 35 ≤ shift → read_number (drop from bytes) ≡ refused FiledNumber
   unfolding groups onwards
   too_long h = let none : g.left ≡ 0 = omega (arith, g.places) in g.reads ∙ ap (λ (k : ℕ). onwards k (drop at bytes)) none
 
@@ -83,12 +83,12 @@ module _ {bytes : List ℕ} {from value shift at : ℕ} (g : Gathered bytes from
     pub shift_small : shift ≤ 28
     shift_small = omega (arith, g.places)
 
-    reads_on : readNumber (drop from bytes) ≡ onwards (suc (g.left - 1)) (drop at bytes)
+    reads_on : read_number (drop from bytes) ≡ onwards (suc (g.left - 1)) (drop at bytes)
     unfolding onwards
     reads_on = g.reads ∙ ap (λ (k : ℕ). onwards k (drop at bytes)) one_left
 
     -- Past the last byte.
-    pub too_short : length bytes ≤ at → readNumber (drop from bytes) ≡ refused FileEnds
+    pub too_short : length bytes ≤ at → read_number (drop from bytes) ≡ refused FileEnds
     unfolding groups onwards
     too_short h = reads_on ∙ ap (onwards (suc (g.left - 1))) (drop_of_length-le bytes h)
 
@@ -96,29 +96,29 @@ module _ {bytes : List ℕ} {from value shift at : ℕ} (g : Gathered bytes from
     sum_fits group h = omega (arith, g.small, mul-le-mul_right (2 ^ shift) h, pow_mono {i = shift} {j = 28} shift_small)
 
     module _ (more : at < length bytes) where
-      reads_byte : readNumber (drop from bytes) ≡ onwards (suc (g.left - 1)) (get_or bytes at 0 ∷ drop (at + 1) bytes)
+      reads_byte : read_number (drop from bytes) ≡ onwards (suc (g.left - 1)) (get_or bytes at 0 ∷ drop (at + 1) bytes)
       reads_byte = reads_on ∙ ap (onwards (suc (g.left - 1))) (rw add-one (drop-cons bytes at 0 more))
 
-      pub gathered-ends : get_or bytes at 0 < 128 →
-          readNumber (drop from bytes) ≡ numberIn bytes (limitedNumber (value + get_or bytes at 0 * 2 ^ shift) (at + 1))
+      pub gathered_ends : get_or bytes at 0 < 128 →
+          read_number (drop from bytes) ≡ number_in bytes (limited_number (value + get_or bytes at 0 * 2 ^ shift) (at + 1))
       unfolding onwards
-      gathered-ends last =
+      gathered_ends last =
           reads_byte
           ∙ ap (λ (x : Read ℕ). x next above value (2 ^ shift) next limited) (finished (g.left - 1) (get_or bytes at 0) (drop (at + 1) bytes) last)
-          ∙ rw (mul_comm (2 ^ shift) (get_or bytes at 0)) (sym (limited-in bytes (value + get_or bytes at 0 * 2 ^ shift) (at + 1)))
+          ∙ rw (mul_comm (2 ^ shift) (get_or bytes at 0)) (sym (limited_in bytes (value + get_or bytes at 0 * 2 ^ shift) (at + 1)))
 
-      pub gathered-steps : get_or bytes at 0 < 256 → 128 ≤ get_or bytes at 0 →
+      pub gathered_steps : get_or bytes at 0 < 256 → 128 ≤ get_or bytes at 0 →
           Gathered bytes from (value + (get_or bytes at 0 - 128) * 2 ^ shift) (shift + 7) (at + 1)
       unfolding onwards
-      gathered-steps byte again =
+      gathered_steps byte again =
           let rest = drop (at + 1) bytes in
           let low = get_or bytes at 0 - 128 in
           record {
             left = g.left - 1;
             places = omega (arith, g.places);
-            small = omega (arith, g.small, next-unit shift, mul-le-mul_right {m = suc low} {n = 128} (2 ^ shift) (omega arith));
+            small = omega (arith, g.small, next_unit shift, mul-le-mul_right {m = suc low} {n = 128} (2 ^ shift) (omega arith));
             reads =
                 reads_byte
                 ∙ ap (λ (x : Read ℕ). x next above value (2 ^ shift) next limited) (continued (g.left - 1) (get_or bytes at 0) rest again)
-                ∙ rw (next-unit shift) (ap (λ (x : Read ℕ). x next limited) (one_more (groups (g.left - 1) rest) value (2 ^ shift) low));
+                ∙ rw (next_unit shift) (ap (λ (x : Read ℕ). x next limited) (one_more (groups (g.left - 1) rest) value (2 ^ shift) low));
           }

@@ -15,8 +15,8 @@ abbrev pub ◌next◌ : {A B : Type 0} → Read A → (A → List ℕ → Read B
 got a rest next more = more a rest
 refused r next more = refused r
 
-infixr 8 ◌thenRead◌
+infixr 8 ◌then_read◌
 -- Read on, where a check passes.
-abbrev pub ◌thenRead◌ : {A : Type 0} → Verdict → Read A → Read A
-verdict.Passed thenRead read = read
-verdict.Refused r thenRead read = refused r
+abbrev pub ◌then_read◌ : {A : Type 0} → Verdict → Read A → Read A
+verdict.Passed then_read read = read
+verdict.Refused r then_read read = refused r

@@ -15,14 +15,14 @@ pub record Reads {A : Type 0} (x : Read A) : Type 0 where
   pub is : x ≡ got value rest
 
 -- A number that the code answers, as what is read from the bytes: after it stands what follows its next index.
-abbrev pub numberIn : List ℕ → Number → Read ℕ
-numberIn bytes (number.Got value after) = got value (drop after bytes)
-numberIn bytes (number.Refused r) = refused r
+abbrev pub number_in : List ℕ → Number → Read ℕ
+number_in bytes (number.Got value after) = got value (drop after bytes)
+number_in bytes (number.Refused r) = refused r
 
 -- The same of a number that was checked.
-abbrev pub checkedIn : List ℕ → Checked → Read ℕ
-checkedIn bytes c = got c.value (drop c.next bytes)
+abbrev pub checked_in : List ℕ → Checked → Read ℕ
+checked_in bytes c = got c.value (drop c.next bytes)
 
 -- A number that is not too large, with its next index; else it is refused with 12.
-unfoldable pub limitedNumber : ℕ → ℕ → Number
-limitedNumber value after = if leb value largest then number.Got value after else number.Refused FiledNumber
+unfoldable pub limited_number : ℕ → ℕ → Number
+limited_number value after = if leb value largest then number.Got value after else number.Refused FiledNumber

@@ -2,8 +2,8 @@
 #![tactic(auto)]
 
 ghost use Rattle.std.specs.Prelude.{◌≡◌, ◌*◌, ◌^◌, ◌≤◌, ◌<◌, drop};
-ghost use Rattle.house_numbers.specs.Numbers.{readNumber, rateOf};
-ghost use Rattle.house_numbers.specs.Steps.{Reads, numberIn, checkedIn, limitedNumber};
+ghost use Rattle.house_numbers.specs.Numbers.{read_number, rate_of};
+ghost use Rattle.house_numbers.specs.Steps.{Reads, number_in, checked_in, limited_number};
 
 use refusals::Refusal;
 
@@ -27,7 +27,7 @@ fn placed(group: u64, shift: u32) -> u64
 
 // A number with its next index, refused with 12 where it is too large.
 fn limited(value: u64, next: usize) -> Number
-    ensures { result ≡ limitedNumber value next }
+    ensures { result ≡ limited_number value next }
 {
     if LARGEST < value {
         return Number::Refused(Refusal::FiledNumber);
@@ -37,7 +37,7 @@ fn limited(value: u64, next: usize) -> Number
 
 // The filed number from an index on, byte by byte.
 fn long_number(bytes: &[u8], from: usize) -> Number
-    ensures { numberIn bytes.now result ≡ readNumber (drop from bytes.now) }
+    ensures { number_in bytes.now result ≡ read_number (drop from bytes.now) }
 {
     let mut value: u64 = 0;
     let mut shift: u32 = 0;
@@ -59,7 +59,7 @@ fn long_number(bytes: &[u8], from: usize) -> Number
 
 // The filed number from an index on. Most have one byte.
 pub fn number_at(bytes: &[u8], from: usize) -> Number
-    ensures { numberIn bytes.now result ≡ readNumber (drop from bytes.now) }
+    ensures { number_in bytes.now result ≡ read_number (drop from bytes.now) }
 {
     if bytes.len() <= from {
         return Number::Refused(Refusal::FileEnds);
@@ -80,8 +80,8 @@ pub struct Checked {
 
 // The filed number from an index on, where it was checked, byte by byte. No byte is tested but for whether another follows.
 fn long_checked(bytes: &[u8], from: usize) -> Checked
-    requires { Reads (readNumber (drop from bytes.now)) }
-    ensures { checkedIn bytes.now result ≡ readNumber (drop from bytes.now) }
+    requires { Reads (read_number (drop from bytes.now)) }
+    ensures { checked_in bytes.now result ≡ read_number (drop from bytes.now) }
 {
     let mut value: u64 = 0;
     let mut shift: u32 = 0;
@@ -107,8 +107,8 @@ fn long_checked(bytes: &[u8], from: usize) -> Checked
 
 // The filed number from an index on, where it was checked. Most have one byte.
 pub fn checked_number(bytes: &[u8], from: usize) -> Checked
-    requires { Reads (readNumber (drop from bytes.now)) }
-    ensures { checkedIn bytes.now result ≡ readNumber (drop from bytes.now) }
+    requires { Reads (read_number (drop from bytes.now)) }
+    ensures { checked_in bytes.now result ≡ read_number (drop from bytes.now) }
 {
     let first = bytes[from];
     if first < 128 {
@@ -122,7 +122,7 @@ pub fn checked_number(bytes: &[u8], from: usize) -> Checked
 
 // The rate of a filed number.
 pub fn rate_of(filed: u32) -> i64
-    ensures { result ≡ rateOf filed }
+    ensures { result ≡ rate_of filed }
 {
     let half = (filed >> 1) as i64;
     if filed & 1 == 0 {

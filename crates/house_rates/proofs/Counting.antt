@@ -12,50 +12,50 @@ use lib.Seq.{drop-cons}
 use borrow.Author.Tests.{lt-ltb, le-ltb}
 use mir.Val.{bool_byte}
 use Rattle.std.specs.Prelude.{if◌then◌else◌}
-use Rattle.naturals.proofs.Cases.{le-or-lt}
-use Rattle.house_rates.specs.Steps.{isEnd, ends, Counted}
+use Rattle.naturals.proofs.Cases.{le_or_lt}
+use Rattle.house_rates.specs.Steps.{is_end, ends, Counted}
 
 -- A test, as the code counts it.
-pub end-counted : (b : ℕ) → bool_byte (ltb b 128) ≡ isEnd b
-unfolding isEnd
-end-counted b = go (ltb b 128)
+pub end_counted : (b : ℕ) → bool_byte (ltb b 128) ≡ is_end b
+unfolding is_end
+end_counted b = go (ltb b 128)
   where
     go : (t : Bool) → bool_byte t ≡ (if t then 1 else 0)
     go true = refl
     go false = refl
 
-pub end-one : (b : ℕ) → b < 128 → isEnd b ≡ 1
-unfolding isEnd
-end-one b h = rw (lt-ltb b 128 h)
+pub end_one : (b : ℕ) → b < 128 → is_end b ≡ 1
+unfolding is_end
+end_one b h = rw (lt-ltb b 128 h)
 
-pub end_none : (b : ℕ) → 128 ≤ b → isEnd b ≡ 0
-unfolding isEnd
+pub end_none : (b : ℕ) → 128 ≤ b → is_end b ≡ 0
+unfolding is_end
 end_none b h = rw (le-ltb b 128 h)
 
-pub end-most : (b : ℕ) → isEnd b ≤ 1
-end-most b = le-or-lt 128 b (λ h. omega (arith, end_none b h)) (λ h. omega (arith, end-one b h))
+pub end_most : (b : ℕ) → is_end b ≤ 1
+end_most b = le_or_lt 128 b (λ h. omega (arith, end_none b h)) (λ h. omega (arith, end_one b h))
 
 module _ (bytes : List ℕ) where
   -- The count from an index on, with the byte there and without it.
-  pub ends-here : (at : ℕ) → at < length bytes → ends (drop at bytes) ≡ isEnd (get_or bytes at 0) + ends (drop (at + 1) bytes)
+  pub ends_here : (at : ℕ) → at < length bytes → ends (drop at bytes) ≡ is_end (get_or bytes at 0) + ends (drop (at + 1) bytes)
   unfolding ends
-  ends-here at more =
+  ends_here at more =
       let here : drop at bytes ≡ get_or bytes at 0 ∷ drop (at + 1) bytes = rw add-one (drop-cons bytes at 0 more) in ap ends here
 
-  pub ends-past : (at : ℕ) → length bytes ≤ at → ends (drop at bytes) ≡ 0
+  pub ends_past : (at : ℕ) → length bytes ≤ at → ends (drop at bytes) ≡ 0
   unfolding ends
-  ends-past at h = ap ends (drop_of_length-le bytes h)
+  ends_past at h = ap ends (drop_of_length-le bytes h)
 
-pub counted-starts : (bytes : List ℕ) (from : ℕ) → Counted bytes from from 0
-counted-starts bytes from = record { is = omega arith; few = omega arith }
+pub counted_starts : (bytes : List ℕ) (from : ℕ) → Counted bytes from from 0
+counted_starts bytes from = record { is = omega arith; few = omega arith }
 
 module _ {bytes : List ℕ} {from at count : ℕ} (k : Counted bytes from at count) where
-  pub counted-more : (to more : ℕ) → Counted bytes at to more → Counted bytes from to (count + more)
-  counted-more to more m = record { is = omega (arith, k.is, m.is); few = omega (arith, k.few, m.few) }
+  pub counted_more : (to more : ℕ) → Counted bytes at to more → Counted bytes from to (count + more)
+  counted_more to more m = record { is = omega (arith, k.is, m.is); few = omega (arith, k.few, m.few) }
 
-  pub counted-one : at < length bytes → Counted bytes from (at + 1) (count + isEnd (get_or bytes at 0))
-  counted-one there =
-      record { is = omega (arith, k.is, ends-here bytes at there); few = omega (arith, k.few, end-most (get_or bytes at 0)) }
+  pub counted_one : at < length bytes → Counted bytes from (at + 1) (count + is_end (get_or bytes at 0))
+  counted_one there =
+      record { is = omega (arith, k.is, ends_here bytes at there); few = omega (arith, k.few, end_most (get_or bytes at 0)) }
 
-  pub counted-all : length bytes ≤ at → count ≡ ends (drop from bytes)
-  counted-all h = omega (arith, k.is, ends-past bytes at h)
+  pub counted_all : length bytes ≤ at → count ≡ ends (drop from bytes)
+  counted_all h = omega (arith, k.is, ends_past bytes at h)

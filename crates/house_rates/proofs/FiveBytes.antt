@@ -8,12 +8,12 @@ use native.Mathlib.Omega.{arith}
 use lib.Dec.{leb}
 use lib.ListN.{length, get_or-eq_default}
 use borrow.Author.Tests.{le-leb}
-use Rattle.naturals.proofs.Cases.{le-or-lt}
+use Rattle.naturals.proofs.Cases.{le_or_lt}
 use Rattle.house_rates.specs.Steps.{NotLarge, NotLargeAt, NoneLarge}
 
-pub not-large : (a b c d e : ℕ) → ((((leb 128 a && leb 128 b) && leb 128 c) && leb 128 d) && leb 16 e) ≡ false → NotLarge a b c d e
-not-large a b c d e off ha hb hc hd =
-    le-or-lt 16 e
+pub not_large : (a b c d e : ℕ) → ((((leb 128 a && leb 128 b) && leb 128 c) && leb 128 d) && leb 16 e) ≡ false → NotLarge a b c d e
+not_large a b c d e off ha hb hc hd =
+    le_or_lt 16 e
     (λ he.
     let on : ((((leb 128 a && leb 128 b) && leb 128 c) && leb 128 d) && leb 16 e) ≡ true =
     rw (le-leb 128 a ha, le-leb 128 b hb, le-leb 128 c hc, le-leb 128 d hd, le-leb 16 e he) in
@@ -24,24 +24,24 @@ not-large a b c d e off ha hb hc hd =
 pub record Clear (bytes : List ℕ) (from at : ℕ) (large : Bool) : Type 0 where
   pub none : large ≡ false → (k : ℕ) → from ≤ k → k < at → NotLargeAt bytes k
 
-pub clear-starts : (bytes : List ℕ) (from : ℕ) → Clear bytes from from false
-clear-starts bytes from = record { none = λ e k h less. absurd (omega arith) }
+pub clear_starts : (bytes : List ℕ) (from : ℕ) → Clear bytes from from false
+clear_starts bytes from = record { none = λ e k h less. absurd (omega arith) }
 
 pub past_end : (bytes : List ℕ) (k : ℕ) → length bytes ≤ k + 4 → NotLargeAt bytes k
 past_end bytes k h a b c d = omega (arith, get_or-eq_default bytes 0 h)
 
 module _ {bytes : List ℕ} {from at : ℕ} {large : Bool} (p : Clear bytes from at large) where
-  pub clear-steps : (here : Bool) → (here ≡ false → NotLargeAt bytes at) → Clear bytes from (at + 1) (large || here)
-  clear-steps here fit = record { none = all large here refl refl }
+  pub clear_steps : (here : Bool) → (here ≡ false → NotLargeAt bytes at) → Clear bytes from (at + 1) (large || here)
+  clear_steps here fit = record { none = all large here refl refl }
     where
       all : (x y : Bool) → large ≡ x → here ≡ y → (x || y) ≡ false → (k : ℕ) → from ≤ k → k < at + 1 → NotLargeAt bytes k
       all true y ex ey e k h less = absurd (true≢false e)
       all false true ex ey e k h less = absurd (true≢false e)
       all false false ex ey e k h less =
-          le-or-lt at k
+          le_or_lt at k
           (λ after. let same : k ≡ at = omega arith in rw same (fit ey))
           (λ before. p.none ex k h before)
 
-  pub clear-ends : length bytes ≤ at + 4 → large ≡ false → NoneLarge bytes from
-  clear-ends end e =
-      record { at = λ k h. le-or-lt at k (λ after. past_end bytes k (omega arith)) (λ before. p.none e k h before) }
+  pub clear_ends : length bytes ≤ at + 4 → large ≡ false → NoneLarge bytes from
+  clear_ends end e =
+      record { at = λ k h. le_or_lt at k (λ after. past_end bytes k (omega arith)) (λ before. p.none e k h before) }

@@ -6,22 +6,22 @@ use Prim.Native.Nat.{ℕ, suc}
 use lib.IntN.{ℤ}
 use Rattle.refusals.specs.declared.Refusal.{Refusal}
 use Rattle.house_numbers.specs.Reading.{Read, got, refused, ◌next◌}
-use Rattle.house_numbers.specs.Numbers.{readNumber, rateOf}
-use Rattle.house_rates.specs.Rates.{prepended, readRates}
-use Rattle.house_rates.specs.Steps.{checkedRates}
+use Rattle.house_numbers.specs.Numbers.{read_number, rate_of}
+use Rattle.house_rates.specs.Rates.{prepended, read_rates}
+use Rattle.house_rates.specs.Steps.{checked_rates}
 
 module _ (m : ℕ) (bytes : List ℕ) where
-  pub one_more : {u : ℕ} {rest : List ℕ} → readNumber bytes ≡ got u rest →
-      readRates (suc m) bytes ≡ readRates m rest next prepended (rateOf u)
-  unfolding readRates
+  pub one_more : {u : ℕ} {rest : List ℕ} → read_number bytes ≡ got u rest →
+      read_rates (suc m) bytes ≡ read_rates m rest next prepended (rate_of u)
+  unfolding read_rates
   one_more e = rw e
 
-  pub one-refused : {r : Refusal} → readNumber bytes ≡ refused r → readRates (suc m) bytes ≡ refused r
-  unfolding readRates
-  one-refused e = rw e
+  pub one_refused : {r : Refusal} → read_number bytes ≡ refused r → read_rates (suc m) bytes ≡ refused r
+  unfolding read_rates
+  one_refused e = rw e
 
 -- What is checked does not depend on the rates read before.
-pub checked-after : (x : Read (List ℤ)) (rate : ℤ) → checkedRates (x next prepended rate) ≡ checkedRates x
-unfolding checkedRates prepended
-checked-after (got rates rest) rate = refl
-checked-after (refused r) rate = refl
+pub checked_after : (x : Read (List ℤ)) (rate : ℤ) → checked_rates (x next prepended rate) ≡ checked_rates x
+unfolding checked_rates prepended
+checked_after (got rates rest) rate = refl
+checked_after (refused r) rate = refl

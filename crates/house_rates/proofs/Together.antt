@@ -11,16 +11,16 @@ use native.Mathlib.Omega.{arith}
 use lib.ListN.{length, get_or, drop}
 use lib.Seq.{drop-cons}
 use borrow.Author.Tests.{le-leb}
-use Rattle.naturals.proofs.Cases.{le-or-lt}
+use Rattle.naturals.proofs.Cases.{le_or_lt}
 use Rattle.refusals.specs.declared.Verdict.TheVariants.{Passed}
 use Rattle.house_numbers.specs.Reading.{Read, got, ◌next◌}
-use Rattle.house_numbers.specs.Numbers.{below, groups, largest, limited, readNumber, rateOf}
-use Rattle.house_rates.specs.Rates.{readRates}
-use Rattle.house_rates.specs.Steps.{checkedRates, ends, NotLargeAt, NoneLarge}
+use Rattle.house_numbers.specs.Numbers.{below, groups, largest, limited, read_number, rate_of}
+use Rattle.house_rates.specs.Rates.{read_rates}
+use Rattle.house_rates.specs.Steps.{checked_rates, ends, NotLargeAt, NoneLarge}
 use Rattle.house_numbers.proofs.Gathering.{continued, finished}
-use Rattle.house_rates.proofs.Rates.{one_more, checked-after}
-use Rattle.house_rates.proofs.Checking.{checked-starts, none_left}
-use Rattle.house_rates.proofs.Counting.{end-one, end_none, ends-here, ends-past}
+use Rattle.house_rates.proofs.Rates.{one_more, checked_after}
+use Rattle.house_rates.proofs.Checking.{checked_starts, none_left}
+use Rattle.house_rates.proofs.Counting.{end_one, end_none, ends_here, ends_past}
 
 -- Where so many bytes do not end a number, the one after them is below 16.
 Capped : List ℕ → ℕ → ℕ → Type 0
@@ -48,12 +48,12 @@ module _ (bytes : List ℕ) (byte : (i : ℕ) → get_or bytes i 0 < 256) (close
         reads = reads_byte k at there ∙ finished k (get_or bytes at 0) (drop (at + 1) bytes) last;
         small = small;
         past = omega arith;
-        fewer = omega (arith, ends-here bytes at there, end-one (get_or bytes at 0) last);
+        fewer = omega (arith, ends_here bytes at there, end_one (get_or bytes at 0) last);
       }
 
-  takes-more : (k at : ℕ) → at < length bytes → 128 ≤ get_or bytes at 0 → Taken bytes k (at + 1) → Taken bytes (suc k) at
+  takes_more : (k at : ℕ) → at < length bytes → 128 ≤ get_or bytes at 0 → Taken bytes k (at + 1) → Taken bytes (suc k) at
   unfolding below
-  takes-more k at there again t =
+  takes_more k at there again t =
       record {
         value = get_or bytes at 0 - 128 + 128 * t.value;
         after = t.after;
@@ -63,13 +63,13 @@ module _ (bytes : List ℕ) (byte : (i : ℕ) → get_or bytes i 0 < 256) (close
             ∙ ap (λ (x : Read ℕ). x next below (get_or bytes at 0 - 128)) t.reads;
         small = omega (arith, t.small, byte at);
         past = omega (arith, t.past);
-        fewer = omega (arith, t.fewer, ends-here bytes at there, end_none (get_or bytes at 0) again);
+        fewer = omega (arith, t.fewer, ends_here bytes at there, end_none (get_or bytes at 0) again);
       }
 
   -- The last byte ends a number.
   goes_on : (at : ℕ) → at < length bytes → 128 ≤ get_or bytes at 0 → at + 1 < length bytes
   goes_on at there again =
-      le-or-lt (length bytes) (at + 1)
+      le_or_lt (length bytes) (at + 1)
       (λ h.
       let here : at ≡ length bytes - 1 = omega arith in
       absurd (omega (arith, closed, again, ap (λ (i : ℕ). get_or bytes i 0) here)))
@@ -79,8 +79,8 @@ module _ (bytes : List ℕ) (byte : (i : ℕ) → get_or bytes i 0 < 256) (close
   unfolding Capped
   takes zero at there capped = takes_one 0 at there (omega (arith, capped)) (omega (arith, capped))
   takes (suc k) at there capped =
-      le-or-lt 128 (get_or bytes at 0)
-      (λ again. takes-more k at there again (takes k (at + 1) (goes_on at there again) (capped again)))
+      le_or_lt 128 (get_or bytes at 0)
+      (λ again. takes_more k at there again (takes k (at + 1) (goes_on at there again) (capped again)))
       (λ last. takes_one (suc k) at there last (omega (arith, one-le-pow k 128 (omega arith))))
 
   -- Four bytes before the end of a number at most.
@@ -97,20 +97,20 @@ module _ (bytes : List ℕ) (byte : (i : ℕ) → get_or bytes i 0 < 256) (close
     number : (at : ℕ) → from ≤ at → at < length bytes → Taken bytes 4 at
     number at h there = takes 4 at there (capped at (fit.at at h))
 
-    number_read : (at : ℕ) (t : Taken bytes 4 at) → readNumber (drop at bytes) ≡ got t.value (drop t.after bytes)
-    unfolding readNumber limited largest
+    number_read : (at : ℕ) (t : Taken bytes 4 at) → read_number (drop at bytes) ≡ got t.value (drop t.after bytes)
+    unfolding read_number limited largest
     number_read at t = rw (t.reads, le-leb t.value 4294967295 (omega (arith, t.small)))
 
-    pub all_pass : (m at : ℕ) → from ≤ at → ends (drop at bytes) ≡ m → checkedRates (readRates m (drop at bytes)) ≡ Passed
+    pub all_pass : (m at : ℕ) → from ≤ at → ends (drop at bytes) ≡ m → checked_rates (read_rates m (drop at bytes)) ≡ Passed
     all_pass zero at h none =
-        le-or-lt (length bytes) at
-        (λ past. none_left (checked-starts bytes at 0) (omega arith) past)
+        le_or_lt (length bytes) at
+        (λ past. none_left (checked_starts bytes at 0) (omega arith) past)
         (λ there. absurd (omega (arith, none, (number at h there).fewer)))
     all_pass (suc m) at h some =
-        le-or-lt (length bytes) at
-        (λ past. absurd (omega (arith, some, ends-past bytes at past)))
+        le_or_lt (length bytes) at
+        (λ past. absurd (omega (arith, some, ends_past bytes at past)))
         (λ there.
         let t = number at h there in
-        ap checkedRates (one_more m (drop at bytes) (number_read at t))
-        ∙ checked-after (readRates m (drop t.after bytes)) (rateOf t.value)
+        ap checked_rates (one_more m (drop at bytes) (number_read at t))
+        ∙ checked_after (read_rates m (drop t.after bytes)) (rate_of t.value)
         ∙ all_pass m t.after (omega (arith, t.past)) (omega (arith, some, t.fewer)))

@@ -2,13 +2,13 @@
 -- Assumes nothing.
 use Rattle.std.specs.Prelude.{List, [], ◌∷◌, ℕ, zero, suc, ℤ}
 use Rattle.house_numbers.specs.Reading.{Read, got, ◌next◌}
-use Rattle.house_numbers.specs.Numbers.{readNumber, rateOf}
+use Rattle.house_numbers.specs.Numbers.{read_number, rate_of}
 
 -- A rate before others.
 unfoldable pub prepended : ℤ → List ℤ → List ℕ → Read (List ℤ)
 prepended rate rates rest = got (rate ∷ rates) rest
 
 -- m rates in a row.
-unfoldable pub readRates : ℕ → List ℕ → Read (List ℤ)
-readRates zero bytes = got [] bytes
-readRates (suc m) bytes = readNumber bytes next (λ u rest. readRates m rest next prepended (rateOf u))
+unfoldable pub read_rates : ℕ → List ℕ → Read (List ℤ)
+read_rates zero bytes = got [] bytes
+read_rates (suc m) bytes = read_number bytes next (λ u rest. read_rates m rest next prepended (rate_of u))

@@ -8,29 +8,29 @@ use Rattle.refusals.specs.Checks.{unless}
 use Rattle.house_numbers.specs.Reading.{Read, got, refused}
 
 -- What the check of the rates says: refused where they are, and with 13 where bytes are left after them.
-unfoldable pub checkedRates : Read (List ℤ) → Verdict
-checkedRates (got rates rest) = unless (eqb (length rest) 0) BytesLeft
-checkedRates (refused r) = verdict.Refused r
+unfoldable pub checked_rates : Read (List ℤ) → Verdict
+checked_rates (got rates rest) = unless (eqb (length rest) 0) BytesLeft
+checked_rates (refused r) = verdict.Refused r
 
 -- The rates that are read.
-unfoldable pub ratesRead : Read (List ℤ) → List ℤ
-ratesRead (got rates rest) = rates
-ratesRead (refused r) = []
+unfoldable pub rates_read : Read (List ℤ) → List ℤ
+rates_read (got rates rest) = rates
+rates_read (refused r) = []
 
 -- A buffer with rates in its first places.
-unfoldable pub ratesOver : List ℤ → List ℤ → List ℤ
-ratesOver table rates = rates ++ drop (length rates) table
+unfoldable pub rates_over : List ℤ → List ℤ → List ℤ
+rates_over table rates = rates ++ drop (length rates) table
 
 -- ---- many numbers checked at once, by their ends: a byte below 128 ends a number
 
 -- 1 for a byte that ends a number, else 0.
-unfoldable pub isEnd : ℕ → ℕ
-isEnd b = if ltb b 128 then 1 else 0
+unfoldable pub is_end : ℕ → ℕ
+is_end b = if ltb b 128 then 1 else 0
 
 -- How many numbers end among some bytes.
 unfoldable pub ends : List ℕ → ℕ
 ends [] = 0
-ends (b ∷ bytes) = isEnd b + ends bytes
+ends (b ∷ bytes) = is_end b + ends bytes
 
 -- So many numbers end from an index up to another, and no more than there are bytes between them.
 pub record Counted (bytes : List ℕ) (from at count : ℕ) : Type 0 where

@@ -3,15 +3,15 @@
 
 ghost use Rattle.std.specs.Prelude.{◌≡◌, true, false, ◌+◌, ◌≤◌, length, drop};
 ghost use Rattle.refusals.specs.declared.Verdict.TheVariants.{Passed};
-ghost use Rattle.house_rates.specs.Rates.{readRates};
-ghost use Rattle.house_rates.specs.Steps.{checkedRates, ratesRead, ratesOver, isEnd, ends, Counted, NotLarge, NoneLarge};
+ghost use Rattle.house_rates.specs.Rates.{read_rates};
+ghost use Rattle.house_rates.specs.Steps.{checked_rates, rates_read, rates_over, is_end, ends, Counted, NotLarge, NoneLarge};
 
 use house_numbers::Number;
 use refusals::{Refusal, Verdict};
 
 // Number by number: refused with 11 or 12 at the first of the rates that is no filed number, and with 13 where bytes are left after the last.
 fn check_each(bytes: &[u8], from: usize, count: usize) -> Verdict
-    ensures { result ≡ checkedRates (readRates count (drop from bytes.now)) }
+    ensures { result ≡ checked_rates (read_rates count (drop from bytes.now)) }
 {
     let mut left = count;
     let mut at = from;
@@ -30,7 +30,7 @@ fn check_each(bytes: &[u8], from: usize, count: usize) -> Verdict
 
 // 1 for a byte that ends a number, else 0.
 fn is_end(byte: u8) -> u8
-    ensures { result ≡ isEnd byte }
+    ensures { result ≡ is_end byte }
 {
     (byte < 128) as u8
 }
@@ -96,7 +96,7 @@ fn none_large(bytes: &[u8], from: usize) -> bool
 
 // Says yes only to rates that pass: as many numbers end as there are rates, one ends with the last byte, and none is too long or too large.
 fn sound(bytes: &[u8], from: usize, count: usize) -> bool
-    ensures { result ≡ true → checkedRates (readRates count (drop from bytes.now)) ≡ Passed }
+    ensures { result ≡ true → checked_rates (read_rates count (drop from bytes.now)) ≡ Passed }
 {
     if bytes.len() <= from {
         return false;
@@ -112,7 +112,7 @@ fn sound(bytes: &[u8], from: usize, count: usize) -> bool
 
 // The check of the rates: all at once, and number by number only where that does not say yes.
 pub fn check_rates(bytes: &[u8], from: usize, count: usize) -> Verdict
-    ensures { result ≡ checkedRates (readRates count (drop from bytes.now)) }
+    ensures { result ≡ checked_rates (read_rates count (drop from bytes.now)) }
 {
     if sound(bytes, from, count) {
         return Verdict::Passed;
@@ -122,8 +122,8 @@ pub fn check_rates(bytes: &[u8], from: usize, count: usize) -> Verdict
 
 // The rates, which were checked, into the first places.
 pub fn fill(bytes: &[u8], from: usize, count: usize, table: &mut [i64])
-    requires { (checkedRates (readRates count (drop from bytes.now)) ≡ Passed) × (count ≤ length table.old) }
-    ensures { table.new ≡ ratesOver table.old (ratesRead (readRates count (drop from bytes.now))) }
+    requires { (checked_rates (read_rates count (drop from bytes.now)) ≡ Passed) × (count ≤ length table.old) }
+    ensures { table.new ≡ rates_over table.old (rates_read (read_rates count (drop from bytes.now))) }
 {
     let mut p: usize = 0;
     let mut at = from;

@@ -9,49 +9,49 @@ use lib.IntN.{ℤ}
 use lib.ListN.{length}
 use Rattle.refusals.specs.declared.Verdict.TheVariants.{Passed}
 use Rattle.shapes.specs.declared.Shape.{Shape}
-use Rattle.shapes.proofs.Checked.{in-range-passed}
-use Rattle.tables.specs.Tables.{checkRated}
-use Rattle.tables.proofs.Checking.{rated-opens}
+use Rattle.shapes.proofs.Checked.{in_range_passed}
+use Rattle.tables.specs.Tables.{check_rated}
+use Rattle.tables.proofs.Checking.{rated_opens}
 use Rattle.house_numbers.specs.Reading.{got}
-use Rattle.house_file.specs.Files.{Contents, readContents}
-use Rattle.house_file.specs.Written.{writtenFile}
-use Rattle.house_file.proofs.Accepting.{contents-accepted}
-use Rattle.house_file.proofs.Lengths.{Bytes, fewest-file, file-most}
+use Rattle.house_file.specs.Files.{Contents, read_contents}
+use Rattle.house_file.specs.Written.{written_file}
+use Rattle.house_file.proofs.Accepting.{contents_accepted}
+use Rattle.house_file.proofs.Lengths.{Bytes, fewest_file, file_most}
 use Rattle.house_writer.specs.declared.Filed.TheVariants.{Length}
-use Rattle.house_writer.specs.Writing.{AfterWriting, writeFile}
-use Rattle.house_writer.specs.Rewriting.{formOf, rewriteFile}
-use Rattle.house_writer.proofs.WrittenBack.{written-answer}
+use Rattle.house_writer.specs.Writing.{AfterWriting, write_file}
+use Rattle.house_writer.specs.Rewriting.{form_of, rewrite_file}
+use Rattle.house_writer.proofs.WrittenBack.{written_answer}
 use Rattle.house_writer.proofs.OneForm.{rewritten}
 
 -- ---- rewriting
 
-module _ (places : ℕ) (bytes : List ℕ) (c : Contents) (rest : List ℕ) (e : readContents places bytes ≡ got c rest) where
-  rewritten-answer : (out : List ℕ) → length (formOf c) ≤ length out → (rewriteFile places bytes out).answer ≡ Length (length (formOf c))
-  rewritten-answer out room = ap (λ (a : AfterWriting). a.answer) (rewritten places bytes c rest e out room)
+module _ (places : ℕ) (bytes : List ℕ) (c : Contents) (rest : List ℕ) (e : read_contents places bytes ≡ got c rest) where
+  rewritten_answer : (out : List ℕ) → length (form_of c) ≤ length out → (rewrite_file places bytes out).answer ≡ Length (length (form_of c))
+  rewritten_answer out room = ap (λ (a : AfterWriting). a.answer) (rewritten places bytes c rest e out room)
 
-  pub never-longer : Bytes bytes → length (formOf c) ≤ length bytes
-  never-longer byte = fewest-file places bytes byte c rest e
+  pub never_longer : Bytes bytes → length (form_of c) ≤ length bytes
+  never_longer byte = fewest_file places bytes byte c rest e
 
   -- As many bytes as the file has are room enough for its form.
-  pub always-room : Bytes bytes → (out : List ℕ) → length bytes ≤ length out → (rewriteFile places bytes out).answer ≡ Length (length (formOf c))
-  always-room byte out room = rewritten-answer out (omega (arith, never-longer byte))
+  pub always_room : Bytes bytes → (out : List ℕ) → length bytes ≤ length out → (rewrite_file places bytes out).answer ≡ Length (length (form_of c))
+  always_room byte out room = rewritten_answer out (omega (arith, never_longer byte))
 
-  pub form-most : length (formOf c) ≤ 2 + 5 * places
-  form-most =
-      let a = contents-accepted places bytes c rest e in omega (arith, file-most c.shape c.rates a.shaped, a.room, a.rated.many)
+  pub form_most : length (form_of c) ≤ 2 + 5 * places
+  form_most =
+      let a = contents_accepted places bytes c rest e in omega (arith, file_most c.shape c.rates a.shaped, a.room, a.rated.many)
 
   -- So are 2 bytes and 5 for each place.
-  pub most-room : (out : List ℕ) → 2 + 5 * places ≤ length out → (rewriteFile places bytes out).answer ≡ Length (length (formOf c))
-  most-room out room = rewritten-answer out (omega (arith, form-most))
+  pub most_room : (out : List ℕ) → 2 + 5 * places ≤ length out → (rewrite_file places bytes out).answer ≡ Length (length (form_of c))
+  most_room out room = rewritten_answer out (omega (arith, form_most))
 
 -- ---- writing
 
-module _ (s : Shape) (rates : List ℤ) (passed : checkRated s rates ≡ Passed) where
-  pub written-most : length (writtenFile s rates) ≤ 2 + 5 * length rates
-  written-most =
-      let opens = rated-opens s rates passed in
-      file-most s rates (in-range-passed s opens.range)
+module _ (s : Shape) (rates : List ℤ) (passed : check_rated s rates ≡ Passed) where
+  pub written_most : length (written_file s rates) ≤ 2 + 5 * length rates
+  written_most =
+      let opens = rated_opens s rates passed in
+      file_most s rates (in_range_passed s opens.range)
 
   -- Into 2 bytes and 5 for each rate, checked rates are always written.
-  pub written-room : (out : List ℕ) → 2 + 5 * length rates ≤ length out → (writeFile s rates out).answer ≡ Length (length (writtenFile s rates))
-  written-room out room = ap (λ (a : AfterWriting). a.answer) (written-answer s rates out passed (omega (arith, written-most)))
+  pub written_room : (out : List ℕ) → 2 + 5 * length rates ≤ length out → (write_file s rates out).answer ≡ Length (length (written_file s rates))
+  written_room out room = ap (λ (a : AfterWriting). a.answer) (written_answer s rates out passed (omega (arith, written_most)))

@@ -9,27 +9,27 @@ use lib.Dec.{leb}
 use lib.ListN.{length, take, drop}
 use lib.Seq.{take_all, take-append_seam, drop-append_seam}
 use borrow.Author.Tests.{le-leb, leb-true}
-use Rattle.naturals.proofs.Cases.{le-or-lt}
+use Rattle.naturals.proofs.Cases.{le_or_lt}
 use Rattle.refusals.specs.declared.Refusal.{Refusal}
 use Rattle.refusals.specs.declared.Refusal.TheVariants.{TableLength}
 use Rattle.refusals.specs.declared.Verdict.{Verdict}
 use Rattle.refusals.specs.declared.Verdict.TheVariants as verdict
 use Rattle.refusals.specs.Checks.{unless, answer}
-use Rattle.refusals.proofs.Passing.{test-passed}
+use Rattle.refusals.proofs.Passing.{test_passed}
 use Rattle.house_writer.specs.declared.Filed.TheVariants.{Length, Refused}
-use Rattle.house_writer.specs.Writing.{AfterWriting, keptOut, checkRoom, filledOut, putFile}
+use Rattle.house_writer.specs.Writing.{AfterWriting, kept_out, check_room, filled_out, put_file}
 
 module _ (out : List ℕ) where
   -- An answered length has passed.
-  pub length-passed : (v : Verdict) (result : AfterWriting) {k : ℕ} → (answer (keptOut out) v result).answer ≡ Length k → v ≡ verdict.Passed
-  length-passed verdict.Passed result e = refl
-  length-passed (verdict.Refused r) result e = cc
+  pub length_passed : (v : Verdict) (result : AfterWriting) {k : ℕ} → (answer (kept_out out) v result).answer ≡ Length k → v ≡ verdict.Passed
+  length_passed verdict.Passed result e = refl
+  length_passed (verdict.Refused r) result e = cc
 
   -- A refusal keeps the buffer, where it is the check's and where it is the result's.
-  pub refused-kept : (v : Verdict) (result : AfterWriting) {r : Refusal} → (result.answer ≡ Refused r → result.out ≡ out) →
-      (answer (keptOut out) v result).answer ≡ Refused r → (answer (keptOut out) v result).out ≡ out
-  refused-kept verdict.Passed result keeps e = keeps e
-  refused-kept (verdict.Refused q) result keeps e = refl
+  pub refused_kept : (v : Verdict) (result : AfterWriting) {r : Refusal} → (result.answer ≡ Refused r → result.out ≡ out) →
+      (answer (kept_out out) v result).answer ≡ Refused r → (answer (kept_out out) v result).out ≡ out
+  refused_kept verdict.Passed result keeps e = keeps e
+  refused_kept (verdict.Refused q) result keeps e = refl
 
 -- A file of k bytes stands at the front of what is left of a buffer that had room for it.
 pub record Stands (file out : List ℕ) (k : ℕ) (left : List ℕ) : Type 0 where
@@ -39,21 +39,21 @@ pub record Stands (file out : List ℕ) (k : ℕ) (left : List ℕ) : Type 0 whe
   pub past : drop k left ≡ drop k out
 
 -- So the buffer has so many bytes, and they are counted.
-pub stands-within : {file out : List ℕ} {k : ℕ} {left : List ℕ} → Stands file out k left → (k ≤ length left) × (k ≡ length (take k left))
-stands-within {file} {out} {k} {left} s =
+pub stands_within : {file out : List ℕ} {k : ℕ} {left : List ℕ} → Stands file out k left → (k ≤ length left) × (k ≡ length (take k left))
+stands_within {file} {out} {k} {left} s =
     let counted : k ≡ length (take k left) = s.long ∙ ap length (sym s.front) in
-    (le-or-lt k (length left) (λ h. h) (λ short. absurd (omega (arith, counted, ap length (take_all k left (omega arith))))), counted)
+    (le_or_lt k (length left) (λ h. h) (λ short. absurd (omega (arith, counted, ap length (take_all k left (omega arith))))), counted)
 
 module _ (file out : List ℕ) where
-  pub put-done : length file ≤ length out → putFile file out ≡ filledOut file out
-  unfolding putFile checkRoom
-  put-done room = rw (le-leb (length file) (length out) room)
+  pub put_done : length file ≤ length out → put_file file out ≡ filled_out file out
+  unfolding put_file check_room
+  put_done room = rw (le-leb (length file) (length out) room)
 
-  pub put-room : {k : ℕ} → (putFile file out).answer ≡ Length k → length file ≤ length out
-  unfolding putFile checkRoom
-  put-room e =
+  pub put_room : {k : ℕ} → (put_file file out).answer ≡ Length k → length file ≤ length out
+  unfolding put_file check_room
+  put_room e =
       let test = leb (length file) (length out) in
-      leb-true (length file) (length out) (test-passed test TableLength (length-passed out (unless test TableLength) (filledOut file out) e))
+      leb-true (length file) (length out) (test_passed test TableLength (length_passed out (unless test TableLength) (filled_out file out) e))
 
   stands : (k : ℕ) → k ≡ length file → length file ≤ length out → Stands file out k (file ++ drop (length file) out)
   stands k e room =
@@ -65,13 +65,13 @@ module _ (file out : List ℕ) where
         past = drop-append_seam file (drop (length file) out);
       })
 
-  pub put-stands : (k : ℕ) → (putFile file out).answer ≡ Length k → Stands file out k (putFile file out).out
-  put-stands k e =
-      let room = put-room e in
-      let same : Length (length file) ≡ Length k = rw (put-done room) at e in
+  pub put_stands : (k : ℕ) → (put_file file out).answer ≡ Length k → Stands file out k (put_file file out).out
+  put_stands k e =
+      let room = put_room e in
+      let same : Length (length file) ≡ Length k = rw (put_done room) at e in
       let long : k ≡ length file = cc in
-      rw (put-done room) (stands k long room)
+      rw (put_done room) (stands k long room)
 
-  pub put_refused : {r : Refusal} → (putFile file out).answer ≡ Refused r → (putFile file out).out ≡ out
-  unfolding putFile
-  put_refused e = refused-kept out (checkRoom file out) (filledOut file out) (λ never. cc) e
+  pub put_refused : {r : Refusal} → (put_file file out).answer ≡ Refused r → (put_file file out).out ≡ out
+  unfolding put_file
+  put_refused e = refused_kept out (check_room file out) (filled_out file out) (λ never. cc) e

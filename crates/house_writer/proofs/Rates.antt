@@ -10,37 +10,37 @@ use lib.IntN.{ℤ, pos}
 use lib.ListN.{length, get_or, take, drop, take-append-drop, length-append}
 use lib.Seq.{take-suc, drop-cons}
 use Rattle.naturals.specs.FirstFailing.{Passes}
-use Rattle.hierarchy.proofs.Values.{value-suc}
-use Rattle.tables.specs.Tables.{rateAt}
+use Rattle.hierarchy.proofs.Values.{value_suc}
+use Rattle.tables.specs.Tables.{rate_at}
 use Rattle.buffers.specs.Put.{Put}
-use Rattle.buffers.proofs.Puts.{put_then, put-length, put_as}
+use Rattle.buffers.proofs.Puts.{put_then, put_length, put_as}
 use Rattle.house_numbers.specs.Numbers.{filed}
-use Rattle.house_file.specs.Written.{written, writtenRates}
-use Rattle.house_file.proofs.Lengths.{number-most, rates-most}
+use Rattle.house_file.specs.Written.{written, written_rates}
+use Rattle.house_file.proofs.Lengths.{number_most, rates_most}
 use Rattle.house_file.proofs.Accepting.{AllRates}
 use Rattle.house_rates.proofs.Walking.{Ahead}
 
 -- Every place that passes holds a rate.
-pub all-rates : (rates : List ℤ) → Passes (rateAt rates) (length rates) → AllRates rates
-unfolding rateAt
-all-rates rates passes p h = rw (value-suc rates p) at (passes p h)
+pub all_rates : (rates : List ℤ) → Passes (rate_at rates) (length rates) → AllRates rates
+unfolding rate_at
+all_rates rates passes p h = rw (value_suc rates p) at (passes p h)
 
-written-append : (a b : List ℤ) → writtenRates (a ++ b) ≡ writtenRates a ++ writtenRates b
-unfolding writtenRates
-written-append [] b = refl
-written-append (rate ∷ a) b =
-    ap (λ (l : List ℕ). written (filed rate) ++ l) (written-append a b) ∙ sym (append_assoc (written (filed rate)) (writtenRates a) (writtenRates b))
+written_append : (a b : List ℤ) → written_rates (a ++ b) ≡ written_rates a ++ written_rates b
+unfolding written_rates
+written_append [] b = refl
+written_append (rate ∷ a) b =
+    ap (λ (l : List ℕ). written (filed rate) ++ l) (written_append a b) ∙ sym (append_assoc (written (filed rate)) (written_rates a) (written_rates b))
 
-written_one : (rate : ℤ) → writtenRates (rate ∷ []) ≡ written (filed rate)
-unfolding writtenRates
+written_one : (rate : ℤ) → written_rates (rate ∷ []) ≡ written (filed rate)
+unfolding written_rates
 written_one rate = append-nil (written (filed rate))
 
-written_next : (done : List ℤ) (rate : ℤ) → writtenRates (done ++ rate ∷ []) ≡ writtenRates done ++ written (filed rate)
-written_next done rate = written-append done (rate ∷ []) ∙ ap (λ (l : List ℕ). writtenRates done ++ l) (written_one rate)
+written_next : (done : List ℤ) (rate : ℤ) → written_rates (done ++ rate ∷ []) ≡ written_rates done ++ written (filed rate)
+written_next done rate = written_append done (rate ∷ []) ∙ ap (λ (l : List ℕ). written_rates done ++ l) (written_one rate)
 
 -- The rates of a table: those before a place, the one there, and those behind it.
-pub ahead-at : (rates : List ℤ) (p : ℕ) → p < length rates → Ahead rates (take p rates) (get_or rates p (pos 0))
-ahead-at rates p h =
+pub ahead_at : (rates : List ℤ) (p : ℕ) → p < length rates → Ahead rates (take p rates) (get_or rates p (pos 0))
+ahead_at rates p h =
     record {
       behind = drop (suc p) rates;
       all = sym (take-append-drop p rates) ∙ ap (λ (l : List ℤ). take p rates ++ l) (drop-cons rates p (pos 0) h);
@@ -50,30 +50,30 @@ pub taken_next : (rates : List ℤ) (p : ℕ) → p < length rates → take p ra
 taken_next rates p h = sym (rw add-one (take-suc rates p (pos 0) h))
 
 -- How many bytes the rates passed take.
-module _ (done : List ℤ) {total : ℕ} (so : total ≡ length (writtenRates done)) where
-  pub size-next : (rate : ℤ) (size : ℕ) → size ≡ length (written (filed rate)) → total + size ≡ length (writtenRates (done ++ rate ∷ []))
-  size-next rate size is =
-      omega (arith, so, is, ap length (written_next done rate), length-append (writtenRates done) (written (filed rate)))
+module _ (done : List ℤ) {total : ℕ} (so : total ≡ length (written_rates done)) where
+  pub size_next : (rate : ℤ) (size : ℕ) → size ≡ length (written (filed rate)) → total + size ≡ length (written_rates (done ++ rate ∷ []))
+  size_next rate size is =
+      omega (arith, so, is, ap length (written_next done rate), length-append (written_rates done) (written (filed rate)))
 
   pub size_fits : length done < 4294967296 → (number size : ℕ) → size ≡ length (written number) → total + size < 2 ^ 64
-  size_fits few number size is = omega (arith, so, is, rates-most done, number-most number)
+  size_fits few number size is = omega (arith, so, is, rates_most done, number_most number)
 
 -- The rates passed stand in the buffer.
-module _ (done : List ℤ) {old : List ℕ} {place : ℕ} {new : List ℕ} {at : ℕ} (put : Put (writtenRates done) old place new at) (rate : ℤ) where
-  pub next-room : {rates : List ℤ} → Ahead rates done rate → place + length (writtenRates rates) ≤ length old →
+module _ (done : List ℤ) {old : List ℕ} {place : ℕ} {new : List ℕ} {at : ℕ} (put : Put (written_rates done) old place new at) (rate : ℤ) where
+  pub next_room : {rates : List ℤ} → Ahead rates done rate → place + length (written_rates rates) ≤ length old →
       at + length (written (filed rate)) ≤ length new
-  unfolding writtenRates
-  next-room {rates} a room =
+  unfolding written_rates
+  next_room {rates} a room =
       omega (
         arith,
         put.after,
-        put-length put,
-        ap (λ (l : List ℤ). length (writtenRates l)) a.all,
-        ap length (written-append done (rate ∷ a.behind)),
-        length-append (writtenRates done) (writtenRates (rate ∷ a.behind)),
-        length-append (written (filed rate)) (writtenRates a.behind),
+        put_length put,
+        ap (λ (l : List ℤ). length (written_rates l)) a.all,
+        ap length (written_append done (rate ∷ a.behind)),
+        length-append (written_rates done) (written_rates (rate ∷ a.behind)),
+        length-append (written (filed rate)) (written_rates a.behind),
       )
 
   pub put_next : {newer : List ℕ} {next : ℕ} → Put (written (filed rate)) new at newer next →
-      Put (writtenRates (done ++ rate ∷ [])) old place newer next
+      Put (written_rates (done ++ rate ∷ [])) old place newer next
   put_next p = put_as (sym (written_next done rate)) (put_then put p)

@@ -11,68 +11,68 @@ use Rattle.refusals.specs.declared.Refusal.{Refusal}
 use Rattle.refusals.specs.declared.Refusal.TheVariants.{TableLength}
 use Rattle.refusals.specs.declared.Verdict.TheVariants as verdict
 use Rattle.shapes.specs.declared.Shape.{Shape}
-use Rattle.shapes.specs.Shapes.{checkShape}
-use Rattle.shapes.proofs.Checked.{passed-in-range}
-use Rattle.tables.specs.Tables.{checkRated}
+use Rattle.shapes.specs.Shapes.{check_shape}
+use Rattle.shapes.proofs.Checked.{passed_in_range}
+use Rattle.tables.specs.Tables.{check_rated}
 use Rattle.buffers.specs.Put.{Put}
-use Rattle.buffers.proofs.Puts.{put_then, put_as, put-over}
-use Rattle.house_file.specs.Written.{written, writtenRates, writtenFile}
+use Rattle.buffers.proofs.Puts.{put_then, put_as, put_over}
+use Rattle.house_file.specs.Written.{written, written_rates, written_file}
 use Rattle.house_file.proofs.Lengths.{one_byte}
 use Rattle.house_writer.specs.declared.Filed.TheVariants.{Length}
-use Rattle.house_writer.specs.Writing.{afterWriting, keptOut, checkRoom, putFile, writeFile}
-use Rattle.house_writer.proofs.Putting.{put-done}
+use Rattle.house_writer.specs.Writing.{after_writing, kept_out, check_room, put_file, write_file}
+use Rattle.house_writer.proofs.Putting.{put_done}
 
 -- The checks of the writer.
 module _ (s : Shape) (rates : List ℤ) (out : List ℕ) where
-  pub write-refused : {r : Refusal} → checkRated s rates ≡ verdict.Refused r → writeFile s rates out ≡ keptOut out r
-  unfolding writeFile
-  write-refused e = rw e
+  pub write_refused : {r : Refusal} → check_rated s rates ≡ verdict.Refused r → write_file s rates out ≡ kept_out out r
+  unfolding write_file
+  write_refused e = rw e
 
-  pub write-put : checkRated s rates ≡ verdict.Passed → writeFile s rates out ≡ putFile (writtenFile s rates) out
-  unfolding writeFile putFile
-  write-put e = rw e
+  pub write_put : check_rated s rates ≡ verdict.Passed → write_file s rates out ≡ put_file (written_file s rates) out
+  unfolding write_file put_file
+  write_put e = rw e
 
 -- The room.
 module _ (file out : List ℕ) where
-  pub put-short : length out < length file → putFile file out ≡ keptOut out TableLength
-  unfolding putFile checkRoom
-  put-short h = rw (lt-leb (length file) (length out) h)
+  pub put_short : length out < length file → put_file file out ≡ kept_out out TableLength
+  unfolding put_file check_room
+  put_short h = rw (lt-leb (length file) (length out) h)
 
-  pub put-answered : {new : List ℕ} {next : ℕ} → length file ≤ length out → Put file out 0 new next → afterWriting (Length next) new ≡ putFile file out
-  put-answered {new} {next} room put =
+  pub put_answered : {new : List ℕ} {next : ℕ} → length file ≤ length out → Put file out 0 new next → after_writing (Length next) new ≡ put_file file out
+  put_answered {new} {next} room put =
       let long : next ≡ length file = omega (arith, put.after) in
-      ap (λ (n : ℕ). afterWriting (Length n) new) long
-      ∙ ap (afterWriting (Length (length file))) (put-over put room)
-      ∙ sym (put-done file out room)
+      ap (λ (n : ℕ). after_writing (Length n) new) long
+      ∙ ap (after_writing (Length (length file))) (put_over put room)
+      ∙ sym (put_done file out room)
 
-module _ (s : Shape) (passed : checkShape s ≡ verdict.Passed) where
+module _ (s : Shape) (passed : check_shape s ≡ verdict.Passed) where
   module _ (rates : List ℤ) where
-    pub file-size : 2 + length (writtenRates rates) ≡ length (writtenFile s rates)
-    unfolding writtenFile
-    file-size =
-        let range = passed-in-range s passed in
+    pub file_size : 2 + length (written_rates rates) ≡ length (written_file s rates)
+    unfolding written_file
+    file_size =
+        let range = passed_in_range s passed in
         omega (
           arith,
-          length-append (written s.axes) (written s.level ++ writtenRates rates),
-          length-append (written s.level) (writtenRates rates),
+          length-append (written s.axes) (written s.level ++ written_rates rates),
+          length-append (written s.level) (written_rates rates),
           one_byte s.axes range.high,
           one_byte s.level range.top,
         )
 
-    pub rates-room : {old mid : List ℕ} {place : ℕ} → length (writtenFile s rates) ≤ length old →
-        Put (written s.axes ++ written s.level) old 0 mid place → place + length (writtenRates rates) ≤ length old
-    rates-room room put =
-        let range = passed-in-range s passed in
+    pub rates_room : {old mid : List ℕ} {place : ℕ} → length (written_file s rates) ≤ length old →
+        Put (written s.axes ++ written s.level) old 0 mid place → place + length (written_rates rates) ≤ length old
+    rates_room room put =
+        let range = passed_in_range s passed in
         omega (
           arith,
-          file-size,
+          file_size,
           put.after,
           length-append (written s.axes) (written s.level),
           one_byte s.axes range.high,
           one_byte s.level range.top,
         )
 
-    pub parts-put : {old mid new : List ℕ} {place next : ℕ} → Put (written s.axes ++ written s.level) old 0 mid place →
-        Put (writtenRates rates) mid place new next → Put (writtenFile s rates) old 0 new next
-    unfolding writtenFile
-    parts-put head put = put_as (append_assoc (written s.axes) (written s.level) (writtenRates rates)) (put_then head put)
+    pub parts_put : {old mid new : List ℕ} {place next : ℕ} → Put (written s.axes ++ written s.level) old 0 mid place →
+        Put (written_rates rates) mid place new next → Put (written_file s rates) old 0 new next
+    unfolding written_file
+    parts_put head put = put_as (append_assoc (written s.axes) (written s.level) (written_rates rates)) (put_then head put)

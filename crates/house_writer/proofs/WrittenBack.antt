@@ -9,69 +9,69 @@ use lib.IntN.{ℤ}
 use lib.ListN.{length, take, drop}
 use Rattle.refusals.specs.declared.Refusal.{Refusal}
 use Rattle.refusals.specs.declared.Verdict.TheVariants.{Passed}
-use Rattle.refusals.specs.Checks.{◌andThen◌}
-use Rattle.refusals.proofs.Passing.{first-passed}
+use Rattle.refusals.specs.Checks.{◌and_then◌}
+use Rattle.refusals.proofs.Passing.{first_passed}
 use Rattle.shapes.specs.declared.Shape.{Shape}
-use Rattle.shapes.specs.Shapes.{pointsOf}
-use Rattle.shapes.proofs.Checked.{in-range-passed}
-use Rattle.tables.specs.Tables.{checkRated}
-use Rattle.tables.proofs.Checking.{rated-opens, rated-passes}
+use Rattle.shapes.specs.Shapes.{points_of}
+use Rattle.shapes.proofs.Checked.{in_range_passed}
+use Rattle.tables.specs.Tables.{check_rated}
+use Rattle.tables.proofs.Checking.{rated_opens, rated_passes}
 use Rattle.house_file.specs.declared.Opened.TheVariants.{Holds}
 use Rattle.house_numbers.specs.Reading.{got}
-use Rattle.house_file.specs.Files.{readContents, afterReading, readFile}
-use Rattle.house_file.specs.Written.{writtenFile}
-use Rattle.house_file.proofs.Undone.{file-back}
+use Rattle.house_file.specs.Files.{read_contents, after_reading, read_file}
+use Rattle.house_file.specs.Written.{written_file}
+use Rattle.house_file.proofs.Undone.{file_back}
 use Rattle.house_writer.specs.declared.Filed.TheVariants.{Length, Refused}
-use Rattle.house_writer.specs.Writing.{afterWriting, checkRoom, filledOut, writeFile}
-use Rattle.house_writer.proofs.Rates.{all-rates}
-use Rattle.house_writer.proofs.WholeFile.{write-put}
-use Rattle.house_writer.proofs.Putting.{length-passed, refused-kept, Stands, put-done, put-stands}
+use Rattle.house_writer.specs.Writing.{after_writing, check_room, filled_out, write_file}
+use Rattle.house_writer.proofs.Rates.{all_rates}
+use Rattle.house_writer.proofs.WholeFile.{write_put}
+use Rattle.house_writer.proofs.Putting.{length_passed, refused_kept, Stands, put_done, put_stands}
 
 module _ (s : Shape) (rates : List ℤ) where
   -- A file of checked rates is read back.
-  pub checked-back : checkRated s rates ≡ Passed → (places : ℕ) → pointsOf s ≤ places →
-      readContents places (writtenFile s rates) ≡ got (record { shape = s; rates = rates }) []
-  checked-back passed places room =
-      let opens = rated-opens s rates passed in
-      file-back s rates places (in-range-passed s opens.range) opens.long (omega (arith, opens.long)) (all-rates rates (rated-passes s rates passed))
+  pub checked_back : check_rated s rates ≡ Passed → (places : ℕ) → points_of s ≤ places →
+      read_contents places (written_file s rates) ≡ got (record { shape = s; rates = rates }) []
+  checked_back passed places room =
+      let opens = rated_opens s rates passed in
+      file_back s rates places (in_range_passed s opens.range) opens.long (omega (arith, opens.long)) (all_rates rates (rated_passes s rates passed))
 
   module _ (out : List ℕ) where
     -- Where the checks pass and there is room, the file is written.
-    pub written-answer : checkRated s rates ≡ Passed → length (writtenFile s rates) ≤ length out →
-        writeFile s rates out
-        ≡ afterWriting (Length (length (writtenFile s rates))) (writtenFile s rates ++ drop (length (writtenFile s rates)) out)
-    written-answer passed room = write-put s rates out passed ∙ put-done (writtenFile s rates) out room
+    pub written_answer : check_rated s rates ≡ Passed → length (written_file s rates) ≤ length out →
+        write_file s rates out
+        ≡ after_writing (Length (length (written_file s rates))) (written_file s rates ++ drop (length (written_file s rates)) out)
+    written_answer passed room = write_put s rates out passed ∙ put_done (written_file s rates) out room
 
-    pub refused-untouched : {r : Refusal} → (writeFile s rates out).answer ≡ Refused r → (writeFile s rates out).out ≡ out
-    unfolding writeFile
-    refused-untouched e =
-        let file = writtenFile s rates in
-        refused-kept out (checkRated s rates andThen checkRoom file out) (filledOut file out) (λ never. cc) e
+    pub refused_untouched : {r : Refusal} → (write_file s rates out).answer ≡ Refused r → (write_file s rates out).out ≡ out
+    unfolding write_file
+    refused_untouched e =
+        let file = written_file s rates in
+        refused_kept out (check_rated s rates and_then check_room file out) (filled_out file out) (λ never. cc) e
 
-    module _ (k : ℕ) (e : (writeFile s rates out).answer ≡ Length k) where
-      pub answered-passed : checkRated s rates ≡ Passed
-      unfolding writeFile
-      answered-passed =
-          let room = checkRoom (writtenFile s rates) out in
-          first-passed (checkRated s rates) room (length-passed out (checkRated s rates andThen room) (filledOut (writtenFile s rates) out) e)
+    module _ (k : ℕ) (e : (write_file s rates out).answer ≡ Length k) where
+      pub answered_passed : check_rated s rates ≡ Passed
+      unfolding write_file
+      answered_passed =
+          let room = check_room (written_file s rates) out in
+          first_passed (check_rated s rates) room (length_passed out (check_rated s rates and_then room) (filled_out (written_file s rates) out) e)
 
-      answered : Stands (writtenFile s rates) out k (writeFile s rates out).out
+      answered : Stands (written_file s rates) out k (write_file s rates out).out
       answered =
-          let is = write-put s rates out answered-passed in
-          rw is (put-stands (writtenFile s rates) out k (rw is at e))
+          let is = write_put s rates out answered_passed in
+          rw is (put_stands (written_file s rates) out k (rw is at e))
 
       -- The answer is the file's length.
-      pub answered-length : k ≡ length (writtenFile s rates)
-      answered-length = answered.long
+      pub answered_length : k ≡ length (written_file s rates)
+      answered_length = answered.long
 
-      pub file-first : take k (writeFile s rates out).out ≡ writtenFile s rates
-      file-first = answered.front
+      pub file_first : take k (write_file s rates out).out ≡ written_file s rates
+      file_first = answered.front
 
-      pub past-untouched : drop k (writeFile s rates out).out ≡ drop k out
-      past-untouched = answered.past
+      pub past_untouched : drop k (write_file s rates out).out ≡ drop k out
+      past_untouched = answered.past
 
       -- What was written is read as the shape and its rates.
-      pub answered-reads : (table : List ℤ) → pointsOf s ≤ length table →
-          readFile (take k (writeFile s rates out).out) table ≡ afterReading (Holds s) (rates ++ drop (length rates) table)
-      unfolding readFile
-      answered-reads table room = rw (file-first, checked-back answered-passed (length table) room)
+      pub answered_reads : (table : List ℤ) → points_of s ≤ length table →
+          read_file (take k (write_file s rates out).out) table ≡ after_reading (Holds s) (rates ++ drop (length rates) table)
+      unfolding read_file
+      answered_reads table room = rw (file_first, checked_back answered_passed (length table) room)

@@ -2,19 +2,19 @@
 -- Assumes nothing.
 use Rattle.std.specs.Prelude.{List, ℕ}
 use Rattle.house_numbers.specs.Reading.{Read, got, refused}
-use Rattle.house_file.specs.Files.{Contents, readContents}
-use Rattle.house_file.specs.Written.{writtenFile}
-use Rattle.house_writer.specs.Writing.{AfterWriting, keptOut, putFile}
+use Rattle.house_file.specs.Files.{Contents, read_contents}
+use Rattle.house_file.specs.Written.{written_file}
+use Rattle.house_writer.specs.Writing.{AfterWriting, kept_out, put_file}
 
 -- The one form of what a file holds.
-abbrev pub formOf : Contents → List ℕ
-formOf c = writtenFile c.shape c.rates
+abbrev pub form_of : Contents → List ℕ
+form_of c = written_file c.shape c.rates
 
 -- What was read, written again.
-abbrev pub writtenAgain : List ℕ → Read Contents → AfterWriting
-writtenAgain out (got c rest) = putFile (formOf c) out
-writtenAgain out (refused r) = keptOut out r
+abbrev pub written_again : List ℕ → Read Contents → AfterWriting
+written_again out (got c rest) = put_file (form_of c) out
+written_again out (refused r) = kept_out out r
 
 -- The reader's refusals come first, as for a table of that many places; then 3 (the output buffer).
-unfoldable pub rewriteFile : ℕ → List ℕ → List ℕ → AfterWriting
-rewriteFile places bytes out = writtenAgain out (readContents places bytes)
+unfoldable pub rewrite_file : ℕ → List ℕ → List ℕ → AfterWriting
+rewrite_file places bytes out = written_again out (read_contents places bytes)

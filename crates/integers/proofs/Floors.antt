@@ -11,32 +11,32 @@ use borrow.Author.Tests.{lt-ltb}
 use Rattle.integers.specs.Floor.{floor, remainder}
 use Rattle.integers.proofs.Products.{plus_times}
 
-pub shift-floor : (m : ℕ) (z : ℤ) → shr_z z m ≡ floor m z
+pub shift_floor : (m : ℕ) (z : ℤ) → shr_z z m ≡ floor m z
 unfolding floor
-shift-floor m (pos n) = refl
-shift-floor m (negsuc n) = refl
+shift_floor m (pos n) = refl
+shift_floor m (negsuc n) = refl
 
-pub remainder-lt : (m : ℕ) (z : ℤ) → 0 < m → remainder m z < m
+pub remainder_lt : (m : ℕ) (z : ℤ) → 0 < m → remainder m z < m
 unfolding remainder
-remainder-lt m (pos n) h = mod-lt n h
-remainder-lt m (negsuc n) h = omega arith
+remainder_lt m (pos n) h = mod-lt n h
+remainder_lt m (negsuc n) h = omega arith
 
 -- b above a number that lies a below zero, with b < a.
-pub still-below : (a b n : ℕ) → a ≡ suc (n + b) → neg_ℤ (pos a) +ℤ pos b ≡ negsuc n
-still-below a b n e = rw e (rw (lt-ltb b (suc (n + b)) (omega arith)) (ap negsuc (omega arith)))
+pub still_below : (a b n : ℕ) → a ≡ suc (n + b) → neg_ℤ (pos a) +ℤ pos b ≡ negsuc n
+still_below a b n e = rw e (rw (lt-ltb b (suc (n + b)) (omega arith)) (ap negsuc (omega arith)))
 
-pub floor-remainder : (m : ℕ) (z : ℤ) → 0 < m → floor m z *ℤ pos m +ℤ pos (remainder m z) ≡ z
+pub floor_remainder : (m : ℕ) (z : ℤ) → 0 < m → floor m z *ℤ pos m +ℤ pos (remainder m z) ≡ z
 unfolding floor remainder
-floor-remainder m (pos n) h = ap pos (div-add-mod' n m)
-floor-remainder m (negsuc n) h =
-    still-below (suc (n / m) * m) (m - 1 - n % m) n (omega (arith, suc-mul (n / m) m, div-add-mod' n m, mod-lt n h))
+floor_remainder m (pos n) h = ap pos (div-add-mod' n m)
+floor_remainder m (negsuc n) h =
+    still_below (suc (n / m) * m) (m - 1 - n % m) n (omega (arith, suc-mul (n / m) m, div-add-mod' n m, mod-lt n h))
 
-pub floor-unique : (m : ℕ) (a : ℤ) (r : ℕ) → r < m → floor m (a *ℤ pos m +ℤ pos r) ≡ a
+pub floor_unique : (m : ℕ) (a : ℤ) (r : ℕ) → r < m → floor m (a *ℤ pos m +ℤ pos r) ≡ a
 unfolding floor
-floor-unique m (pos k) r h = ap pos (omega (arith, mul-add-div_right {m = m} (omega arith) k r, div-eq_of_lt h))
-floor-unique m (negsuc k) r h =
+floor_unique m (pos k) r h = ap pos (omega (arith, mul-add-div_right {m = m} (omega arith) k r, div-eq_of_lt h))
+floor_unique m (negsuc k) r h =
     let s : ℕ = m - 1 - r in
-    ap (floor m) (still-below (suc k * m) r (k * m + s) (omega (arith, suc-mul k m)))
+    ap (floor m) (still_below (suc k * m) r (k * m + s) (omega (arith, suc-mul k m)))
     ∙ ap negsuc (omega (arith, mul-add-div_right {m = m} (omega arith) k s, div-eq_of_lt {n = s} {m = m} (omega arith)))
 
 -- What is above a multiple of the divisor, by its own quotient and remainder.

@@ -6,14 +6,14 @@ use Prim.Native.Nat.{suc, ◌+◌, ◌%◌}
 use native.Mathlib.Omega.{arith}
 use lib.IntN.{ℤ, pos, negsuc, ◌+ℤ◌}
 use borrow.Author.Tests.{eq-eqb}
-use Rattle.integers.specs.Half.{half, isEven}
+use Rattle.integers.specs.Half.{half, is_even}
 
-pub half-double : (z : ℤ) → half (z +ℤ z) ≡ z
+pub half_double : (z : ℤ) → half (z +ℤ z) ≡ z
 unfolding half
-half-double (pos n) = ap pos (omega arith)
-half-double (negsuc n) = ap negsuc (omega arith)
+half_double (pos n) = ap pos (omega arith)
+half_double (negsuc n) = ap negsuc (omega arith)
 
-pub even-double : (z : ℤ) → isEven (z +ℤ z) ≡ true
-unfolding isEven
-even-double (pos n) = eq-eqb ((n + n) % 2) 0 (omega arith)
-even-double (negsuc n) = eq-eqb (suc (suc (n + n)) % 2) 0 (omega arith)
+pub even_double : (z : ℤ) → is_even (z +ℤ z) ≡ true
+unfolding is_even
+even_double (pos n) = eq-eqb ((n + n) % 2) 0 (omega arith)
+even_double (negsuc n) = eq-eqb (suc (suc (n + n)) % 2) 0 (omega arith)

@@ -7,7 +7,7 @@ use Prim.Native.Nat.{ℕ, zero, suc, ◌+◌, ◌-◌, ◌≤◌}
 use native.Mathlib.Omega.{arith}
 use lib.IntN.{ℤ, pos, negsuc, neg_ℤ, nat_abs, sub_ℕ, ◌+ℤ◌, ◌-ℤ◌}
 use borrow.Author.Tests.{lt-ltb, le-ltb}
-use Rattle.naturals.proofs.Cases.{le-or-lt}
+use Rattle.naturals.proofs.Cases.{le_or_lt}
 
 -- What a number is above zero (true) and below zero (false).
 pub part : Bool → ℤ → ℕ
@@ -37,39 +37,39 @@ side false (⊖ a) = side true a
 
 -- ---- parts of a sum and of a negation
 
-diff-parts : (a b : ℕ) → part true (sub_ℕ a b) + b ≡ part false (sub_ℕ a b) + a
+diff_parts : (a b : ℕ) → part true (sub_ℕ a b) + b ≡ part false (sub_ℕ a b) + a
 unfolding part
-diff-parts a b =
-    le-or-lt b a
+diff_parts a b =
+    le_or_lt b a
     (λ le. rw (le-ltb a b le) (omega arith))
     (λ lt. rw (lt-ltb a b lt) (omega arith))
 
-sum-parts : (a b : ℤ) →
+sum_parts : (a b : ℤ) →
     part true (a +ℤ b) + (part false a + part false b) ≡ part false (a +ℤ b) + (part true a + part true b)
 unfolding part
-sum-parts (pos a) (pos b) = omega arith
-sum-parts (pos a) (negsuc b) = omega (arith, diff-parts a (suc b))
-sum-parts (negsuc a) (pos b) = omega (arith, diff-parts b (suc a))
-sum-parts (negsuc a) (negsuc b) = omega arith
+sum_parts (pos a) (pos b) = omega arith
+sum_parts (pos a) (negsuc b) = omega (arith, diff_parts a (suc b))
+sum_parts (negsuc a) (pos b) = omega (arith, diff_parts b (suc a))
+sum_parts (negsuc a) (negsuc b) = omega arith
 
-neg-above : (a : ℤ) → part true (neg_ℤ a) ≡ part false a
+neg_above : (a : ℤ) → part true (neg_ℤ a) ≡ part false a
 unfolding part
-neg-above (pos zero) = refl
-neg-above (pos (suc n)) = refl
-neg-above (negsuc n) = refl
+neg_above (pos zero) = refl
+neg_above (pos (suc n)) = refl
+neg_above (negsuc n) = refl
 
-neg-below : (a : ℤ) → part false (neg_ℤ a) ≡ part true a
+neg_below : (a : ℤ) → part false (neg_ℤ a) ≡ part true a
 unfolding part
-neg-below (pos zero) = refl
-neg-below (pos (suc n)) = refl
-neg-below (negsuc n) = refl
+neg_below (pos zero) = refl
+neg_below (pos (suc n)) = refl
+neg_below (negsuc n) = refl
 
 -- ---- the value of an expression, by its parts
 
 pub parts : (e : Expr) → part true (value e) + side false e ≡ part false (value e) + side true e
 parts (leaf z) = omega arith
-parts (a ⊕ b) = omega (arith, sum-parts (value a) (value b), parts a, parts b)
-parts (⊖ a) = omega (arith, neg-above (value a), neg-below (value a), parts a)
+parts (a ⊕ b) = omega (arith, sum_parts (value a) (value b), parts a, parts b)
+parts (⊖ a) = omega (arith, neg_above (value a), neg_below (value a), parts a)
 
 same_parts : (a b : ℤ) → part true a + part false b ≡ part true b + part false a → a ≡ b
 unfolding part
@@ -92,20 +92,20 @@ unfolding part
 size (pos n) = omega arith
 size (negsuc n) = omega arith
 
-size-between : (z : ℤ) (a b : ℕ) → part true z + b ≡ part false z + a → nat_abs z ≤ a + b
+size_between : (z : ℤ) (a b : ℕ) → part true z + b ≡ part false z + a → nat_abs z ≤ a + b
 unfolding part
-size-between (pos n) a b h = omega arith
-size-between (negsuc n) a b h = omega arith
+size_between (pos n) a b h = omega arith
+size_between (negsuc n) a b h = omega arith
 
 pub size_of : (e : Expr) → nat_abs (value e) ≤ side true e + side false e
-size_of e = size-between (value e) (side true e) (side false e) (parts e)
+size_of e = size_between (value e) (side true e) (side false e) (parts e)
 
-size-apart : (z : ℤ) (a b : ℕ) → part true z + b ≡ part false z + a → nat_abs z ≡ (a - b) + (b - a)
+size_apart : (z : ℤ) (a b : ℕ) → part true z + b ≡ part false z + a → nat_abs z ≡ (a - b) + (b - a)
 unfolding part
-size-apart (pos n) a b h = omega arith
-size-apart (negsuc n) a b h = omega arith
+size_apart (pos n) a b h = omega arith
+size_apart (negsuc n) a b h = omega arith
 
 -- How far apart two natural numbers are.
 pub difference : (a b : ℕ) → nat_abs (pos a -ℤ pos b) ≡ (a - b) + (b - a)
 unfolding part
-difference a b = size-apart (pos a -ℤ pos b) a b (omega (arith, parts (leaf (pos a) ⊕ ⊖ leaf (pos b))))
+difference a b = size_apart (pos a -ℤ pos b) a b (omega (arith, parts (leaf (pos a) ⊕ ⊖ leaf (pos b))))

@@ -9,75 +9,75 @@ use lib.Signed.{shr_z, le_z, lt_z}
 use mir.Syntax.{w64}
 use mir.Val.{SFits}
 use borrow.Author.Tests.{leb-true, lt-leb, le-leb, ltb-true, ltb-false}
-use Rattle.integers.specs.Half.{half, limit, inLimit, isRate}
+use Rattle.integers.specs.Half.{half, limit, in_limit, is_rate}
 use Rattle.integers.proofs.Linear.{leaf, ◌⊕◌, ⊖◌, size, size_of}
 
-pub limit-size : (z : ℤ) → inLimit z ≡ true → nat_abs z ≤ 2 ^ 47
-unfolding inLimit
-limit-size z e = leb-true (nat_abs z) limit e
+pub limit_size : (z : ℤ) → in_limit z ≡ true → nat_abs z ≤ 2 ^ 47
+unfolding in_limit
+limit_size z e = leb-true (nat_abs z) limit e
 
 -- Up to 2^50, a number is one of 64 bits.
-pub small-fits : (z : ℤ) → nat_abs z ≤ 2 ^ 50 → SFits w64 z
-small-fits (pos n) h = record { sfits = omega arith }
-small-fits (negsuc n) h = record { sfits = omega arith }
+pub small_fits : (z : ℤ) → nat_abs z ≤ 2 ^ 50 → SFits w64 z
+small_fits (pos n) h = record { sfits = omega arith }
+small_fits (negsuc n) h = record { sfits = omega arith }
 
-pub sum-size : (a b : ℤ) → nat_abs (a +ℤ b) ≤ nat_abs a + nat_abs b
-sum-size a b = omega (arith, size_of (leaf a ⊕ leaf b), size a, size b)
+pub sum_size : (a b : ℤ) → nat_abs (a +ℤ b) ≤ nat_abs a + nat_abs b
+sum_size a b = omega (arith, size_of (leaf a ⊕ leaf b), size a, size b)
 
-pub difference-size : (a b : ℤ) → nat_abs (a -ℤ b) ≤ nat_abs a + nat_abs b
-difference-size a b = omega (arith, size_of (leaf a ⊕ ⊖ leaf b), size a, size b)
+pub difference_size : (a b : ℤ) → nat_abs (a -ℤ b) ≤ nat_abs a + nat_abs b
+difference_size a b = omega (arith, size_of (leaf a ⊕ ⊖ leaf b), size a, size b)
 
-pub half-size : (z : ℤ) → nat_abs (half z) ≤ nat_abs z
+pub half_size : (z : ℤ) → nat_abs (half z) ≤ nat_abs z
 unfolding half
-half-size (pos n) = omega arith
-half-size (negsuc n) = omega arith
+half_size (pos n) = omega arith
+half_size (negsuc n) = omega arith
 
-pub shift-half : (z : ℤ) → shr_z z 2 ≡ half z
+pub shift_half : (z : ℤ) → shr_z z 2 ≡ half z
 unfolding half
-shift-half (pos n) = refl
-shift-half (negsuc n) = refl
+shift_half (pos n) = refl
+shift_half (negsuc n) = refl
 
 -- The two ends of the limit.
-pub below-limit : (z : ℤ) → lt_z z (negsuc 140737488355327) ≡ true → inLimit z ≡ false
-unfolding inLimit
-below-limit (pos n) e = absurd (false≢true e)
-below-limit (negsuc n) e = lt-leb (suc n) limit (omega (arith, ltb-true 140737488355327 n e))
+pub below_limit : (z : ℤ) → lt_z z (negsuc 140737488355327) ≡ true → in_limit z ≡ false
+unfolding in_limit
+below_limit (pos n) e = absurd (false≢true e)
+below_limit (negsuc n) e = lt-leb (suc n) limit (omega (arith, ltb-true 140737488355327 n e))
 
-pub above-limit : (z : ℤ) → lt_z z (negsuc 140737488355327) ≡ false → le_z z (pos 140737488355328) ≡ inLimit z
-unfolding inLimit
-above-limit (pos n) e = refl
-above-limit (negsuc n) e = sym (le-leb (suc n) limit (omega (arith, ltb-false 140737488355327 n e)))
+pub above_limit : (z : ℤ) → lt_z z (negsuc 140737488355327) ≡ false → le_z z (pos 140737488355328) ≡ in_limit z
+unfolding in_limit
+above_limit (pos n) e = refl
+above_limit (negsuc n) e = sym (le-leb (suc n) limit (omega (arith, ltb-false 140737488355327 n e)))
 
 -- The two ends of the rates.
-pub below-rates : (z : ℤ) → lt_z z (negsuc 2147483647) ≡ true → isRate z ≡ false
-unfolding isRate
-below-rates (pos n) e = absurd (false≢true e)
-below-rates (negsuc n) e = lt-leb (suc n) 2147483648 (omega (arith, ltb-true 2147483647 n e))
+pub below_rates : (z : ℤ) → lt_z z (negsuc 2147483647) ≡ true → is_rate z ≡ false
+unfolding is_rate
+below_rates (pos n) e = absurd (false≢true e)
+below_rates (negsuc n) e = lt-leb (suc n) 2147483648 (omega (arith, ltb-true 2147483647 n e))
 
-pub above-rates : (z : ℤ) → lt_z z (negsuc 2147483647) ≡ false → le_z z (pos 2147483647) ≡ isRate z
-unfolding isRate
-above-rates (pos n) e = refl
-above-rates (negsuc n) e = sym (le-leb (suc n) 2147483648 (omega (arith, ltb-false 2147483647 n e)))
+pub above_rates : (z : ℤ) → lt_z z (negsuc 2147483647) ≡ false → le_z z (pos 2147483647) ≡ is_rate z
+unfolding is_rate
+above_rates (pos n) e = refl
+above_rates (negsuc n) e = sym (le-leb (suc n) 2147483648 (omega (arith, ltb-false 2147483647 n e)))
 
 -- A rate is small.
-pub rate-size : (z : ℤ) → isRate z ≡ true → nat_abs z ≤ 2147483648
-unfolding isRate
-rate-size (pos n) e = omega (arith, leb-true n 2147483647 e)
-rate-size (negsuc n) e = leb-true (suc n) 2147483648 e
+pub rate_size : (z : ℤ) → is_rate z ≡ true → nat_abs z ≤ 2147483648
+unfolding is_rate
+rate_size (pos n) e = omega (arith, leb-true n 2147483647 e)
+rate_size (negsuc n) e = leb-true (suc n) 2147483648 e
 
 -- ---- what the functions on numbers ask and give
 
-module _ (a b : ℤ) (ha : inLimit a ≡ true) (hb : inLimit b ≡ true) where
-  pub sum-small : nat_abs (a +ℤ b) ≤ 2 ^ 48
-  sum-small = omega (arith, sum-size a b, limit-size a ha, limit-size b hb)
+module _ (a b : ℤ) (ha : in_limit a ≡ true) (hb : in_limit b ≡ true) where
+  pub sum_small : nat_abs (a +ℤ b) ≤ 2 ^ 48
+  sum_small = omega (arith, sum_size a b, limit_size a ha, limit_size b hb)
 
   pub sum_fits : SFits w64 (a +ℤ b)
-  sum_fits = small-fits (a +ℤ b) (omega (arith, sum-small))
+  sum_fits = small_fits (a +ℤ b) (omega (arith, sum_small))
 
-  pub half-fits : SFits w64 (half (a +ℤ b))
-  half-fits = small-fits (half (a +ℤ b)) (omega (arith, half-size (a +ℤ b), sum-small))
+  pub half_fits : SFits w64 (half (a +ℤ b))
+  half_fits = small_fits (half (a +ℤ b)) (omega (arith, half_size (a +ℤ b), sum_small))
 
-  pub less-fits : (v : ℤ) → inLimit v ≡ true → SFits w64 (v -ℤ half (a +ℤ b))
-  less-fits v hv =
-      small-fits (v -ℤ half (a +ℤ b))
-      (omega (arith, difference-size v (half (a +ℤ b)), half-size (a +ℤ b), sum-small, limit-size v hv))
+  pub less_fits : (v : ℤ) → in_limit v ≡ true → SFits w64 (v -ℤ half (a +ℤ b))
+  less_fits v hv =
+      small_fits (v -ℤ half (a +ℤ b))
+      (omega (arith, difference_size v (half (a +ℤ b)), half_size (a +ℤ b), sum_small, limit_size v hv))

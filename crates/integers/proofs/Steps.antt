@@ -10,70 +10,70 @@ use lib.Dec.{eqb}
 use lib.IntN.{ℤ, pos, negsuc, nat_abs, ◌+ℤ◌, ◌-ℤ◌, +ℤ_idr}
 use mir.Syntax.{w64}
 use mir.Val.{SFits, of_z}
-use Rattle.integers.specs.Half.{half, isEven, oddOf, stepped}
-use Rattle.integers.proofs.Sizes.{sum-size, difference-size}
+use Rattle.integers.specs.Half.{half, is_even, odd_of, stepped}
+use Rattle.integers.proofs.Sizes.{sum_size, difference_size}
 
 -- ---- sizes
 
-pub below-fits : (z : ℤ) → nat_abs z < 2 ^ 63 → SFits w64 z
-below-fits (pos n) h = record { sfits = omega arith }
-below-fits (negsuc n) h = record { sfits = omega arith }
+pub below_fits : (z : ℤ) → nat_abs z < 2 ^ 63 → SFits w64 z
+below_fits (pos n) h = record { sfits = omega arith }
+below_fits (negsuc n) h = record { sfits = omega arith }
 
-pub within-fits : (z : ℤ) → nat_abs z ≤ 2 ^ 62 → SFits w64 z
-within-fits z h = below-fits z (omega arith)
+pub within_fits : (z : ℤ) → nat_abs z ≤ 2 ^ 62 → SFits w64 z
+within_fits z h = below_fits z (omega arith)
 
-pub sum-within : (b : ℕ) (a c : ℤ) → nat_abs a ≤ b → nat_abs c ≤ b → nat_abs (a +ℤ c) ≤ 2 * b
-sum-within b a c ha hc = omega (arith, sum-size a c)
+pub sum_within : (b : ℕ) (a c : ℤ) → nat_abs a ≤ b → nat_abs c ≤ b → nat_abs (a +ℤ c) ≤ 2 * b
+sum_within b a c ha hc = omega (arith, sum_size a c)
 
-pub half-within : (b : ℕ) (s : ℤ) → nat_abs s ≤ 2 * b → nat_abs (half s) ≤ b
+pub half_within : (b : ℕ) (s : ℤ) → nat_abs s ≤ 2 * b → nat_abs (half s) ≤ b
 unfolding half
-half-within b (pos n) h = omega arith
-half-within b (negsuc n) h = omega arith
+half_within b (pos n) h = omega arith
+half_within b (negsuc n) h = omega arith
 
 -- ---- steps
 
-pub stepped-forward : (v s : ℤ) → stepped true v s ≡ v -ℤ half s
+pub stepped_forward : (v s : ℤ) → stepped true v s ≡ v -ℤ half s
 unfolding stepped
-stepped-forward v s = refl
+stepped_forward v s = refl
 
-pub stepped-back : (v s : ℤ) → stepped false v s ≡ v +ℤ half s
+pub stepped_back : (v s : ℤ) → stepped false v s ≡ v +ℤ half s
 unfolding stepped
-stepped-back v s = refl
+stepped_back v s = refl
 
-pub stepped-within : (ahead : Bool) (b c : ℕ) (v s : ℤ) → nat_abs v ≤ b → nat_abs s ≤ 2 * c → nat_abs (stepped ahead v s) ≤ b + c
+pub stepped_within : (ahead : Bool) (b c : ℕ) (v s : ℤ) → nat_abs v ≤ b → nat_abs s ≤ 2 * c → nat_abs (stepped ahead v s) ≤ b + c
 unfolding stepped
-stepped-within true b c v s hv hs = omega (arith, difference-size v (half s), half-within c s hs)
-stepped-within false b c v s hv hs = omega (arith, sum-size v (half s), half-within c s hs)
+stepped_within true b c v s hv hs = omega (arith, difference_size v (half s), half_within c s hs)
+stepped_within false b c v s hv hs = omega (arith, sum_size v (half s), half_within c s hs)
 
-pub stepped-fits : (ahead : Bool) (v s : ℤ) → nat_abs v ≤ 2 ^ 62 → nat_abs s ≤ 2 ^ 62 → SFits w64 (stepped ahead v s)
-stepped-fits ahead v s hv hs =
-    below-fits (stepped ahead v s) (omega (arith, stepped-within ahead (2 ^ 62) (2 ^ 61) v s hv (omega arith)))
+pub stepped_fits : (ahead : Bool) (v s : ℤ) → nat_abs v ≤ 2 ^ 62 → nat_abs s ≤ 2 ^ 62 → SFits w64 (stepped ahead v s)
+stepped_fits ahead v s hv hs =
+    below_fits (stepped ahead v s) (omega (arith, stepped_within ahead (2 ^ 62) (2 ^ 61) v s hv (omega arith)))
 
 -- A sum of zero moves nothing.
-pub stepped-zero : (ahead : Bool) (v : ℤ) → stepped ahead v (pos 0) ≡ v
+pub stepped_zero : (ahead : Bool) (v : ℤ) → stepped ahead v (pos 0) ≡ v
 unfolding stepped half
-stepped-zero true v = +ℤ_idr v
-stepped-zero false v = +ℤ_idr v
+stepped_zero true v = +ℤ_idr v
+stepped_zero false v = +ℤ_idr v
 
 -- ---- odd numbers
 
-pub odd_small : (z : ℤ) → oddOf z ≤ 1
-unfolding oddOf
+pub odd_small : (z : ℤ) → odd_of z ≤ 1
+unfolding odd_of
 odd_small z = omega arith
 
-pub even-odd : (z : ℤ) → isEven z ≡ eqb (oddOf z) 0
-unfolding isEven oddOf
-even-odd z = refl
+pub even_odd : (z : ℤ) → is_even z ≡ eqb (odd_of z) 0
+unfolding is_even odd_of
+even_odd z = refl
 
-pub odd-zero : oddOf (pos 0) ≡ 0
-unfolding oddOf
-odd-zero = refl
+pub odd_zero : odd_of (pos 0) ≡ 0
+unfolding odd_of
+odd_zero = refl
 
 -- The lowest bit of the 64 that stand for a number, also below zero.
-pub lowest-odd : (z : ℤ) → SFits w64 z → bit_and (of_z w64 z) 1 ≡ oddOf z
-unfolding oddOf
-lowest-odd (pos n) f = and_mask n 1
-lowest-odd (negsuc n) f =
+pub lowest_odd : (z : ℤ) → SFits w64 z → bit_and (of_z w64 z) 1 ≡ odd_of z
+unfolding odd_of
+lowest_odd (pos n) f = and_mask n 1
+lowest_odd (negsuc n) f =
     let h : n < 2 ^ 63 = f.sfits in
     let e : (2 ^ 64 - suc n) % 2 ≡ suc n % 2 = omega arith in
     and_mask (2 ^ 64 - suc n) 1 ∙ e

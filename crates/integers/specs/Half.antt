@@ -7,12 +7,12 @@ unfoldable pub half : ℤ → ℤ
 half (pos n) = pos (n / 2)
 half (negsuc n) = negsuc (n / 2)
 
-unfoldable pub isEven : ℤ → Bool
-isEven z = eqb (nat_abs z % 2) 0
+unfoldable pub is_even : ℤ → Bool
+is_even z = eqb (nat_abs z % 2) 0
 
 -- 1 where a whole number is odd, else 0.
-unfoldable pub oddOf : ℤ → ℕ
-oddOf z = nat_abs z % 2
+unfoldable pub odd_of : ℤ → ℕ
+odd_of z = nat_abs z % 2
 
 -- A value after a step of a turn: forward less half of its parents' sum s, back plus it.
 unfoldable pub stepped : Bool → ℤ → ℤ → ℤ
@@ -22,14 +22,14 @@ stepped forward v s = if forward then v -ℤ half s else v +ℤ half s
 abbrev pub limit : ℕ
 limit = 2 ^ 47
 
-unfoldable pub inLimit : ℤ → Bool
-inLimit z = leb (nat_abs z) limit
+unfoldable pub in_limit : ℤ → Bool
+in_limit z = leb (nat_abs z) limit
 
 -- The value of a table at place p, which is point p, is within the content limit.
-unfoldable pub contentAt : List ℤ → ℕ → Bool
-contentAt xs p = inLimit (get_or xs p (pos 0))
+unfoldable pub content_at : List ℤ → ℕ → Bool
+content_at xs p = in_limit (get_or xs p (pos 0))
 
 -- A rate: a whole number from −2,147,483,648 to 2,147,483,647.
-unfoldable pub isRate : ℤ → Bool
-isRate (pos n) = leb n 2147483647
-isRate (negsuc n) = leb (suc n) 2147483648
+unfoldable pub is_rate : ℤ → Bool
+is_rate (pos n) = leb n 2147483647
+is_rate (negsuc n) = leb (suc n) 2147483648

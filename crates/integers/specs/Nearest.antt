@@ -3,13 +3,13 @@
 use Rattle.std.specs.Prelude.{◌≡◌, ℕ, suc, ◌*◌, ◌/◌, ◌%◌, ◌≤◌, leb, ltb, ℤ, pos, negsuc, neg_ℤ, nat_abs, ◌-ℤ◌, ◌*ℤ◌, if◌then◌else◌}
 
 -- A natural number divided by m, rounded to the nearest; a half goes up.
-unfoldable pub nearestUp : ℕ → ℕ → ℕ
-nearestUp m n = if leb m (2 * (n % m)) then suc (n / m) else n / m
+unfoldable pub nearest_up : ℕ → ℕ → ℕ
+nearest_up m n = if leb m (2 * (n % m)) then suc (n / m) else n / m
 
 -- A whole number divided by m, rounded to the nearest, halves away from zero: below zero it is what it is above, with a minus.
 unfoldable pub nearest : ℕ → ℤ → ℤ
-nearest m (pos n) = pos (nearestUp m n)
-nearest m (negsuc n) = neg_ℤ (pos (nearestUp m (suc n)))
+nearest m (pos n) = pos (nearest_up m n)
+nearest m (negsuc n) = neg_ℤ (pos (nearest_up m (suc n)))
 
 -- How far z is from q × m.
 abbrev pub apart : ℕ → ℤ → ℤ → ℕ
@@ -23,6 +23,6 @@ pub record Nearest (m : ℕ) (z q : ℤ) : Type 0 where
 
 -- The same by the quotient q rounded down and what the division by m leaves, r: what is added to q. One where 2r is more than m; where 2r is m, one if
 -- q is not below zero; else nothing.
-unfoldable pub stepUp : ℕ → ℤ → ℕ → ℕ
-stepUp m (pos q) r = if leb m (2 * r) then 1 else 0
-stepUp m (negsuc q) r = if ltb m (2 * r) then 1 else 0
+unfoldable pub step_up : ℕ → ℤ → ℕ → ℕ
+step_up m (pos q) r = if leb m (2 * r) then 1 else 0
+step_up m (negsuc q) r = if ltb m (2 * r) then 1 else 0

@@ -4,46 +4,46 @@ use mathlib.Core.Path.{◌≡◌, refl, ap, ap₂, sym, ◌∙◌}
 use Prim.Native.Nat.{ℕ, zero, suc, ◌*◌, ◌<◌}
 use native.Mathlib.Nat.{mul_assoc, mul-one, zero-mul, mul_comm}
 use native.Mathlib.Omega.{arith}
-use Rattle.naturals.specs.Sum.{prodTo}
-use Rattle.naturals.proofs.Cases.{eq-or-not}
+use Rattle.naturals.specs.Sum.{prod_to}
+use Rattle.naturals.proofs.Cases.{eq_or_not}
 use Rattle.hierarchy.specs.Work.{put}
 use Rattle.hierarchy.proofs.Work.{put_same, put_other}
 
-pub prodTo-zero : (f : ℕ → ℕ) → prodTo f 0 ≡ 1
-unfolding prodTo
-prodTo-zero f = refl
+pub prod_to_zero : (f : ℕ → ℕ) → prod_to f 0 ≡ 1
+unfolding prod_to
+prod_to_zero f = refl
 
-pub prodTo-suc : (f : ℕ → ℕ) (d : ℕ) → prodTo f (suc d) ≡ prodTo f d * f d
-unfolding prodTo
-prodTo-suc f d = refl
+pub prod_to_suc : (f : ℕ → ℕ) (d : ℕ) → prod_to f (suc d) ≡ prod_to f d * f d
+unfolding prod_to
+prod_to_suc f d = refl
 
 -- Products of the same factors are equal.
-pub prodTo-cong : (f g : ℕ → ℕ) (d : ℕ) → ((t : ℕ) → t < d → f t ≡ g t) → prodTo f d ≡ prodTo g d
-prodTo-cong f g zero same = prodTo-zero f ∙ sym (prodTo-zero g)
-prodTo-cong f g (suc d) same =
-    prodTo-suc f d
-    ∙ ap₂ ◌*◌ (prodTo-cong f g d (λ t h. same t (omega arith))) (same d (omega arith))
-    ∙ sym (prodTo-suc g d)
+pub prod_to_cong : (f g : ℕ → ℕ) (d : ℕ) → ((t : ℕ) → t < d → f t ≡ g t) → prod_to f d ≡ prod_to g d
+prod_to_cong f g zero same = prod_to_zero f ∙ sym (prod_to_zero g)
+prod_to_cong f g (suc d) same =
+    prod_to_suc f d
+    ∙ ap₂ ◌*◌ (prod_to_cong f g d (λ t h. same t (omega arith))) (same d (omega arith))
+    ∙ sym (prod_to_suc g d)
 
 -- One factor split off.
-pub prodTo-split : (f : ℕ → ℕ) (d t : ℕ) → t < d → prodTo f d ≡ f t * prodTo (put f t 1) d
-prodTo-split f zero t h = absurd (omega arith)
-prodTo-split f (suc d) t h =
-    eq-or-not t d
+pub prod_to_split : (f : ℕ → ℕ) (d t : ℕ) → t < d → prod_to f d ≡ f t * prod_to (put f t 1) d
+prod_to_split f zero t h = absurd (omega arith)
+prod_to_split f (suc d) t h =
+    eq_or_not t d
     (λ e.
-    prodTo-suc f d
-    ∙ ap₂ ◌*◌ (prodTo-cong f (put f t 1) d (λ s lt. sym (put_other f t 1 s (λ i. omega arith)))) (ap f (sym e))
-    ∙ mul_comm (prodTo (put f t 1) d) (f t)
+    prod_to_suc f d
+    ∙ ap₂ ◌*◌ (prod_to_cong f (put f t 1) d (λ s lt. sym (put_other f t 1 s (λ i. omega arith)))) (ap f (sym e))
+    ∙ mul_comm (prod_to (put f t 1) d) (f t)
     ∙ ap (λ (x : ℕ). f t * x)
-    (sym (prodTo-suc (put f t 1) d
-    ∙ ap (λ (x : ℕ). prodTo (put f t 1) d * x) (ap (put f t 1) (sym e) ∙ put_same f t 1)
-    ∙ mul-one (prodTo (put f t 1) d))))
+    (sym (prod_to_suc (put f t 1) d
+    ∙ ap (λ (x : ℕ). prod_to (put f t 1) d * x) (ap (put f t 1) (sym e) ∙ put_same f t 1)
+    ∙ mul-one (prod_to (put f t 1) d))))
     (λ e.
-    prodTo-suc f d
-    ∙ ap₂ ◌*◌ (prodTo-split f d t (omega arith)) (sym (put_other f t 1 d (λ i. e (sym i))))
-    ∙ mul_assoc (f t) (prodTo (put f t 1) d) (put f t 1 d)
-    ∙ ap (λ (x : ℕ). f t * x) (sym (prodTo-suc (put f t 1) d)))
+    prod_to_suc f d
+    ∙ ap₂ ◌*◌ (prod_to_split f d t (omega arith)) (sym (put_other f t 1 d (λ i. e (sym i))))
+    ∙ mul_assoc (f t) (prod_to (put f t 1) d) (put f t 1 d)
+    ∙ ap (λ (x : ℕ). f t * x) (sym (prod_to_suc (put f t 1) d)))
 
 -- A product with a factor 0 is 0.
-pub prodTo-none : (f : ℕ → ℕ) (d t : ℕ) → t < d → f t ≡ 0 → prodTo f d ≡ 0
-prodTo-none f d t h e = prodTo-split f d t h ∙ ap (λ (x : ℕ). x * prodTo (put f t 1) d) e ∙ zero-mul (prodTo (put f t 1) d)
+pub prod_to_none : (f : ℕ → ℕ) (d t : ℕ) → t < d → f t ≡ 0 → prod_to f d ≡ 0
+prod_to_none f d t h e = prod_to_split f d t h ∙ ap (λ (x : ℕ). x * prod_to (put f t 1) d) e ∙ zero-mul (prod_to (put f t 1) d)

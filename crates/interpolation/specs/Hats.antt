@@ -24,9 +24,9 @@ pub record Hats (m d u : ℕ) (nb : Neighbours) (w : Weights) (same : Agreement)
   pub none : (t p : ℕ) → w t p 0 ≡ 0
   pub still : (t s : ℕ) (b : Side) (p q : ℕ) → t < d → s < d → (t ≡ s → ⊥) → p < m → q < m → (nb s b (suc q) ≡ 0 → ⊥) →
       w t p (nb s b (suc q)) ≡ w t p (suc q)
-  pub still-same : (t s : ℕ) (b : Side) (p q : ℕ) → t < d → s < d → (t ≡ s → ⊥) → p < m → q < m → (nb s b (suc q) ≡ 0 → ⊥) →
+  pub still_same : (t s : ℕ) (b : Side) (p q : ℕ) → t < d → s < d → (t ≡ s → ⊥) → p < m → q < m → (nb s b (suc q) ≡ 0 → ⊥) →
       same t p (nb s b (suc q)) ≡ same t p (suc q)
   pub hat : (t p q : ℕ) → t < d → p < m → q < m →
       w t p (suc q) + w t p (suc q) ≡ w t p (nb t Left (suc q)) + w t p (nb t Right (suc q)) + indicator (same t p (suc q)) * (u + u)
   pub itself : (t p : ℕ) → t < d → p < m → same t p (suc p) ≡ true
-  pub one-point : (p q : ℕ) → p < m → q < m → ((t : ℕ) → t < d → same t p (suc q) ≡ true) → p ≡ q
+  pub one_point : (p q : ℕ) → p < m → q < m → ((t : ℕ) → t < d → same t p (suc q) ≡ true) → p ≡ q

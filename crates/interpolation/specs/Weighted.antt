@@ -8,5 +8,5 @@ unfoldable pub weighted : (ℕ → ℤ) → (ℕ → ℕ) → ℕ → ℤ
 weighted c w p = c (suc p) *ℤ pos (w p)
 
 -- The sum over the first m points.
-unfoldable pub weightedSum : ℕ → (ℕ → ℤ) → (ℕ → ℕ) → ℤ
-weightedSum m c w = total (weighted c w) m
+unfoldable pub weighted_sum : ℕ → (ℕ → ℤ) → (ℕ → ℕ) → ℤ
+weighted_sum m c w = total (weighted c w) m

@@ -4,9 +4,9 @@
 
 ghost use Rattle.std.specs.Prelude.{◌≡◌, ◌+◌, ◌^◌, ◌≤◌, ◌<◌, ◌+ℤ◌, List, ℤ, nat_abs, length};
 ghost use Rattle.numbering.specs.Point.{at};
-ghost use Rattle.neighbours.specs.Steps.{sparseOf, Seen, Below};
-ghost use Rattle.lists.specs.Lists.{oddSums, listWorked, cameTo, ListTurned};
-ghost use Rattle.lists.specs.Steps.{OnAxis, Within, valueIn, RoomIn, RunStepped, Stepped, Workable, BlockAt};
+ghost use Rattle.neighbours.specs.Steps.{sparse_of, Seen, Below};
+ghost use Rattle.lists.specs.Lists.{odd_sums, list_worked, came_to, ListTurned};
+ghost use Rattle.lists.specs.Steps.{OnAxis, Within, value_in, RoomIn, RunStepped, Stepped, Workable, BlockAt};
 
 use neighbours::Subspace;
 
@@ -15,7 +15,7 @@ use neighbours::Subspace;
 // A run from number x on whose points have the border on one side; their other parents are the points from number a on.
 fn run_by_border(forward: bool, table: &mut [i64], x: usize, a: usize, width: usize) -> u64
     requires { (a + width ≤ x) × (x + width ≤ length table.old) × (length table.old < 2 ^ 32) × RoomIn x width table.old × RoomIn a width table.old }
-    ensures { RunStepped forward x width (valueIn table.old a) table.old result table.new }
+    ensures { RunStepped forward x width (value_in table.old a) table.old result table.new }
 {
     let mut odd: u64 = 0;
     let mut i: usize = 0;
@@ -31,7 +31,7 @@ fn run_by_border(forward: bool, table: &mut [i64], x: usize, a: usize, width: us
 // A run whose points have parents on both sides: the points from number a on, and those from number b on.
 fn run_between(forward: bool, table: &mut [i64], x: usize, a: usize, b: usize, width: usize) -> u64
     requires { (a + width ≤ x) × (b + width ≤ x) × (x + width ≤ length table.old) × (length table.old < 2 ^ 32) × RoomIn x width table.old × RoomIn a width table.old × RoomIn b width table.old }
-    ensures { RunStepped forward x width (λ i. valueIn table.old a i +ℤ valueIn table.old b i) table.old result table.new }
+    ensures { RunStepped forward x width (λ i. value_in table.old a i +ℤ value_in table.old b i) table.old result table.new }
 {
     let mut odd: u64 = 0;
     let mut i: usize = 0;
@@ -66,7 +66,7 @@ fn block(
     beyond: u64,
 ) -> u64
     requires { Workable v starts.now first table.old × BlockAt v first beyond }
-    ensures { Stepped forward (sparseOf v.line) v.line.place first (first + 2 ^ (v.low + v.own)) table.old result table.new }
+    ensures { Stepped forward (sparse_of v.line) v.line.place first (first + 2 ^ (v.low + v.own)) table.old result table.new }
 {
     let width: usize = 1 << v.low;
     let pairs: u32 = 1 << (v.own - 1);
@@ -97,7 +97,7 @@ fn line(
     beyond: u64,
 ) -> u64
     requires { Workable v starts.now first table.old × BlockAt v first beyond × (v.low ≡ 0) }
-    ensures { Stepped forward (sparseOf v.line) v.line.place first (first + 2 ^ (v.low + v.own)) table.old result table.new }
+    ensures { Stepped forward (sparse_of v.line) v.line.place first (first + 2 ^ (v.low + v.own)) table.old result table.new }
 {
     let pairs: u32 = 1 << (v.own - 1);
     let mut x = first as usize;
@@ -123,8 +123,8 @@ fn line(
 
 // Block after block, of a level list that moves on the axis.
 fn all_blocks(forward: bool, v: Subspace, starts: &[u64; 9], table: &mut [i64]) -> u64
-    requires { Seen v × Below v starts.now × (1 ≤ v.own) × OnAxis (sparseOf v.line) v.line.place table.old × Within (2 ^ 60) table.old }
-    ensures { Stepped forward (sparseOf v.line) v.line.place v.start v.end table.old result table.new }
+    requires { Seen v × Below v starts.now × (1 ≤ v.own) × OnAxis (sparse_of v.line) v.line.place table.old × Within (2 ^ 60) table.old }
+    ensures { Stepped forward (sparse_of v.line) v.line.place v.start v.end table.old result table.new }
 {
     let size: u64 = 1 << (v.low + v.own);
     let mut odd: u64 = 0;
@@ -149,10 +149,10 @@ fn all_blocks(forward: bool, v: Subspace, starts: &[u64; 9], table: &mut [i64]) 
 // A step at each point of a level list, forward or back; answers how many of the sums are odd. Where the list has level 0 on the axis nothing moves. In a turn
 // that has come so far, the list's points then hold what the whole turn leaves them, and no other place changes.
 pub fn work(forward: bool, v: Subspace, starts: &[u64; 9], table: &mut [i64]) -> u64
-    requires { Seen v × Below v starts.now × OnAxis (sparseOf v.line) v.line.place table.old × Within (2 ^ 60) table.old }
-    ensures worked { table.new ≡ listWorked forward (sparseOf v.line) v.line.place (at v.levels) table.old }
-    ensures odds { oddSums (sparseOf v.line) v.line.place table.old v.start + result ≡ oddSums (sparseOf v.line) v.line.place table.old v.end }
-    ensures turned { (xs : List ℤ) → length xs ≡ length table.old → table.old ≡ cameTo forward (sparseOf v.line) v.line.place (at v.levels) xs → ListTurned forward (sparseOf v.line) v.line.place (at v.levels) xs table.old table.new }
+    requires { Seen v × Below v starts.now × OnAxis (sparse_of v.line) v.line.place table.old × Within (2 ^ 60) table.old }
+    ensures worked { table.new ≡ list_worked forward (sparse_of v.line) v.line.place (at v.levels) table.old }
+    ensures odds { odd_sums (sparse_of v.line) v.line.place table.old v.start + result ≡ odd_sums (sparse_of v.line) v.line.place table.old v.end }
+    ensures turned { (xs : List ℤ) → length xs ≡ length table.old → table.old ≡ came_to forward (sparse_of v.line) v.line.place (at v.levels) xs → ListTurned forward (sparse_of v.line) v.line.place (at v.levels) xs table.old table.new }
 {
     if v.own == 0 {
         return 0;

@@ -7,20 +7,20 @@ use native.Mathlib.Decide.{dec_le, ℕ_discrete}
 use native.Mathlib.Omega.{arith}
 
 module _ {A : Type 0} where
-  pub le-or-lt : (a b : ℕ) → (a ≤ b → A) → (b < a → A) → A
-  le-or-lt a b low high = go (dec_le a b)
+  pub le_or_lt : (a b : ℕ) → (a ≤ b → A) → (b < a → A) → A
+  le_or_lt a b low high = go (dec_le a b)
     where
       go : Dec (a ≤ b) → A
       go (yes h) = low h
       go (no h) = high (omega arith)
 
-  pub eq-or-not : (a b : ℕ) → (a ≡ b → A) → ((a ≡ b → ⊥) → A) → A
-  eq-or-not a b same other = go (ℕ_discrete a b)
+  pub eq_or_not : (a b : ℕ) → (a ≡ b → A) → ((a ≡ b → ⊥) → A) → A
+  eq_or_not a b same other = go (ℕ_discrete a b)
     where
       go : Dec (a ≡ b) → A
       go (yes e) = same e
       go (no e) = other e
 
-  pub true-or-false : (t : Bool) → (t ≡ true → A) → (t ≡ false → A) → A
-  true-or-false true pass fail = pass refl
-  true-or-false false pass fail = fail refl
+  pub true_or_false : (t : Bool) → (t ≡ true → A) → (t ≡ false → A) → A
+  true_or_false true pass fail = pass refl
+  true_or_false false pass fail = fail refl

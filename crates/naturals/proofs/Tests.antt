@@ -7,7 +7,7 @@ use Prim.Native.Nat.{ℕ, zero, suc, ◌<◌}
 use native.Mathlib.Nat.{eq-or-lt_of_le, le_of_suc-le-suc, not-suc-le-zero}
 use native.Mathlib.Omega.{arith}
 use Rattle.naturals.specs.Test.{all}
-use Rattle.naturals.proofs.Cases.{true-or-false}
+use Rattle.naturals.proofs.Cases.{true_or_false}
 
 pub and_left : (a b : Bool) → a && b ≡ true → a ≡ true
 and_left true b e = refl
@@ -17,29 +17,29 @@ pub and_right : (a b : Bool) → a && b ≡ true → b ≡ true
 and_right true b e = e
 and_right false b e = cc
 
-pub all-zero : (f : ℕ → Bool) → all f 0 ≡ true
+pub all_zero : (f : ℕ → Bool) → all f 0 ≡ true
 unfolding all
-all-zero f = refl
+all_zero f = refl
 
-pub all-suc : (f : ℕ → Bool) (m : ℕ) → all f (suc m) ≡ all f m && f m
+pub all_suc : (f : ℕ → Bool) (m : ℕ) → all f (suc m) ≡ all f m && f m
 unfolding all
-all-suc f m = refl
+all_suc f m = refl
 
 -- Where the whole test passes, it passes at each place.
-pub all-at : (f : ℕ → Bool) (m : ℕ) → all f m ≡ true → (k : ℕ) → k < m → f k ≡ true
-all-at f zero e k h = absurd (not-suc-le-zero h)
-all-at f (suc m) e k h =
-    let both : all f m && f m ≡ true = sym (all-suc f m) ∙ e in
+pub all_at : (f : ℕ → Bool) (m : ℕ) → all f m ≡ true → (k : ℕ) → k < m → f k ≡ true
+all_at f zero e k h = absurd (not-suc-le-zero h)
+all_at f (suc m) e k h =
+    let both : all f m && f m ≡ true = sym (all_suc f m) ∙ e in
     ⊎_elim
     (λ last. ap f last ∙ and_right (all f m) (f m) both)
-    (λ below. all-at f m (and_left (all f m) (f m) both) k below)
+    (λ below. all_at f m (and_left (all f m) (f m) both) k below)
     (eq-or-lt_of_le (le_of_suc-le-suc h))
 
 -- Where it passes at each place, the whole test passes.
 pub all_from : (f : ℕ → Bool) (m : ℕ) → ((k : ℕ) → k < m → f k ≡ true) → all f m ≡ true
-all_from f zero each = all-zero f
-all_from f (suc m) each = rw (all-suc, all_from f m (λ k h. each k (omega arith)), each m (omega arith))
+all_from f zero each = all_zero f
+all_from f (suc m) each = rw (all_suc, all_from f m (λ k h. each k (omega arith)), each m (omega arith))
 
 -- One place that fails decides.
-pub all-fails : (f : ℕ → Bool) (m k : ℕ) → k < m → f k ≡ false → all f m ≡ false
-all-fails f m k h e = true-or-false (all f m) (λ pass. absurd (false≢true (sym e ∙ all-at f m pass k h))) (λ fail. fail)
+pub all_fails : (f : ℕ → Bool) (m k : ℕ) → k < m → f k ≡ false → all f m ≡ false
+all_fails f m k h e = true_or_false (all f m) (λ pass. absurd (false≢true (sym e ∙ all_at f m pass k h))) (λ fail. fail)

@@ -11,6 +11,6 @@ abbrev pub further : ℕ → ℕ → Bool → ℕ
 further k m pass = if ltb k m then k else if pass then suc m else m
 
 -- The smallest k below m at which a test fails, and m where it passes everywhere.
-unfoldable pub firstFailing : (ℕ → Bool) → ℕ → ℕ
-firstFailing f zero = zero
-firstFailing f (suc m) = further (firstFailing f m) m (f m)
+unfoldable pub first_failing : (ℕ → Bool) → ℕ → ℕ
+first_failing f zero = zero
+first_failing f (suc m) = further (first_failing f m) m (f m)

@@ -3,11 +3,11 @@
 use Rattle.std.specs.Prelude.{ℕ, zero, suc, ◌+◌, ◌*◌}
 
 -- f 0 + f 1 + … + f (m − 1)
-unfoldable pub sumTo : (ℕ → ℕ) → ℕ → ℕ
-sumTo f zero = zero
-sumTo f (suc m) = sumTo f m + f m
+unfoldable pub sum_to : (ℕ → ℕ) → ℕ → ℕ
+sum_to f zero = zero
+sum_to f (suc m) = sum_to f m + f m
 
 -- f 0 × f 1 × … × f (m − 1)
-unfoldable pub prodTo : (ℕ → ℕ) → ℕ → ℕ
-prodTo f zero = 1
-prodTo f (suc m) = prodTo f m * f m
+unfoldable pub prod_to : (ℕ → ℕ) → ℕ → ℕ
+prod_to f zero = 1
+prod_to f (suc m) = prod_to f m * f m

@@ -10,57 +10,57 @@ use Prim.Native.Nat.{ℕ, suc, ◌+◌, ◌-◌, ◌*◌, ◌/◌, ◌%◌, ◌^
 use native.Mathlib.Nat.{div-div-eq-div-mul}
 use native.Mathlib.Omega.{arith}
 use lib.Pow.{pow_pos, pow-add}
-use Rattle.naturals.specs.Sum.{sumTo}
-use Rattle.naturals.proofs.Cases.{true-or-false}
-use Rattle.naturals.proofs.Sums.{sumTo-suc, sumTo-mono}
+use Rattle.naturals.specs.Sum.{sum_to}
+use Rattle.naturals.proofs.Cases.{true_or_false}
+use Rattle.naturals.proofs.Sums.{sum_to_suc, sum_to_mono}
 use Rattle.numbering.specs.declared.Side.{Side}
 use Rattle.numbering.specs.declared.Side.TheVariants.{Left, Right}
 use Rattle.numbering.specs.Point.{at}
-use Rattle.numbering.specs.Number.{position, firstOf, number}
-use Rattle.numbering.specs.Inverse.{levelAt, indexOf, indexAt}
-use Rattle.numbering.specs.Parent.{numerator, isBorder, twos, parentLevel, parentIndex, update}
-use Rattle.numbering.proofs.Position.{position-low}
-use Rattle.numbering.proofs.Numbering.{points-is, start-mono, number-in-shell}
+use Rattle.numbering.specs.Number.{position, first_of, number}
+use Rattle.numbering.specs.Inverse.{level_at, index_of, index_at}
+use Rattle.numbering.specs.Parent.{numerator, is_border, twos, parent_level, parent_index, update}
+use Rattle.numbering.proofs.Position.{position_low}
+use Rattle.numbering.proofs.Numbering.{points_is, start_mono, number_in_shell}
 use Rattle.numbering.proofs.Named.{Named}
-use Rattle.numbering.proofs.Subspaces.{first-is, number-from-first, indicesTo, indices-in, block-point, block-position, block-below, block-levels, block-indices}
-use Rattle.numbering.proofs.Parents.{border-means, Inside, inside, twos-pos, twos-le, update_other, update-sum, level-zero-border, parent-is-point, parent-sum}
-use Rattle.numbering.proofs.ParentPlaces.{moved-position}
-use Rattle.shapes.specs.Shapes.{pointsOf}
+use Rattle.numbering.proofs.Subspaces.{first_is, number_from_first, indices_to, indices_in, block_point, block_position, block_below, block_levels, block_indices}
+use Rattle.numbering.proofs.Parents.{border_means, Inside, inside, twos_pos, twos_le, update_other, update_sum, level_zero_border, parent_is_point, parent_sum}
+use Rattle.numbering.proofs.ParentPlaces.{moved_position}
+use Rattle.shapes.specs.Shapes.{points_of}
 use Rattle.shapes.proofs.Totals.{start_small}
-use Rattle.grids.specs.Grids.{levelOn, indexOn, neighbour}
-use Rattle.grids.proofs.Sparse.{points-sparse, number-sparse, levels-sparse, indices-sparse}
-use Rattle.grids.proofs.Beside.{numeratorOn, to-border, to-parent}
+use Rattle.grids.specs.Grids.{level_on, index_on, neighbour}
+use Rattle.grids.proofs.Sparse.{points_sparse, number_sparse, levels_sparse, indices_sparse}
+use Rattle.grids.proofs.Beside.{numerator_on, to_border, to_parent}
 use Rattle.neighbours.specs.declared.Subspace.{Subspace}
-use Rattle.neighbours.specs.Steps.{sparseOf, Seen, Below, codeFrom}
+use Rattle.neighbours.specs.Steps.{sparse_of, Seen, Below, code_from}
 
 -- The two cases of a code.
-pub code-at-border : (v : Subspace) (starts : List ℕ) (before beyond m : ℕ) → isBorder v.own m ≡ true → codeFrom v starts before beyond m ≡ 0
-unfolding codeFrom
-code-at-border v starts before beyond m e = rw e
+pub code_at_border : (v : Subspace) (starts : List ℕ) (before beyond m : ℕ) → is_border v.own m ≡ true → code_from v starts before beyond m ≡ 0
+unfolding code_from
+code_at_border v starts before beyond m e = rw e
 
-pub code_inside : (v : Subspace) (starts : List ℕ) (before beyond m : ℕ) → isBorder v.own m ≡ false →
-    codeFrom v starts before beyond m
-    ≡ suc (at starts (twos m) + before + (parentIndex m - 1) / 2 * 2 ^ v.low + beyond * 2 ^ (v.low + parentLevel v.own m))
-unfolding codeFrom
+pub code_inside : (v : Subspace) (starts : List ℕ) (before beyond m : ℕ) → is_border v.own m ≡ false →
+    code_from v starts before beyond m
+    ≡ suc (at starts (twos m) + before + (parent_index m - 1) / 2 * 2 ^ v.low + beyond * 2 ^ (v.low + parent_level v.own m))
+unfolding code_from
 code_inside v starts before beyond m e = rw e
 
 -- Between the first numerator and the last there is no border.
-pub inner : (own m : ℕ) → 0 < m → m < 2 ^ suc own → isBorder own m ≡ false
+pub inner : (own m : ℕ) → 0 < m → m < 2 ^ suc own → is_border own m ≡ false
 inner own m pos below =
-    true-or-false (isBorder own m)
-    (λ there. absurd (off (border-means own m there)))
-    (λ off-border. off-border)
+    true_or_false (is_border own m)
+    (λ there. absurd (off (border_means own m there)))
+    (λ off_border. off_border)
   where
     off : (m ≡ 0) ⊎ (m ≡ 2 ^ suc own) → ⊥
     off (inl first) = omega (arith, pos, first)
     off (inr last) = omega (arith, below, last)
 
 -- The digit of the axis in a position, and the number that the axes beyond it add.
-abbrev pub ownDigit : Subspace → ℕ → ℕ
-ownDigit v q = q / 2 ^ v.low % 2 ^ v.own
+abbrev pub own_digit : Subspace → ℕ → ℕ
+own_digit v q = q / 2 ^ v.low % 2 ^ v.own
 
-abbrev pub beyondOf : Subspace → ℕ → ℕ
-beyondOf v q = q / 2 ^ v.low / 2 ^ v.own
+abbrev pub beyond_of : Subspace → ℕ → ℕ
+beyond_of v q = q / 2 ^ v.low / 2 ^ v.own
 
 -- A level vector has few bits up to the axis.
 pub bits : {v : Subspace} → Seen v → v.low + v.own ≤ 8
@@ -69,23 +69,23 @@ bits {v} s =
       arith,
       s.low,
       s.own,
-      sumTo-suc (at v.levels) v.line.place,
-      sumTo-mono (at v.levels) (suc v.line.place) v.line.axes s.axis,
+      sum_to_suc (at v.levels) v.line.place,
+      sum_to_mono (at v.levels) (suc v.line.place) v.line.axes s.axis,
       s.sum,
       s.top,
     )
 
 -- It ends within the table.
-pub end-inside : {v : Subspace} → Seen v → v.end ≤ pointsOf (sparseOf v.line)
-end-inside {v} s =
-    let size : ℕ = 2 ^ sumTo (at v.levels) v.line.axes in
-    let some : 0 < size = pow_pos (sumTo (at v.levels) v.line.axes) in
+pub end_inside : {v : Subspace} → Seen v → v.end ≤ points_of (sparse_of v.line)
+end_inside {v} s =
+    let size : ℕ = 2 ^ sum_to (at v.levels) v.line.axes in
+    let some : 0 < size = pow_pos (sum_to (at v.levels) v.line.axes) in
     omega (
       arith,
       s.end,
       some,
-      block-below v.line.axes v.line.level (at v.levels) s.rest s.sum (size - 1) (omega (arith, some)),
-      points-sparse v.line.axes v.line.level,
+      block_below v.line.axes v.line.level (at v.levels) s.rest s.sum (size - 1) (omega (arith, some)),
+      points_sparse v.line.axes v.line.level,
     )
 
 -- The level vectors below it.
@@ -93,184 +93,184 @@ module _ {v : Subspace} {starts : List ℕ} (s : Seen v) (held : Below v starts)
   abbrev lowered : ℕ → ℕ
   lowered = update (at v.levels) v.line.place (v.own - j)
 
-  lowered-rest : (u : ℕ) → v.line.axes ≤ u → lowered u ≡ 0
-  lowered-rest u past = update_other (at v.levels) v.line.place (v.own - j) u (λ same. omega (arith, s.axis)) ∙ s.rest u past
+  lowered_rest : (u : ℕ) → v.line.axes ≤ u → lowered u ≡ 0
+  lowered_rest u past = update_other (at v.levels) v.line.place (v.own - j) u (λ same. omega (arith, s.axis)) ∙ s.rest u past
 
-  lowered-sum : sumTo lowered v.line.axes + j ≡ sumTo (at v.levels) v.line.axes
-  lowered-sum = omega (arith, update-sum (at v.levels) v.line.place (v.own - j) v.line.axes s.axis, s.own, most)
+  lowered_sum : sum_to lowered v.line.axes + j ≡ sum_to (at v.levels) v.line.axes
+  lowered_sum = omega (arith, update_sum (at v.levels) v.line.place (v.own - j) v.line.axes s.axis, s.own, most)
 
   -- Their numbers are small.
-  pub first-small : at starts j < 2 ^ 32
-  first-small =
+  pub first_small : at starts j < 2 ^ 32
+  first_small =
       omega (
         arith,
         held.first j some most,
-        block-below v.line.axes v.line.level lowered lowered-rest (omega (arith, lowered-sum, s.sum)) 0 (pow_pos (sumTo lowered v.line.axes)),
-        points-is v.line.axes v.line.level,
+        block_below v.line.axes v.line.level lowered lowered_rest (omega (arith, lowered_sum, s.sum)) 0 (pow_pos (sum_to lowered v.line.axes)),
+        points_is v.line.axes v.line.level,
         start_small v.line.axes (omega (arith, s.axis)) s.few (suc v.line.level) (omega (arith, s.top)),
       )
 
 -- Point number p of a level vector.
 module _ {v : Subspace} (s : Seen v) (p : ℕ) (from : v.start ≤ p) (to : p < v.end) where
-  inside-vector : p - v.start < 2 ^ sumTo (at v.levels) v.line.axes
-  inside-vector = omega (arith, s.start, s.end)
+  inside_vector : p - v.start < 2 ^ sum_to (at v.levels) v.line.axes
+  inside_vector = omega (arith, s.start, s.end)
 
-  number_is : firstOf v.line.axes (at v.levels) + (p - v.start) ≡ p
+  number_is : first_of v.line.axes (at v.levels) + (p - v.start) ≡ p
   number_is = omega (arith, s.start)
 
-  named : Named v.line.axes v.line.level (at v.levels) (indicesTo v.line.axes (at v.levels) (p - v.start))
-  named = block-point v.line.axes v.line.level (at v.levels) s.rest s.sum (p - v.start) inside-vector
+  named : Named v.line.axes v.line.level (at v.levels) (indices_to v.line.axes (at v.levels) (p - v.start))
+  named = block_point v.line.axes v.line.level (at v.levels) s.rest s.sum (p - v.start) inside_vector
 
-  below : p < pointsOf (sparseOf v.line)
+  below : p < points_of (sparse_of v.line)
   below =
       omega (
         arith,
         number_is,
-        block-below v.line.axes v.line.level (at v.levels) s.rest s.sum (p - v.start) inside-vector,
-        points-sparse v.line.axes v.line.level,
+        block_below v.line.axes v.line.level (at v.levels) s.rest s.sum (p - v.start) inside_vector,
+        points_sparse v.line.axes v.line.level,
       )
 
-  levels-are : levelOn (sparseOf v.line) p ≡ at v.levels
-  levels-are =
-      levels-sparse v.line.axes v.line.level p
-      ∙ ap (levelAt v.line.axes v.line.level) (sym number_is)
-      ∙ block-levels v.line.axes v.line.level (at v.levels) s.rest s.sum (p - v.start) inside-vector
+  levels_are : level_on (sparse_of v.line) p ≡ at v.levels
+  levels_are =
+      levels_sparse v.line.axes v.line.level p
+      ∙ ap (level_at v.line.axes v.line.level) (sym number_is)
+      ∙ block_levels v.line.axes v.line.level (at v.levels) s.rest s.sum (p - v.start) inside_vector
 
-  indices-are : indexOn (sparseOf v.line) p ≡ indicesTo v.line.axes (at v.levels) (p - v.start)
-  indices-are =
-      indices-sparse v.line.axes v.line.level p
-      ∙ ap (indexAt v.line.axes v.line.level) (sym number_is)
-      ∙ block-indices v.line.axes v.line.level (at v.levels) s.rest s.sum (p - v.start) inside-vector
+  indices_are : index_on (sparse_of v.line) p ≡ indices_to v.line.axes (at v.levels) (p - v.start)
+  indices_are =
+      indices_sparse v.line.axes v.line.level p
+      ∙ ap (index_at v.line.axes v.line.level) (sym number_is)
+      ∙ block_indices v.line.axes v.line.level (at v.levels) s.rest s.sum (p - v.start) inside_vector
 
-  index_is : indicesTo v.line.axes (at v.levels) (p - v.start) v.line.place ≡ 2 * ownDigit v (p - v.start) + 1
-  unfolding indexOf
+  index_is : indices_to v.line.axes (at v.levels) (p - v.start) v.line.place ≡ 2 * own_digit v (p - v.start) + 1
+  unfolding index_of
   index_is =
-      indices-in v.line.axes (at v.levels) (p - v.start) v.line.place s.axis
+      indices_in v.line.axes (at v.levels) (p - v.start) v.line.place s.axis
       ∙ ap₂ (λ (a b : ℕ). 2 * ((p - v.start) / 2 ^ a % 2 ^ b) + 1) (sym s.low) (sym s.own)
 
   -- What the axes before and beyond add to its position.
-  before-is : position (at v.levels) (indicesTo v.line.axes (at v.levels) (p - v.start)) v.line.place ≡ (p - v.start) % 2 ^ v.low
-  before-is =
-      sym (position-low named.point v.line.place v.line.axes (omega (arith, s.axis)) (omega arith))
+  before_is : position (at v.levels) (indices_to v.line.axes (at v.levels) (p - v.start)) v.line.place ≡ (p - v.start) % 2 ^ v.low
+  before_is =
+      sym (position_low named.point v.line.place v.line.axes (omega (arith, s.axis)) (omega arith))
       ∙ ap₂ (λ (q a : ℕ). q % 2 ^ a)
-      (block-position v.line.axes v.line.level (at v.levels) s.rest s.sum (p - v.start) inside-vector) (sym s.low)
+      (block_position v.line.axes v.line.level (at v.levels) s.rest s.sum (p - v.start) inside_vector) (sym s.low)
 
-  through : sumTo (at v.levels) (suc v.line.place) ≡ v.low + v.own
-  through = omega (arith, sumTo-suc (at v.levels) v.line.place, s.low, s.own)
+  through : sum_to (at v.levels) (suc v.line.place) ≡ v.low + v.own
+  through = omega (arith, sum_to_suc (at v.levels) v.line.place, s.low, s.own)
 
-  beyond-is :
-      position (at v.levels) (indicesTo v.line.axes (at v.levels) (p - v.start)) v.line.axes / 2 ^ sumTo (at v.levels) (suc v.line.place)
-      ≡ beyondOf v (p - v.start)
-  beyond-is =
+  beyond_is :
+      position (at v.levels) (indices_to v.line.axes (at v.levels) (p - v.start)) v.line.axes / 2 ^ sum_to (at v.levels) (suc v.line.place)
+      ≡ beyond_of v (p - v.start)
+  beyond_is =
       ap₂ (λ (q a : ℕ). q / 2 ^ a)
-      (block-position v.line.axes v.line.level (at v.levels) s.rest s.sum (p - v.start) inside-vector) through
+      (block_position v.line.axes v.line.level (at v.levels) s.rest s.sum (p - v.start) inside_vector) through
       ∙ ap (λ (x : ℕ). (p - v.start) / x) (pow-add 2 v.low v.own)
       ∙ sym (div-div-eq-div-mul (p - v.start) (2 ^ v.low) (2 ^ v.own))
 
   module _ (b : Side) where
     abbrev top : ℕ
-    top = numerator b (indicesTo v.line.axes (at v.levels) (p - v.start) v.line.place)
+    top = numerator b (indices_to v.line.axes (at v.levels) (p - v.start) v.line.place)
 
     -- Which of the two it is, as the shape says.
-    border-is : isBorder (levelOn (sparseOf v.line) p v.line.place) (numeratorOn (sparseOf v.line) v.line.place b p)
-        ≡ isBorder (at v.levels v.line.place) top
-    border-is = ap₂ (λ (l i : ℕ → ℕ). isBorder (l v.line.place) (numerator b (i v.line.place))) levels-are indices-are
+    border_is : is_border (level_on (sparse_of v.line) p v.line.place) (numerator_on (sparse_of v.line) v.line.place b p)
+        ≡ is_border (at v.levels v.line.place) top
+    border_is = ap₂ (λ (l i : ℕ → ℕ). is_border (l v.line.place) (numerator b (i v.line.place))) levels_are indices_are
 
-    at-border : isBorder (at v.levels v.line.place) top ≡ true → neighbour (sparseOf v.line) v.line.place b (suc p) ≡ 0
-    at-border e = to-border (sparseOf v.line) v.line.place b p below s.axis (border-is ∙ e)
+    at_border_lem : is_border (at v.levels v.line.place) top ≡ true → neighbour (sparse_of v.line) v.line.place b (suc p) ≡ 0
+    at_border_lem e = to_border (sparse_of v.line) v.line.place b p below s.axis (border_is ∙ e)
 
-    module _ (e : isBorder (at v.levels v.line.place) top ≡ false) where
-      between-borders : Inside v.own top
-      between-borders =
+    module _ (e : is_border (at v.levels v.line.place) top ≡ false) where
+      between_borders : Inside v.own top
+      between_borders =
           rw s.own
           (inside b (at v.levels v.line.place) _ (named.point.odd v.line.place s.axis) (named.point.below v.line.place s.axis) e)
 
       -- The parent's level vector is one of those below.
       module _ {starts : List ℕ} (held : Below v starts) where
-        first-below : at starts (twos top) ≡ firstOf v.line.axes (update (at v.levels) v.line.place (parentLevel v.own top))
-        unfolding parentLevel
-        first-below = held.first (twos top) (twos-pos v.own top between-borders) (twos-le v.own top between-borders)
+        first_below : at starts (twos top) ≡ first_of v.line.axes (update (at v.levels) v.line.place (parent_level v.own top))
+        unfolding parent_level
+        first_below = held.first (twos top) (twos_pos v.own top between_borders) (twos_le v.own top between_borders)
 
-        moved-number :
+        moved_number :
             number v.line.axes
-            (update (at v.levels) v.line.place (parentLevel v.own top))
-            (update (indicesTo v.line.axes (at v.levels) (p - v.start)) v.line.place (parentIndex top))
+            (update (at v.levels) v.line.place (parent_level v.own top))
+            (update (indices_to v.line.axes (at v.levels) (p - v.start)) v.line.place (parent_index top))
             ≡ at starts (twos top)
             + (p - v.start) % 2 ^ v.low
-            + (parentIndex top - 1) / 2 * 2 ^ v.low
-            + beyondOf v (p - v.start) * 2 ^ (v.low + parentLevel v.own top)
-        moved-number =
-            let k : ℕ = parentLevel v.own top in
-            let i : ℕ → ℕ = indicesTo v.line.axes (at v.levels) (p - v.start) in
+            + (parent_index top - 1) / 2 * 2 ^ v.low
+            + beyond_of v (p - v.start) * 2 ^ (v.low + parent_level v.own top)
+        moved_number =
+            let k : ℕ = parent_level v.own top in
+            let i : ℕ → ℕ = indices_to v.line.axes (at v.levels) (p - v.start) in
             omega (
               arith,
-              number-from-first v.line.axes (update (at v.levels) v.line.place k) (update i v.line.place (parentIndex top)),
-              first-below,
-              moved-position (at v.levels) i v.line.place k (parentIndex top) named.point s.axis,
-              before-is,
-              ap (λ (a : ℕ). (parentIndex top - 1) / 2 * 2 ^ a) s.low,
-              ap₂ (λ (q a : ℕ). q * 2 ^ (a + k)) beyond-is (sym s.low),
+              number_from_first v.line.axes (update (at v.levels) v.line.place k) (update i v.line.place (parent_index top)),
+              first_below,
+              moved_position (at v.levels) i v.line.place k (parent_index top) named.point s.axis,
+              before_is,
+              ap (λ (a : ℕ). (parent_index top - 1) / 2 * 2 ^ a) s.low,
+              ap₂ (λ (q a : ℕ). q * 2 ^ (a + k)) beyond_is (sym s.low),
             )
 
-      beside-inner :
-          neighbour (sparseOf v.line) v.line.place b (suc p)
+      beside_inner :
+          neighbour (sparse_of v.line) v.line.place b (suc p)
           ≡ suc
           (number v.line.axes
-          (update (at v.levels) v.line.place (parentLevel v.own top))
-          (update (indicesTo v.line.axes (at v.levels) (p - v.start)) v.line.place (parentIndex top)))
-      beside-inner =
+          (update (at v.levels) v.line.place (parent_level v.own top))
+          (update (indices_to v.line.axes (at v.levels) (p - v.start)) v.line.place (parent_index top)))
+      beside_inner =
           let t = v.line.place in
-          to-parent (sparseOf v.line) t b p below s.axis (border-is ∙ e)
-          ∙ ap suc (number-sparse v.line.axes v.line.level _ _)
-          ∙ ap₂ (λ (l i : ℕ → ℕ). suc (number v.line.axes (update l t (parentLevel (l t) (numerator b (i t)))) (update i t (parentIndex (numerator b (i t))))))
-          levels-are indices-are
+          to_parent (sparse_of v.line) t b p below s.axis (border_is ∙ e)
+          ∙ ap suc (number_sparse v.line.axes v.line.level _ _)
+          ∙ ap₂ (λ (l i : ℕ → ℕ). suc (number v.line.axes (update l t (parent_level (l t) (numerator b (i t)))) (update i t (parent_index (numerator b (i t))))))
+          levels_are indices_are
           ∙ rw s.own
 
-    code-beside : {starts : List ℕ} → Below v starts →
-        codeFrom v starts ((p - v.start) % 2 ^ v.low) (beyondOf v (p - v.start)) top
-        ≡ neighbour (sparseOf v.line) v.line.place b (suc p)
-    code-beside {starts} held =
-        true-or-false (isBorder (at v.levels v.line.place) top)
+    code_beside : {starts : List ℕ} → Below v starts →
+        code_from v starts ((p - v.start) % 2 ^ v.low) (beyond_of v (p - v.start)) top
+        ≡ neighbour (sparse_of v.line) v.line.place b (suc p)
+    code_beside {starts} held =
+        true_or_false (is_border (at v.levels v.line.place) top)
         (λ e.
-        code-at-border v starts _ _ top (ap (λ (o : ℕ). isBorder o top) s.own ∙ e)
-        ∙ sym (at-border e))
+        code_at_border v starts _ _ top (ap (λ (o : ℕ). is_border o top) s.own ∙ e)
+        ∙ sym (at_border_lem e))
         (λ e.
-        code_inside v starts _ _ top (ap (λ (o : ℕ). isBorder o top) s.own ∙ e)
-        ∙ ap suc (sym (moved-number e held))
-        ∙ sym (beside-inner e))
+        code_inside v starts _ _ top (ap (λ (o : ℕ). is_border o top) s.own ∙ e)
+        ∙ ap suc (sym (moved_number e held))
+        ∙ sym (beside_inner e))
 
     -- It stands before the level vector.
-    pub parent-before : neighbour (sparseOf v.line) v.line.place b (suc p) ≤ v.start
-    parent-before =
-        true-or-false (isBorder (at v.levels v.line.place) top)
-        (λ e. omega (arith, at-border e))
+    pub parent_before : neighbour (sparse_of v.line) v.line.place b (suc p) ≤ v.start
+    parent_before =
+        true_or_false (is_border (at v.levels v.line.place) top)
+        (λ e. omega (arith, at_border_lem e))
         (λ e.
         omega (
           arith,
-          beside-inner e,
-          ap (λ (o : ℕ). number v.line.axes (update (at v.levels) v.line.place (parentLevel o top)) (update (indicesTo v.line.axes (at v.levels) (p - v.start)) v.line.place (parentIndex top))) s.own,
-          number-in-shell (parent-is-point named.point v.line.place s.axis b e),
-          start-mono v.line.axes _ _ (parent-sum named.point v.line.place s.axis b e),
-          first-is v.line.axes (at v.levels),
+          beside_inner e,
+          ap (λ (o : ℕ). number v.line.axes (update (at v.levels) v.line.place (parent_level o top)) (update (indices_to v.line.axes (at v.levels) (p - v.start)) v.line.place (parent_index top))) s.own,
+          number_in_shell (parent_is_point named.point v.line.place s.axis b e),
+          start_mono v.line.axes _ _ (parent_sum named.point v.line.place s.axis b e),
+          first_is v.line.axes (at v.levels),
           s.start,
         ))
 
   -- At level 0 of the axis both are the border.
-  pub flat : v.own ≡ 0 → (b : Side) → neighbour (sparseOf v.line) v.line.place b (suc p) ≡ 0
+  pub flat : v.own ≡ 0 → (b : Side) → neighbour (sparse_of v.line) v.line.place b (suc p) ≡ 0
   flat e b =
       let zero : at v.levels v.line.place ≡ 0 = sym s.own ∙ e in
-      at-border b
-      (ap (λ (l : ℕ). isBorder l (top b)) zero
-      ∙ level-zero-border b _ (named.point.odd v.line.place s.axis)
+      at_border_lem b
+      (ap (λ (l : ℕ). is_border l (top b)) zero
+      ∙ level_zero_border b _ (named.point.odd v.line.place s.axis)
       (omega (arith, named.point.below v.line.place s.axis, ap (λ (l : ℕ). 2 ^ suc l) zero)))
 
   -- The codes of both parents.
-  pub left-code : {starts : List ℕ} → Below v starts →
-      codeFrom v starts ((p - v.start) % 2 ^ v.low) (beyondOf v (p - v.start)) (2 * ownDigit v (p - v.start))
-      ≡ neighbour (sparseOf v.line) v.line.place Left (suc p)
-  left-code {starts} held = ap (codeFrom v starts _ _) (omega (arith, index_is)) ∙ code-beside Left held
+  pub left_code : {starts : List ℕ} → Below v starts →
+      code_from v starts ((p - v.start) % 2 ^ v.low) (beyond_of v (p - v.start)) (2 * own_digit v (p - v.start))
+      ≡ neighbour (sparse_of v.line) v.line.place Left (suc p)
+  left_code {starts} held = ap (code_from v starts _ _) (omega (arith, index_is)) ∙ code_beside Left held
 
-  pub right-code : {starts : List ℕ} → Below v starts →
-      codeFrom v starts ((p - v.start) % 2 ^ v.low) (beyondOf v (p - v.start)) (2 * ownDigit v (p - v.start) + 2)
-      ≡ neighbour (sparseOf v.line) v.line.place Right (suc p)
-  right-code {starts} held = ap (codeFrom v starts _ _) (omega (arith, index_is)) ∙ code-beside Right held
+  pub right_code : {starts : List ℕ} → Below v starts →
+      code_from v starts ((p - v.start) % 2 ^ v.low) (beyond_of v (p - v.start)) (2 * own_digit v (p - v.start) + 2)
+      ≡ neighbour (sparse_of v.line) v.line.place Right (suc p)
+  right_code {starts} held = ap (code_from v starts _ _) (omega (arith, index_is)) ∙ code_beside Right held

@@ -9,10 +9,10 @@ use native.Mathlib.Omega.{arith}
 use lib.Pow.{pow_mono}
 use Rattle.std.proofs.Common.{Fits, w64}
 use Rattle.numbering.specs.Point.{at}
-use Rattle.numbering.specs.Parent.{twos, parentLevel, parentIndex}
-use Rattle.numbering.proofs.Parents.{Inside, twos-pos, twos-le, index-odd-up, index-below-up}
+use Rattle.numbering.specs.Parent.{twos, parent_level, parent_index}
+use Rattle.numbering.proofs.Parents.{Inside, twos_pos, twos_le, index_odd_up, index_below_up}
 use Rattle.neighbours.specs.declared.Subspace.{Subspace}
-use Rattle.neighbours.specs.Steps.{Seen, codeFrom}
+use Rattle.neighbours.specs.Steps.{Seen, code_from}
 use Rattle.neighbours.proofs.Beside.{code_inside, inner, bits}
 
 -- ---- within the width
@@ -21,56 +21,56 @@ use Rattle.neighbours.proofs.Beside.{code_inside, inner, bits}
 shift_small : (a b : ℕ) → a < 2 ^ 9 → b ≤ 8 → a * 2 ^ b < 2 ^ 17
 shift_small a b small few = omega (arith, mul-le-mul_left a (pow_mono {i = b} {j = 8} few))
 
-shift-exact : (a b : ℕ) → a < 2 ^ 9 → b ≤ 8 → a * 2 ^ b % 2 ^ 64 ≡ a * 2 ^ b
-shift-exact a b small few = mod-eq_of_lt (omega (arith, shift_small a b small few))
+shift_exact : (a b : ℕ) → a < 2 ^ 9 → b ≤ 8 → a * 2 ^ b % 2 ^ 64 ≡ a * 2 ^ b
+shift_exact a b small few = mod-eq_of_lt (omega (arith, shift_small a b small few))
 
 -- A number below 2^32 with one or two of these added.
 module _ (n a b : ℕ) (start : n < 2 ^ 32) (small : a < 2 ^ 9) (few : b ≤ 8) where
-  pub one-more : Fits w64 (n + a * 2 ^ b % 2 ^ 64)
-  one-more = omega (arith, start, shift-exact a b small few, shift_small a b small few)
+  pub one_more : Fits w64 (n + a * 2 ^ b % 2 ^ 64)
+  one_more = omega (arith, start, shift_exact a b small few, shift_small a b small few)
 
-  pub two-more : (c d : ℕ) → c < 2 ^ 9 → d ≤ 8 → Fits w64 (n + a * 2 ^ b % 2 ^ 64 + c * 2 ^ d % 2 ^ 64)
-  two-more c d small' few' =
+  pub two_more : (c d : ℕ) → c < 2 ^ 9 → d ≤ 8 → Fits w64 (n + a * 2 ^ b % 2 ^ 64 + c * 2 ^ d % 2 ^ 64)
+  two_more c d small' few' =
       omega (
         arith,
         start,
-        shift-exact a b small few,
+        shift_exact a b small few,
         shift_small a b small few,
-        shift-exact c d small' few',
+        shift_exact c d small' few',
         shift_small c d small' few',
       )
 
 -- ---- the parent at numerator m, with its level and index as the code has them
 
-module _ {v : Subspace} (s : Seen v) (m l i : ℕ) (within : Inside v.own m) (level : l ≡ parentLevel v.own m) (index : i ≡ parentIndex m) where
+module _ {v : Subspace} (s : Seen v) (m l i : ℕ) (within : Inside v.own m) (level : l ≡ parent_level v.own m) (index : i ≡ parent_index m) where
   dropped : v.own - l ≡ twos m
-  unfolding parentLevel
-  dropped = omega (arith, level, twos-le v.own m within)
+  unfolding parent_level
+  dropped = omega (arith, level, twos_le v.own m within)
 
   -- At least one level is dropped.
   pub falls : l < v.own
-  unfolding parentLevel
-  falls = omega (arith, level, twos-le v.own m within, twos-pos v.own m within)
+  unfolding parent_level
+  falls = omega (arith, level, twos_le v.own m within, twos_pos v.own m within)
 
-  pub index-small : i < 2 ^ 9
-  index-small =
+  pub index_small : i < 2 ^ 9
+  index_small =
       omega (
         arith,
         index,
-        index-below-up v.own m within,
-        pow_mono {i = suc (parentLevel v.own m)} {j = 9} (omega (arith, level, falls, bits s)),
+        index_below_up v.own m within,
+        pow_mono {i = suc (parent_level v.own m)} {j = 9} (omega (arith, level, falls, bits s)),
       )
 
   pub computed : (starts : List ℕ) (beyond : ℕ) → beyond < 2 ^ 8 →
-      suc (at starts (v.own - l) + i / 2 * 2 ^ v.low % 2 ^ 64 + beyond * 2 ^ (v.low + l) % 2 ^ 64) ≡ codeFrom v starts 0 beyond m
+      suc (at starts (v.own - l) + i / 2 * 2 ^ v.low % 2 ^ 64 + beyond * 2 ^ (v.low + l) % 2 ^ 64) ≡ code_from v starts 0 beyond m
   computed starts beyond small =
-      let half : i / 2 ≡ (parentIndex m - 1) / 2 = omega (arith, index, index-odd-up v.own m within) in
+      let half : i / 2 ≡ (parent_index m - 1) / 2 = omega (arith, index, index_odd_up v.own m within) in
       omega (
         arith,
         ap (at starts) dropped,
-        shift-exact (i / 2) v.low (omega (arith, index-small)) (omega (arith, bits s)),
+        shift_exact (i / 2) v.low (omega (arith, index_small)) (omega (arith, bits s)),
         ap (λ (h : ℕ). h * 2 ^ v.low) half,
-        shift-exact beyond (v.low + l) (omega (arith, small)) (omega (arith, bits s, falls)),
+        shift_exact beyond (v.low + l) (omega (arith, small)) (omega (arith, bits s, falls)),
         ap (λ (k : ℕ). beyond * 2 ^ (v.low + k)) level,
         code_inside v starts 0 beyond m (inner v.own m within.pos within.below),
       )

@@ -1,18 +1,18 @@
 -- A level vector as a turn on an axis meets it, the numbers of its points, and the codes of their parents.
 -- Assumes nothing.
 use Rattle.std.specs.Prelude.{List, ◌≡◌, ℕ, suc, ◌+◌, ◌-◌, ◌*◌, ◌/◌, ◌^◌, ◌≤◌, ◌<◌, length, if◌then◌else◌}
-use Rattle.naturals.specs.Sum.{sumTo}
+use Rattle.naturals.specs.Sum.{sum_to}
 use Rattle.numbering.specs.Point.{at}
-use Rattle.numbering.specs.Number.{firstOf}
-use Rattle.numbering.specs.Parent.{isBorder, twos, parentLevel, parentIndex, update}
+use Rattle.numbering.specs.Number.{first_of}
+use Rattle.numbering.specs.Parent.{is_border, twos, parent_level, parent_index, update}
 use Rattle.shapes.specs.declared.Shape.{Shape}
 use Rattle.shapes.specs.Shapes.{sparse}
 use Rattle.neighbours.specs.declared.Line.{Line}
 use Rattle.neighbours.specs.declared.Subspace.{Subspace}
 
 -- The sparse table that a line lies in.
-abbrev pub sparseOf : Line → Shape
-sparseOf line = sparse line.axes line.level
+abbrev pub sparse_of : Line → Shape
+sparse_of line = sparse line.axes line.level
 
 -- A level vector of the shape, with nothing past its axes, and its numbers are right: those of its points, its level sum before the axis and its level
 -- there.
@@ -22,27 +22,27 @@ pub record Seen (v : Subspace) : Type 0 where
   pub axis : v.line.place < v.line.axes
   pub long : length v.levels ≡ 8
   pub rest : (u : ℕ) → v.line.axes ≤ u → at v.levels u ≡ 0
-  pub sum : sumTo (at v.levels) v.line.axes ≤ v.line.level
-  pub start : v.start ≡ firstOf v.line.axes (at v.levels)
-  pub end : v.end ≡ firstOf v.line.axes (at v.levels) + 2 ^ sumTo (at v.levels) v.line.axes
-  pub low : v.low ≡ sumTo (at v.levels) v.line.place
+  pub sum : sum_to (at v.levels) v.line.axes ≤ v.line.level
+  pub start : v.start ≡ first_of v.line.axes (at v.levels)
+  pub end : v.end ≡ first_of v.line.axes (at v.levels) + 2 ^ sum_to (at v.levels) v.line.axes
+  pub low : v.low ≡ sum_to (at v.levels) v.line.place
   pub own : v.own ≡ at v.levels v.line.place
 
 -- A list with, for each j from 1 to the level on the axis, the first number of the level vector that is lower by j there and elsewhere has the same levels.
 -- Other places are not read.
 pub record Below (v : Subspace) (starts : List ℕ) : Type 0 where
   pub long : length starts ≡ 9
-  pub first : (j : ℕ) → 1 ≤ j → j ≤ v.own → at starts j ≡ firstOf v.line.axes (update (at v.levels) v.line.place (v.own - j))
+  pub first : (j : ℕ) → 1 ≤ j → j ≤ v.own → at starts j ≡ first_of v.line.axes (update (at v.levels) v.line.place (v.own - j))
 
 -- The code of the parent at numerator m of a point, to whose position the axes before this one add `before`, those beyond it `beyond` in units of
 -- 2^(sum of the levels up to this axis): the parent's level vector is lower on the axis by as many levels as factors of two were dropped, and what the
 -- axes beyond add comes as many bits lower.
-unfoldable pub codeFrom : Subspace → List ℕ → ℕ → ℕ → ℕ → ℕ
-codeFrom v starts before beyond m =
-    if isBorder v.own m
+unfoldable pub code_from : Subspace → List ℕ → ℕ → ℕ → ℕ → ℕ
+code_from v starts before beyond m =
+    if is_border v.own m
     then 0
-    else suc (at starts (twos m) + before + (parentIndex m - 1) / 2 * 2 ^ v.low + beyond * 2 ^ (v.low + parentLevel v.own m))
+    else suc (at starts (twos m) + before + (parent_index m - 1) / 2 * 2 ^ v.low + beyond * 2 ^ (v.low + parent_level v.own m))
 
 -- The number of the point of a level vector to whose position the axes before this one add `before`, this one the digit e, those beyond it `beyond`.
-abbrev pub numberIn : Subspace → ℕ → ℕ → ℕ → ℕ
-numberIn v before e beyond = v.start + before + e * 2 ^ v.low + beyond * 2 ^ (v.low + v.own)
+abbrev pub number_in : Subspace → ℕ → ℕ → ℕ → ℕ
+number_in v before e beyond = v.start + before + e * 2 ^ v.low + beyond * 2 ^ (v.low + v.own)

@@ -3,9 +3,9 @@
 
 ghost use Rattle.std.specs.Prelude.{◌≡◌, suc, ◌+◌, ◌^◌, ◌%◌, ◌≤◌, ◌<◌};
 ghost use Rattle.numbering.specs.Point.{at};
-ghost use Rattle.numbering.specs.Number.{firstOf};
+ghost use Rattle.numbering.specs.Number.{first_of};
 ghost use Rattle.vectors.specs.Steps.{VectorIn};
-ghost use Rattle.neighbours.specs.Steps.{Below, Seen, codeFrom};
+ghost use Rattle.neighbours.specs.Steps.{Below, Seen, code_from};
 
 // A shape and the place of an axis in it, from 0: a turn works on the lines along that axis.
 #[derive(Clone, Copy)]
@@ -29,7 +29,7 @@ pub struct Subspace {
 
 // A level vector with this sum and first number, for a turn on an axis.
 pub fn subspace_on(line: Line, sum: u32, levels: &[u32; 8], start: u64) -> Subspace
-    requires { (line.axes ≤ 8) × (line.level ≤ 8) × (line.place < line.axes) × VectorIn line.axes sum levels.now × (sum ≤ line.level) × (start ≡ firstOf line.axes (at levels.now)) }
+    requires { (line.axes ≤ 8) × (line.level ≤ 8) × (line.place < line.axes) × VectorIn line.axes sum levels.now × (sum ≤ line.level) × (start ≡ first_of line.axes (at levels.now)) }
     ensures { Seen result × (result.line ≡ line) × (result.start ≡ start) × (result.end ≡ start + 2 ^ sum) × (result.levels ≡ levels.now) }
 {
     let place = line.place as usize;
@@ -47,7 +47,7 @@ pub fn subspace_on(line: Line, sum: u32, levels: &[u32; 8], start: u64) -> Subsp
 // off the border, where the axes beyond add `beyond`. No search: the digits of a position shifted.
 pub fn parent_run(v: Subspace, starts: &[u64; 9], beyond: u64, numerator: u32) -> u64
     requires { Seen v × Below v starts.now × (beyond < 2 ^ 8) × (numerator % 2 ≡ 0) × (0 < numerator) × (numerator < 2 ^ suc v.own) }
-    ensures { suc result ≡ codeFrom v starts.now 0 beyond numerator }
+    ensures { suc result ≡ code_from v starts.now 0 beyond numerator }
 {
     let own = v.own;
     let up = parents::reduce(own, numerator);

@@ -11,45 +11,45 @@ use native.Mathlib.Omega.{arith}
 use lib.Dec.{eqb}
 use lib.Pow.{pow_mono, pow-add}
 use borrow.Author.Tests.{eq-eqb, ne_eqb, eqb-true, eqb-false}
-use Rattle.naturals.specs.Sum.{sumTo}
+use Rattle.naturals.specs.Sum.{sum_to}
 use Rattle.std.specs.Prelude.{if◌then◌else◌}
-use Rattle.naturals.proofs.Cases.{eq-or-not, le-or-lt, true-or-false}
-use Rattle.naturals.proofs.Sums.{sumTo-suc, sumTo-cong}
+use Rattle.naturals.proofs.Cases.{eq_or_not, le_or_lt, true_or_false}
+use Rattle.naturals.proofs.Sums.{sum_to_suc, sum_to_cong}
 use Rattle.numbering.specs.declared.Side.{Side}
 use Rattle.numbering.specs.declared.Side.TheVariants.{Left, Right}
 use Rattle.numbering.specs.Point.{IsPoint}
 use Rattle.numbering.specs.Number.{number}
-use Rattle.numbering.specs.Parent.{numerator, isBorder, twos, parentLevel, parentIndex, update, border, inner, moved, parent, beyond}
-use Rattle.numbering.proofs.Twos.{zeros-divide, zeros-left-odd, width-enough}
-use Rattle.numbering.proofs.Ordering.{smaller-sum}
+use Rattle.numbering.specs.Parent.{numerator, is_border, twos, parent_level, parent_index, update, border, inner, moved, parent, beyond}
+use Rattle.numbering.proofs.Twos.{zeros_divide, zeros_left_odd, width_enough}
+use Rattle.numbering.proofs.Ordering.{smaller_sum}
 
 -- ---- the border
 
 -- A border exactly where the coordinate is 0 or 1.
-pub border-low : (l : ℕ) → isBorder l 0 ≡ true
-unfolding isBorder
-border-low l = refl
+pub border_low : (l : ℕ) → is_border l 0 ≡ true
+unfolding is_border
+border_low l = refl
 
-pub border-high : (l : ℕ) → isBorder l (2 ^ suc l) ≡ true
-unfolding isBorder
-border-high l = rw (eq-eqb (2 ^ suc l) (2 ^ suc l) refl) (or-true (eqb (2 ^ suc l) 0))
+pub border_high : (l : ℕ) → is_border l (2 ^ suc l) ≡ true
+unfolding is_border
+border_high l = rw (eq-eqb (2 ^ suc l) (2 ^ suc l) refl) (or_true (eqb (2 ^ suc l) 0))
   where
-    or-true : (b : Bool) → (b || true) ≡ true
-    or-true true = refl
-    or-true false = refl
+    or_true : (b : Bool) → (b || true) ≡ true
+    or_true true = refl
+    or_true false = refl
 
-pub not-border : (l m : ℕ) → isBorder l m ≡ false → (m ≡ 0 → ⊥) × (m ≡ 2 ^ suc l → ⊥)
-unfolding isBorder
-not-border l m e = split (eqb m 0) (eqb m (2 ^ suc l)) e (eqb-false m 0) (eqb-false m (2 ^ suc l))
+pub not_border : (l m : ℕ) → is_border l m ≡ false → (m ≡ 0 → ⊥) × (m ≡ 2 ^ suc l → ⊥)
+unfolding is_border
+not_border l m e = split (eqb m 0) (eqb m (2 ^ suc l)) e (eqb-false m 0) (eqb-false m (2 ^ suc l))
   where
     split : (a b : Bool) → (a || b) ≡ false → (a ≡ false → m ≡ 0 → ⊥) → (b ≡ false → m ≡ 2 ^ suc l → ⊥) →
         (m ≡ 0 → ⊥) × (m ≡ 2 ^ suc l → ⊥)
     split true b f na nb = absurd (true≢false f)
     split false b f na nb = (na refl, nb f)
 
-pub border-means : (l m : ℕ) → isBorder l m ≡ true → (m ≡ 0) ⊎ (m ≡ 2 ^ suc l)
-unfolding isBorder
-border-means l m e = split (eqb m 0) (eqb m (2 ^ suc l)) e (eqb-true m 0) (eqb-true m (2 ^ suc l))
+pub border_means : (l m : ℕ) → is_border l m ≡ true → (m ≡ 0) ⊎ (m ≡ 2 ^ suc l)
+unfolding is_border
+border_means l m e = split (eqb m 0) (eqb m (2 ^ suc l)) e (eqb-true m 0) (eqb-true m (2 ^ suc l))
   where
     split : (a b : Bool) → (a || b) ≡ true → (a ≡ true → m ≡ 0) → (b ≡ true → m ≡ 2 ^ suc l) → (m ≡ 0) ⊎ (m ≡ 2 ^ suc l)
     split true b f low high = inl (low refl)
@@ -63,67 +63,67 @@ pub record Inside (l m : ℕ) : Type 0 where
   pub pos : 0 < m
   pub below : m < 2 ^ suc l
 
-pub inside : (side : Side) (l i : ℕ) → i % 2 ≡ 1 → i < 2 ^ suc l → isBorder l (numerator side i) ≡ false → Inside l (numerator side i)
+pub inside : (side : Side) (l i : ℕ) → i % 2 ≡ 1 → i < 2 ^ suc l → is_border l (numerator side i) ≡ false → Inside l (numerator side i)
 inside Left l i odd lt e =
-    let n = not-border l (i - 1) e in
+    let n = not_border l (i - 1) e in
     record { even = omega arith; pos = pos_of n.0; below = omega arith }
   where
     pos_of : (i - 1 ≡ 0 → ⊥) → 0 < i - 1
-    pos_of no_zero = eq-or-not (i - 1) 0 (λ z. absurd (no_zero z)) (λ z. omega arith)
+    pos_of no_zero = eq_or_not (i - 1) 0 (λ z. absurd (no_zero z)) (λ z. omega arith)
 inside Right l i odd lt e =
-    let n = not-border l (i + 1) e in
+    let n = not_border l (i + 1) e in
     record { even = omega arith; pos = omega arith; below = below_of n.1 }
   where
     below_of : (i + 1 ≡ 2 ^ suc l → ⊥) → i + 1 < 2 ^ suc l
-    below_of no_one = eq-or-not (i + 1) (2 ^ suc l) (λ z. absurd (no_one z)) (λ z. omega arith)
+    below_of no_one = eq_or_not (i + 1) (2 ^ suc l) (λ z. absurd (no_one z)) (λ z. omega arith)
 
 module _ (l m : ℕ) (h : Inside l m) where
-  pub index-odd-up : parentIndex m % 2 ≡ 1
-  unfolding parentIndex twos
-  index-odd-up = zeros-left-odd m m h.pos (width-enough m)
+  pub index_odd_up : parent_index m % 2 ≡ 1
+  unfolding parent_index twos
+  index_odd_up = zeros_left_odd m m h.pos (width_enough m)
 
-  pub index-times : parentIndex m * 2 ^ twos m ≡ m
-  unfolding parentIndex twos
-  index-times = zeros-divide m m
+  pub index_times : parent_index m * 2 ^ twos m ≡ m
+  unfolding parent_index twos
+  index_times = zeros_divide m m
 
   -- At least one factor of two is dropped, and no more than the level has.
-  pub twos-pos : 0 < twos m
-  twos-pos =
-      eq-or-not (twos m) 0
-      (λ z. omega (arith, index-times, index-odd-up, ap (λ (x : ℕ). parentIndex m * 2 ^ x) z, h.even, mul-one (parentIndex m)))
+  pub twos_pos : 0 < twos m
+  twos_pos =
+      eq_or_not (twos m) 0
+      (λ z. omega (arith, index_times, index_odd_up, ap (λ (x : ℕ). parent_index m * 2 ^ x) z, h.even, mul-one (parent_index m)))
       (λ z. omega arith)
 
-  pub twos-le : twos m ≤ l
-  twos-le =
-      le-or-lt (twos m) l (λ le. le)
+  pub twos_le : twos m ≤ l
+  twos_le =
+      le_or_lt (twos m) l (λ le. le)
       (λ gt.
       omega (
         arith,
         h.below,
-        index-times,
+        index_times,
         pow_mono {i = suc l} {j = twos m} gt,
-        mul-le-mul_right {m = 1} {n = parentIndex m} (2 ^ twos m) (omega (arith, index-odd-up)),
+        mul-le-mul_right {m = 1} {n = parent_index m} (2 ^ twos m) (omega (arith, index_odd_up)),
         one-mul (2 ^ twos m),
       ))
 
   -- The level falls.
-  pub level-falls : parentLevel l m < l
-  unfolding parentLevel
-  level-falls = omega (arith, twos-pos, twos-le)
+  pub level_falls : parent_level l m < l
+  unfolding parent_level
+  level_falls = omega (arith, twos_pos, twos_le)
 
-  pow-drop : 2 ^ suc l ≡ 2 ^ suc (parentLevel l m) * 2 ^ twos m
-  unfolding parentLevel
-  pow-drop = ap (λ (e : ℕ). 2 ^ e) (omega (arith, twos-le)) ∙ pow-add 2 (suc (l - twos m)) (twos m)
+  pow_drop : 2 ^ suc l ≡ 2 ^ suc (parent_level l m) * 2 ^ twos m
+  unfolding parent_level
+  pow_drop = ap (λ (e : ℕ). 2 ^ e) (omega (arith, twos_le)) ∙ pow-add 2 (suc (l - twos m)) (twos m)
 
-  pub index-below-up : parentIndex m < 2 ^ suc (parentLevel l m)
-  index-below-up = lt_of_mul-lt-mul_right (2 ^ twos m) (omega (arith, index-times, pow-drop, h.below))
+  pub index_below_up : parent_index m < 2 ^ suc (parent_level l m)
+  index_below_up = lt_of_mul-lt-mul_right (2 ^ twos m) (omega (arith, index_times, pow_drop, h.below))
 
   -- The parent's coordinate is exactly the neighbour's: index / 2^(level + 1) = m / 2^(l + 1).
-  pub coordinate : parentIndex m * 2 ^ suc l ≡ m * 2 ^ suc (parentLevel l m)
+  pub coordinate : parent_index m * 2 ^ suc l ≡ m * 2 ^ suc (parent_level l m)
   coordinate =
-      ap (λ (x : ℕ). parentIndex m * x) (pow-drop ∙ mul_comm (2 ^ suc (parentLevel l m)) (2 ^ twos m))
-      ∙ sym (mul_assoc (parentIndex m) (2 ^ twos m) (2 ^ suc (parentLevel l m)))
-      ∙ ap (λ (x : ℕ). x * 2 ^ suc (parentLevel l m)) index-times
+      ap (λ (x : ℕ). parent_index m * x) (pow_drop ∙ mul_comm (2 ^ suc (parent_level l m)) (2 ^ twos m))
+      ∙ sym (mul_assoc (parent_index m) (2 ^ twos m) (2 ^ suc (parent_level l m)))
+      ∙ ap (λ (x : ℕ). x * 2 ^ suc (parent_level l m)) index_times
 
 -- ---- one axis of a point is changed
 
@@ -135,16 +135,16 @@ pub update_other : (f : ℕ → ℕ) (t v u : ℕ) → (u ≡ t → ⊥) → upd
 unfolding update
 update_other f t v u ne = rw (ne_eqb u t ne)
 
-pub update-sum : (f : ℕ → ℕ) (t v d : ℕ) → t < d → sumTo (update f t v) d + f t ≡ sumTo f d + v
-update-sum f t v zero h = omega arith
-update-sum f t v (suc d) h =
-    eq-or-not t d
+pub update_sum : (f : ℕ → ℕ) (t v d : ℕ) → t < d → sum_to (update f t v) d + f t ≡ sum_to f d + v
+update_sum f t v zero h = omega arith
+update_sum f t v (suc d) h =
+    eq_or_not t d
     (λ e.
     omega (
       arith,
-      sumTo-suc (update f t v) d,
-      sumTo-suc f d,
-      sumTo-cong (update f t v) f d (λ u lt. update_other f t v u (λ same. omega arith)),
+      sum_to_suc (update f t v) d,
+      sum_to_suc f d,
+      sum_to_cong (update f t v) f d (λ u lt. update_other f t v u (λ same. omega arith)),
       ap (update f t v) e,
       ap f e,
       update_same f t v,
@@ -152,9 +152,9 @@ update-sum f t v (suc d) h =
     (λ e.
     omega (
       arith,
-      sumTo-suc (update f t v) d,
-      sumTo-suc f d,
-      update-sum f t v d (omega arith),
+      sum_to_suc (update f t v) d,
+      sum_to_suc f d,
+      update_sum f t v d (omega arith),
       update_other f t v d (λ same. e (sym same)),
     ))
 
@@ -163,14 +163,14 @@ update_swap f t s v w ne = fun_ext λ u. at_place u
   where
     at_place : (u : ℕ) → update (update f t v) s w u ≡ update (update f s w) t v u
     at_place u =
-        eq-or-not u s
+        eq_or_not u s
         (λ es.
         rw es
         (update_same (update f t v) s w
         ∙ sym (update_other (update f s w) t v s (λ e. ne (sym e)) ∙ update_same f s w)))
         (λ ns.
         update_other (update f t v) s w u ns
-        ∙ eq-or-not u t
+        ∙ eq_or_not u t
         (λ et. rw et (update_same f t v ∙ sym (update_same (update f s w) t v)))
         (λ nt.
         update_other f t v u nt
@@ -178,113 +178,113 @@ update_swap f t s v w ne = fun_ext λ u. at_place u
 
 -- ---- the parent of a point
 
-pub parent-border : (t : ℕ) (side : Side) (l i : ℕ → ℕ) → isBorder (l t) (numerator side (i t)) ≡ true → parent t side l i ≡ border
+pub parent_border : (t : ℕ) (side : Side) (l i : ℕ → ℕ) → is_border (l t) (numerator side (i t)) ≡ true → parent t side l i ≡ border
 unfolding parent
-parent-border t side l i e = rw e
+parent_border t side l i e = rw e
 
-pub parent-inner : (t : ℕ) (side : Side) (l i : ℕ → ℕ) → isBorder (l t) (numerator side (i t)) ≡ false →
+pub parent_inner : (t : ℕ) (side : Side) (l i : ℕ → ℕ) → is_border (l t) (numerator side (i t)) ≡ false →
     parent t side l i ≡ moved t (numerator side (i t)) l i
 unfolding parent
-parent-inner t side l i e = rw e
+parent_inner t side l i e = rw e
 
 -- A parent is the border only where the neighbour lies at 0 or 1.
-pub only-border : (t : ℕ) (side : Side) (l i : ℕ → ℕ) → parent t side l i ≡ border → (numerator side (i t) ≡ 0) ⊎ (numerator side (i t) ≡ 2 ^ suc (l t))
-only-border t side l i e =
-    border-means (l t) (numerator side (i t))
-    (true-or-false (isBorder (l t) (numerator side (i t))) (λ there. there)
-    (λ off. absurd (never _ _ (sym (parent-inner t side l i off) ∙ e))))
+pub only_border : (t : ℕ) (side : Side) (l i : ℕ → ℕ) → parent t side l i ≡ border → (numerator side (i t) ≡ 0) ⊎ (numerator side (i t) ≡ 2 ^ suc (l t))
+only_border t side l i e =
+    border_means (l t) (numerator side (i t))
+    (true_or_false (is_border (l t) (numerator side (i t))) (λ there. there)
+    (λ off. absurd (never _ _ (sym (parent_inner t side l i off) ∙ e))))
   where
     never : (a b : ℕ → ℕ) → inner a b ≡ border → ⊥
     never a b f = let z : ◌≡◌ {A = ℕ} 0 1 = cc in omega arith
 
 -- At level 0 both neighbours are borders.
-pub level-zero-border : (side : Side) (i : ℕ) → i % 2 ≡ 1 → i < 2 ^ 1 → isBorder 0 (numerator side i) ≡ true
-level-zero-border Left i odd lt = ap (λ (m : ℕ). isBorder 0 (m - 1)) (one i odd lt) ∙ border-low 0
+pub level_zero_border : (side : Side) (i : ℕ) → i % 2 ≡ 1 → i < 2 ^ 1 → is_border 0 (numerator side i) ≡ true
+level_zero_border Left i odd lt = ap (λ (m : ℕ). is_border 0 (m - 1)) (one i odd lt) ∙ border_low 0
   where
     one : (i : ℕ) → i % 2 ≡ 1 → i < 2 ^ 1 → i ≡ 1
     one i odd lt = omega arith
-level-zero-border Right i odd lt = ap (λ (m : ℕ). isBorder 0 (m + 1)) (one i odd lt) ∙ border-high 0
+level_zero_border Right i odd lt = ap (λ (m : ℕ). is_border 0 (m + 1)) (one i odd lt) ∙ border_high 0
   where
     one : (i : ℕ) → i % 2 ≡ 1 → i < 2 ^ 1 → i ≡ 1
     one i odd lt = omega arith
 
 module _ {d n : ℕ} {l i : ℕ → ℕ} (p : IsPoint d n l i) (t : ℕ) (axis : t < d) (side : Side)
-    (e : isBorder (l t) (numerator side (i t)) ≡ false) where
-  within-borders : Inside (l t) (numerator side (i t))
-  within-borders = inside side (l t) (i t) (p.odd t axis) (p.below t axis) e
+    (e : is_border (l t) (numerator side (i t)) ≡ false) where
+  within_borders : Inside (l t) (numerator side (i t))
+  within_borders = inside side (l t) (i t) (p.odd t axis) (p.below t axis) e
 
-  pub parent-sum : sumTo (update l t (parentLevel (l t) (numerator side (i t)))) d < sumTo l d
-  parent-sum =
+  pub parent_sum : sum_to (update l t (parent_level (l t) (numerator side (i t)))) d < sum_to l d
+  parent_sum =
       omega (
         arith,
-        update-sum l t (parentLevel (l t) (numerator side (i t))) d axis,
-        level-falls (l t) (numerator side (i t)) within-borders,
+        update_sum l t (parent_level (l t) (numerator side (i t))) d axis,
+        level_falls (l t) (numerator side (i t)) within_borders,
       )
 
   -- It is a point of the same shape.
-  pub parent-is-point : IsPoint d n (update l t (parentLevel (l t) (numerator side (i t)))) (update i t (parentIndex (numerator side (i t))))
-  parent-is-point =
+  pub parent_is_point : IsPoint d n (update l t (parent_level (l t) (numerator side (i t)))) (update i t (parent_index (numerator side (i t))))
+  parent_is_point =
       record {
-        sum = omega (arith, parent-sum, p.sum);
+        sum = omega (arith, parent_sum, p.sum);
         odd =
             λ u h.
-            eq-or-not u t
+            eq_or_not u t
             (λ same.
             rw same
-            (ap (λ (x : ℕ). x % 2) (update_same i t (parentIndex (numerator side (i t))))
-            ∙ index-odd-up (l t) (numerator side (i t)) within-borders))
-            (λ other. ap (λ (x : ℕ). x % 2) (update_other i t (parentIndex (numerator side (i t))) u other) ∙ p.odd u h);
+            (ap (λ (x : ℕ). x % 2) (update_same i t (parent_index (numerator side (i t))))
+            ∙ index_odd_up (l t) (numerator side (i t)) within_borders))
+            (λ other. ap (λ (x : ℕ). x % 2) (update_other i t (parent_index (numerator side (i t))) u other) ∙ p.odd u h);
         below =
             λ u h.
-            eq-or-not u t
+            eq_or_not u t
             (λ same.
             rw same
-            (rw (update_same i t (parentIndex (numerator side (i t))), update_same l t (parentLevel (l t) (numerator side (i t))))
-            (index-below-up (l t) (numerator side (i t)) within-borders)))
+            (rw (update_same i t (parent_index (numerator side (i t))), update_same l t (parent_level (l t) (numerator side (i t))))
+            (index_below_up (l t) (numerator side (i t)) within_borders)))
             (λ other.
             rw (
-              update_other i t (parentIndex (numerator side (i t))) u other,
-              update_other l t (parentLevel (l t) (numerator side (i t))) u other,
+              update_other i t (parent_index (numerator side (i t))) u other,
+              update_other l t (parent_level (l t) (numerator side (i t))) u other,
             )
             (p.below u h));
       }
 
   -- Its number is smaller.
-  pub parent-number : number d (update l t (parentLevel (l t) (numerator side (i t)))) (update i t (parentIndex (numerator side (i t)))) < number d l i
-  parent-number = smaller-sum parent-is-point p parent-sum
+  pub parent_number : number d (update l t (parent_level (l t) (numerator side (i t)))) (update i t (parent_index (numerator side (i t)))) < number d l i
+  parent_number = smaller_sum parent_is_point p parent_sum
 
 -- Parents on different axes commute, borders included: each looks at its own axis alone and changes that alone.
-after-other : (t s : ℕ) (b : Side) (l i : ℕ → ℕ) (v w : ℕ) → (t ≡ s → ⊥) →
+after_other : (t s : ℕ) (b : Side) (l i : ℕ → ℕ) (v w : ℕ) → (t ≡ s → ⊥) →
     parent t b (update l s v) (update i s w)
-    ≡ (if isBorder (l t) (numerator b (i t))
+    ≡ (if is_border (l t) (numerator b (i t))
     then border
     else inner
-    (update (update l s v) t (parentLevel (l t) (numerator b (i t))))
-    (update (update i s w) t (parentIndex (numerator b (i t)))))
+    (update (update l s v) t (parent_level (l t) (numerator b (i t))))
+    (update (update i s w) t (parent_index (numerator b (i t)))))
 unfolding parent
-after-other t s b l i v w ne = rw (update_other l s v t ne, update_other i s w t ne)
+after_other t s b l i v w ne = rw (update_other l s v t ne, update_other i s w t ne)
 
-pub parents-commute : (t s : ℕ) (b c : Side) (l i : ℕ → ℕ) → (t ≡ s → ⊥) →
+pub parents_commute : (t s : ℕ) (b c : Side) (l i : ℕ → ℕ) → (t ≡ s → ⊥) →
     beyond t b (parent s c l i) ≡ beyond s c (parent t b l i)
 unfolding beyond
-parents-commute t s b c l i ne =
-    true-or-false (isBorder (l s) (numerator c (i s)))
+parents_commute t s b c l i ne =
+    true_or_false (is_border (l s) (numerator c (i s)))
     (λ bs.
-    ap (beyond t b) (parent-border s c l i bs)
-    ∙ true-or-false (isBorder (l t) (numerator b (i t)))
-    (λ bt. sym (ap (beyond s c) (parent-border t b l i bt)))
+    ap (beyond t b) (parent_border s c l i bs)
+    ∙ true_or_false (is_border (l t) (numerator b (i t)))
+    (λ bt. sym (ap (beyond s c) (parent_border t b l i bt)))
     (λ nt.
     sym
-    (ap (beyond s c) (parent-inner t b l i nt)
-    ∙ after-other s t c l i _ _ (λ e. ne (sym e))
+    (ap (beyond s c) (parent_inner t b l i nt)
+    ∙ after_other s t c l i _ _ (λ e. ne (sym e))
     ∙ rw bs)))
     (λ ns.
-    ap (beyond t b) (parent-inner s c l i ns)
-    ∙ after-other t s b l i _ _ ne
-    ∙ true-or-false (isBorder (l t) (numerator b (i t)))
-    (λ bt. rw bt (sym (ap (beyond s c) (parent-border t b l i bt))))
+    ap (beyond t b) (parent_inner s c l i ns)
+    ∙ after_other t s b l i _ _ ne
+    ∙ true_or_false (is_border (l t) (numerator b (i t)))
+    (λ bt. rw bt (sym (ap (beyond s c) (parent_border t b l i bt))))
     (λ nt.
     rw nt
     (ap₂ inner (update_swap l s t _ _ (λ e. ne (sym e))) (update_swap i s t _ _ (λ e. ne (sym e)))
     ∙ sym (rw ns)
-    ∙ sym (ap (beyond s c) (parent-inner t b l i nt) ∙ after-other s t c l i _ _ (λ e. ne (sym e))))))
+    ∙ sym (ap (beyond s c) (parent_inner t b l i nt) ∙ after_other s t c l i _ _ (λ e. ne (sym e))))))

@@ -5,34 +5,34 @@ use mathlib.Core.Path.{◌≡◌, refl, ap}
 use Prim.Native.Nat.{ℕ, zero, suc, ◌+◌, ◌-◌, ◌≤◌, ◌<◌}
 use native.Mathlib.Nat.{sub-zero}
 use native.Mathlib.Omega.{arith}
-use Rattle.naturals.specs.Sum.{sumTo}
-use Rattle.naturals.proofs.Sums.{sumTo-zero, sumTo-suc, sumTo-cong}
+use Rattle.naturals.specs.Sum.{sum_to}
+use Rattle.naturals.proofs.Sums.{sum_to_zero, sum_to_suc, sum_to_cong}
 use Rattle.numbering.specs.Count.{vectors}
 use Rattle.numbering.specs.Number.{ending, rank}
-use Rattle.numbering.proofs.Vectors.{pascal, vectors-zero, vectors-more}
+use Rattle.numbering.proofs.Vectors.{pascal, vectors_zero, vectors_more}
 
-pub ending-is : (k s m : ℕ) → ending k s m ≡ vectors k (s - m)
+pub ending_is : (k s m : ℕ) → ending k s m ≡ vectors k (s - m)
 unfolding ending
-ending-is k s m = refl
+ending_is k s m = refl
 
-pub rank-zero : (l : ℕ → ℕ) → rank l 0 ≡ 0
+pub rank_zero : (l : ℕ → ℕ) → rank l 0 ≡ 0
 unfolding rank
-rank-zero l = refl
+rank_zero l = refl
 
-pub rank-suc : (l : ℕ → ℕ) (k : ℕ) → rank l (suc k) ≡ rank l k + sumTo (ending k (sumTo l (suc k))) (l k)
+pub rank_suc : (l : ℕ → ℕ) (k : ℕ) → rank l (suc k) ≡ rank l k + sum_to (ending k (sum_to l (suc k))) (l k)
 unfolding rank
-rank-suc l k = refl
+rank_suc l k = refl
 
 -- The vectors that end below m, and those that end at m or above: together all of them.
-pub ending-sum : (k s m : ℕ) → m ≤ s → sumTo (ending k s) m + vectors (suc k) (s - m) ≡ vectors (suc k) s
-ending-sum k s zero h = omega (arith, sumTo-zero (ending k s), ap (vectors (suc k)) (sub-zero s))
-ending-sum k s (suc m) h =
+pub ending_sum : (k s m : ℕ) → m ≤ s → sum_to (ending k s) m + vectors (suc k) (s - m) ≡ vectors (suc k) s
+ending_sum k s zero h = omega (arith, sum_to_zero (ending k s), ap (vectors (suc k)) (sub-zero s))
+ending_sum k s (suc m) h =
     let e : s - m ≡ suc (s - suc m) = omega arith in
     omega (
       arith,
-      sumTo-suc (ending k s) m,
-      ending-is k s m,
-      ending-sum k s m (omega arith),
+      sum_to_suc (ending k s) m,
+      ending_is k s m,
+      ending_sum k s m (omega arith),
       pascal k (s - suc m),
       ap (vectors (suc k)) e,
       ap (vectors k) e,
@@ -40,26 +40,26 @@ ending-sum k s (suc m) h =
 
 -- Two counts for each axis give the rank: it rises by the difference of row k + 1 at the two level sums.
 pub rank_step : (l : ℕ → ℕ) (k : ℕ) →
-    rank l (suc k) + vectors (suc k) (sumTo l k) ≡ rank l k + vectors (suc k) (sumTo l (suc k))
+    rank l (suc k) + vectors (suc k) (sum_to l k) ≡ rank l k + vectors (suc k) (sum_to l (suc k))
 rank_step l k =
-    let e : sumTo l (suc k) - l k ≡ sumTo l k = omega (arith, sumTo-suc l k) in
+    let e : sum_to l (suc k) - l k ≡ sum_to l k = omega (arith, sum_to_suc l k) in
     omega
-    (arith, rank-suc l k, ending-sum k (sumTo l (suc k)) (l k) (omega (arith, sumTo-suc l k)), ap (vectors (suc k)) e)
+    (arith, rank_suc l k, ending_sum k (sum_to l (suc k)) (l k) (omega (arith, sum_to_suc l k)), ap (vectors (suc k)) e)
 
 -- The rank is below the count of the level vectors of the level sum.
-pub rank_lt : (l : ℕ → ℕ) (k : ℕ) → rank l k < vectors k (sumTo l k)
-rank_lt l zero = omega (arith, rank-zero l, ap (vectors 0) (sumTo-zero l), vectors-zero 0)
-rank_lt l (suc k) = omega (arith, rank_step l k, rank_lt l k, vectors-more k (sumTo l k))
+pub rank_lt : (l : ℕ → ℕ) (k : ℕ) → rank l k < vectors k (sum_to l k)
+rank_lt l zero = omega (arith, rank_zero l, ap (vectors 0) (sum_to_zero l), vectors_zero 0)
+rank_lt l (suc k) = omega (arith, rank_step l k, rank_lt l k, vectors_more k (sum_to l k))
 
 -- The rank depends on the levels of its axes alone.
-pub rank-cong : (l m : ℕ → ℕ) (k : ℕ) → ((t : ℕ) → t < k → l t ≡ m t) → rank l k ≡ rank m k
-rank-cong l m zero same = omega (arith, rank-zero l, rank-zero m)
-rank-cong l m (suc k) same =
+pub rank_cong : (l m : ℕ → ℕ) (k : ℕ) → ((t : ℕ) → t < k → l t ≡ m t) → rank l k ≡ rank m k
+rank_cong l m zero same = omega (arith, rank_zero l, rank_zero m)
+rank_cong l m (suc k) same =
     omega (
       arith,
       rank_step l k,
       rank_step m k,
-      rank-cong l m k (λ t h. same t (omega arith)),
-      ap (vectors (suc k)) (sumTo-cong l m k (λ t h. same t (omega arith))),
-      ap (vectors (suc k)) (sumTo-cong l m (suc k) same),
+      rank_cong l m k (λ t h. same t (omega arith)),
+      ap (vectors (suc k)) (sum_to_cong l m k (λ t h. same t (omega arith))),
+      ap (vectors (suc k)) (sum_to_cong l m (suc k) same),
     )

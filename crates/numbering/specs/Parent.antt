@@ -11,19 +11,19 @@ numerator Left i = i - 1
 numerator Right i = i + 1
 
 -- A neighbour at 0 or 1 is the border.
-unfoldable pub isBorder : ℕ → ℕ → Bool
-isBorder l m = eqb m 0 || eqb m (2 ^ suc l)
+unfoldable pub is_border : ℕ → ℕ → Bool
+is_border l m = eqb m 0 || eqb m (2 ^ suc l)
 
 -- How many factors of two a numerator m has: its trailing zeros, for which m bits are enough.
 unfoldable pub twos : ℕ → ℕ
 twos m = count_trailing_zeros m m
 
 -- Numerator m and denominator 2^(l+1) without the factors of two that they share are the parent's odd index and 2^(its level + 1).
-unfoldable pub parentLevel : ℕ → ℕ → ℕ
-parentLevel l m = l - twos m
+unfoldable pub parent_level : ℕ → ℕ → ℕ
+parent_level l m = l - twos m
 
-unfoldable pub parentIndex : ℕ → ℕ
-parentIndex m = m / 2 ^ twos m
+unfoldable pub parent_index : ℕ → ℕ
+parent_index m = m / 2 ^ twos m
 
 -- The same numbers on every axis but t, where it is v.
 unfoldable pub update : (ℕ → ℕ) → ℕ → ℕ → ℕ → ℕ
@@ -36,12 +36,12 @@ pub data Neighbour : Type 0 where
 
 -- The point of levels l and indices i with those of numerator m on axis t.
 abbrev pub moved : ℕ → ℕ → (ℕ → ℕ) → (ℕ → ℕ) → Neighbour
-moved t m l i = inner (update l t (parentLevel (l t) m)) (update i t (parentIndex m))
+moved t m l i = inner (update l t (parent_level (l t) m)) (update i t (parent_index m))
 
 -- The parent on one side on axis t.
 unfoldable pub parent : ℕ → Side → (ℕ → ℕ) → (ℕ → ℕ) → Neighbour
 parent t side l i =
-    if isBorder (l t) (numerator side (i t)) then border else moved t (numerator side (i t)) l i
+    if is_border (l t) (numerator side (i t)) then border else moved t (numerator side (i t)) l i
 
 -- The parent of what lies beside a point: beyond the border there is only the border.
 unfoldable pub beyond : ℕ → Side → Neighbour → Neighbour

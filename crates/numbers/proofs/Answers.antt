@@ -7,19 +7,19 @@ use Rattle.refusals.specs.declared.Refusal.{Refusal}
 use Rattle.refusals.specs.declared.Refusal.TheVariants.{PointNumber}
 use Rattle.refusals.specs.declared.Verdict.TheVariants.{Passed, Refused}
 use Rattle.shapes.specs.declared.Shape.{Shape}
-use Rattle.shapes.specs.Shapes.{checkShape, pointsOf}
-use Rattle.points.specs.Points.{pointAt, found, refused}
-use Rattle.numbers.specs.Numbers.{pointOfNumber}
+use Rattle.shapes.specs.Shapes.{check_shape, points_of}
+use Rattle.points.specs.Points.{point_at, found, refused}
+use Rattle.numbers.specs.Numbers.{point_of_number}
 
 module _ (s : Shape) (p : ℕ) where
-  pub shape-refused : (r : Refusal) → checkShape s ≡ Refused r → pointOfNumber s p ≡ refused r
-  unfolding pointOfNumber
-  shape-refused r e = rw e
+  pub shape_refused : (r : Refusal) → check_shape s ≡ Refused r → point_of_number s p ≡ refused r
+  unfolding point_of_number
+  shape_refused r e = rw e
 
-  pub number-refused : checkShape s ≡ Passed → pointsOf s ≤ p → pointOfNumber s p ≡ refused PointNumber
-  unfolding pointOfNumber
-  number-refused e h = rw (e, le-ltb p (pointsOf s) h)
+  pub number_refused : check_shape s ≡ Passed → points_of s ≤ p → point_of_number s p ≡ refused PointNumber
+  unfolding point_of_number
+  number_refused e h = rw (e, le-ltb p (points_of s) h)
 
-  pub number-found : checkShape s ≡ Passed → p < pointsOf s → pointOfNumber s p ≡ found (pointAt s p)
-  unfolding pointOfNumber
-  number-found e h = rw (e, lt-ltb p (pointsOf s) h)
+  pub number_found : check_shape s ≡ Passed → p < points_of s → point_of_number s p ≡ found (point_at s p)
+  unfolding point_of_number
+  number_found e h = rw (e, lt-ltb p (points_of s) h)

@@ -4,35 +4,35 @@
 use mathlib.Core.Path.{◌≡◌, ap}
 use Prim.Native.Nat.{ℕ, suc, ◌-◌, ◌<◌}
 use native.Mathlib.Omega.{arith}
-use Rattle.naturals.specs.Sum.{sumTo}
+use Rattle.naturals.specs.Sum.{sum_to}
 use Rattle.numbering.specs.Count.{vectors, shell, start, points}
 use Rattle.numbering.specs.Number.{ending}
-use Rattle.numbering.specs.Inverse.{lastLevel, sumAt, within}
-use Rattle.numbering.proofs.Numbering.{start_is, points-is}
-use Rattle.numbering.proofs.Unrank.{all-endings}
+use Rattle.numbering.specs.Inverse.{last_level, sum_at, within}
+use Rattle.numbering.proofs.Numbering.{start_is, points_is}
+use Rattle.numbering.proofs.Unrank.{all_endings}
 use Rattle.numbers.specs.Steps.{Lies}
 
-pub number-inside : (d n p : ℕ) → p < points d n → p < sumTo (shell d) (suc n)
-number-inside d n p h = omega (arith, points-is d n, start_is d (suc n))
+pub number_inside : (d n p : ℕ) → p < points d n → p < sum_to (shell d) (suc n)
+number_inside d n p h = omega (arith, points_is d n, start_is d (suc n))
 
-pub rank-inside : (k s r : ℕ) → r < vectors (suc k) s → r < sumTo (ending k s) (suc s)
-rank-inside k s r h = omega (arith, all-endings k s)
+pub rank_inside : (k s r : ℕ) → r < vectors (suc k) s → r < sum_to (ending k s) (suc s)
+rank_inside k s r h = omega (arith, all_endings k s)
 
 -- The block of a point number is its level sum.
 module _ (d n p : ℕ) {s left : ℕ} (lies : Lies (shell d) n p s left) where
-  pub sum-found : sumAt d n p ≡ s
-  unfolding sumAt
-  sum-found = lies.here
+  pub sum_found : sum_at d n p ≡ s
+  unfolding sum_at
+  sum_found = lies.here
 
-  pub within-found : within d n p ≡ left
+  pub within_found : within d n p ≡ left
   unfolding within
-  within-found = omega (arith, ap (start d) sum-found, start_is d s, lies.rest)
+  within_found = omega (arith, ap (start d) sum_found, start_is d s, lies.rest)
 
 -- The block of a rank is the last level.
 module _ (k s r : ℕ) {j left : ℕ} (lies : Lies (ending k s) s r j left) where
-  pub last_found : lastLevel k s r ≡ j
-  unfolding lastLevel
+  pub last_found : last_level k s r ≡ j
+  unfolding last_level
   last_found = lies.here
 
-  pub rest-found : r - sumTo (ending k s) (lastLevel k s r) ≡ left
-  rest-found = omega (arith, ap (sumTo (ending k s)) last_found, lies.rest)
+  pub rest_found : r - sum_to (ending k s) (last_level k s r) ≡ left
+  rest_found = omega (arith, ap (sum_to (ending k s)) last_found, lies.rest)

@@ -1,14 +1,14 @@
 -- What the steps of the two calls answer: a search along blocks, and the indices of a position.
 -- Assumes nothing.
 use Rattle.std.specs.Prelude.{◌≡◌, ℕ, zero, ◌+◌, ltb, if◌then◌else◌}
-use Rattle.naturals.specs.Sum.{sumTo}
-use Rattle.numbering.specs.Inverse.{block, indexOf}
+use Rattle.naturals.specs.Sum.{sum_to}
+use Rattle.numbering.specs.Inverse.{block, index_of}
 
 -- Place r lies in block j of those up to m, where block 0 has the first f 0 places and so on, and `left` places of the block come before it.
 pub record Lies (f : ℕ → ℕ) (m r j left : ℕ) : Type 0 where
   pub here : block f m r ≡ j
-  pub rest : left + sumTo f j ≡ r
+  pub rest : left + sum_to f j ≡ r
 
 -- The index on axis t of the first d axes, of a point of the levels l that stands at position q; 0 past axis d.
-unfoldable pub indicesOf : ℕ → (ℕ → ℕ) → ℕ → ℕ → ℕ
-indicesOf d l q t = if ltb t d then indexOf l q t else zero
+unfoldable pub indices_of : ℕ → (ℕ → ℕ) → ℕ → ℕ → ℕ
+indices_of d l q t = if ltb t d then index_of l q t else zero

@@ -2,16 +2,16 @@
 #![tactic(auto)]
 
 ghost use Rattle.std.specs.Prelude.{◌≡◌, suc, ◌%◌, ◌^◌, ◌≤◌, ◌<◌};
-ghost use Rattle.naturals.specs.Sum.{sumTo};
+ghost use Rattle.naturals.specs.Sum.{sum_to};
 ghost use Rattle.numbering.specs.Count.{vectors, shell, points};
 ghost use Rattle.numbering.specs.Point.{at, IsPoint};
-ghost use Rattle.numbering.specs.Number.{firstOf, number, rank, position, ending};
-ghost use Rattle.numbering.specs.Inverse.{levelOf, sumAt, within, levelAt};
+ghost use Rattle.numbering.specs.Number.{first_of, number, rank, position, ending};
+ghost use Rattle.numbering.specs.Inverse.{level_of, sum_at, within, level_at};
 ghost use Rattle.shapes.specs.Shapes.{sparse};
 ghost use Rattle.shapes.specs.Rows.{Binomials};
-ghost use Rattle.points.specs.Points.{eight, pointAt};
-ghost use Rattle.numbers.specs.Numbers.{numberOfPoint, pointOfNumber};
-ghost use Rattle.numbers.specs.Steps.{Lies, indicesOf};
+ghost use Rattle.points.specs.Points.{eight, point_at};
+ghost use Rattle.numbers.specs.Numbers.{number_of_point, point_of_number};
+ghost use Rattle.numbers.specs.Steps.{Lies, indices_of};
 
 use points::{Located, Outcome, Point};
 use refusals::{Refusal, Verdict};
@@ -27,7 +27,7 @@ pub enum Numbered {
 
 // The rank of a level vector: two entries of the table for each axis.
 fn vector_rank(rows: &[[u16; 9]; 8], axes: usize, levels: [u32; 8]) -> u64
-    requires { Binomials rows.now × (axes ≤ 8) × (sumTo (at levels) axes ≤ 8) }
+    requires { Binomials rows.now × (axes ≤ 8) × (sum_to (at levels) axes ≤ 8) }
     ensures { result ≡ rank (at levels) axes }
 {
     let mut rank: u64 = 0;
@@ -63,8 +63,8 @@ fn position_at(axes: usize, p: Point) -> u64
 
 // The number of the first point of a level vector of these axes, whose levels sum to at most 8.
 pub fn first_of(axes: u32, levels: [u32; 8]) -> u64
-    requires { (1 ≤ axes) × (axes ≤ 8) × (sumTo (at levels) axes ≤ 8) }
-    ensures { result ≡ firstOf axes (at levels) }
+    requires { (1 ≤ axes) × (axes ≤ 8) × (sum_to (at levels) axes ≤ 8) }
+    ensures { result ≡ first_of axes (at levels) }
 {
     let rows = shapes::rows();
     let count = axes as usize;
@@ -84,7 +84,7 @@ fn number_at(axes: u32, p: Point) -> u64
 
 // The number of a point.
 pub fn number_of_point(shape: Shape, levels: &[u32], indices: &[u32]) -> Numbered
-    ensures { result ≡ numberOfPoint shape levels.now indices.now }
+    ensures { result ≡ number_of_point shape levels.now indices.now }
 {
     let given = points::point_from(shape, levels, indices);
     let verdict = given.verdict;
@@ -146,7 +146,7 @@ fn last_level(rows: &[[u16; 9]; 8], axes: u32, sum: u32, rank: u64) -> Place
 // The level vector of this rank and level sum, from the last axis down.
 fn levels_of(rows: &[[u16; 9]; 8], axes: u32, sum: u32, rank: u64) -> [u32; 8]
     requires { Binomials rows.now × (1 ≤ axes) × (axes ≤ 8) × (sum ≤ 8) × (rank < vectors axes sum) }
-    ensures { result ≡ eight (levelOf axes sum rank) }
+    ensures { result ≡ eight (level_of axes sum rank) }
 {
     let mut levels = [0u32; 8];
     let mut k = axes;
@@ -173,8 +173,8 @@ pub fn low_bits(x: u64, bits: u32) -> u64
 
 // The indices at a position among the points of a level vector: the digits of the position, axis 1 lowest, l_t bits for axis t.
 fn indices_of(axes: u32, levels: [u32; 8], position: u64) -> [u32; 8]
-    requires { (axes ≤ 8) × (sumTo (at levels) axes ≤ 8) }
-    ensures { result ≡ eight (indicesOf axes (at levels) position) }
+    requires { (axes ≤ 8) × (sum_to (at levels) axes ≤ 8) }
+    ensures { result ≡ eight (indices_of axes (at levels) position) }
 {
     let mut indices = [0u32; 8];
     let mut rest = position;
@@ -200,7 +200,7 @@ pub struct Placed {
 // Where point number `number` of these axes and top level lies.
 pub fn vector_at(axes: u32, level: u32, number: u64) -> Placed
     requires { (1 ≤ axes) × (axes ≤ 8) × (level ≤ 8) × (number < points axes level) }
-    ensures { (result.sum ≡ sumAt axes level number) × (result.levels ≡ eight (levelAt axes level number)) × (result.position ≡ within axes level number % 2 ^ sumAt axes level number) }
+    ensures { (result.sum ≡ sum_at axes level number) × (result.levels ≡ eight (level_at axes level number)) × (result.position ≡ within axes level number % 2 ^ sum_at axes level number) }
 {
     let rows = shapes::rows();
     let place = shell_of(&rows, axes, level, number);
@@ -217,7 +217,7 @@ pub fn vector_at(axes: u32, level: u32, number: u64) -> Placed
 // Point number `number` of these axes and top level.
 fn point_at(axes: u32, level: u32, number: u64) -> Point
     requires { (1 ≤ axes) × (axes ≤ 8) × (level ≤ 8) × (number < points axes level) }
-    ensures { result ≡ pointAt (sparse axes level) number }
+    ensures { result ≡ point_at (sparse axes level) number }
 {
     let placed = vector_at(axes, level, number);
     let levels = placed.levels;
@@ -230,7 +230,7 @@ fn point_at(axes: u32, level: u32, number: u64) -> Point
 
 // The point of a number.
 pub fn point_of_number(shape: Shape, number: u64) -> Located
-    ensures { result ≡ pointOfNumber shape number }
+    ensures { result ≡ point_of_number shape number }
 {
     if let Verdict::Refused(r) = shapes::check_shape(shape) {
         return points::nowhere(Outcome::Refused(r));

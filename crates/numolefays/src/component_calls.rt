@@ -1,8 +1,8 @@
 // Component grids: full grids refined differently on each axis, known by their top levels.
 ghost use Rattle.std.specs.Prelude.{◌≡◌};
-ghost use Rattle.components.specs.Components.{componentCoefficients};
+ghost use Rattle.components.specs.Components.{component_coefficients};
 ghost use Rattle.answers.specs.Returned.{returned};
-ghost use Rattle.answers.specs.Answers.{ofLeft};
+ghost use Rattle.answers.specs.Answers.{of_left};
 
 // Rates to coefficients on the grid of a list of top levels.
 #[unsafe(no_mangle)]
@@ -11,7 +11,7 @@ pub extern "C" fn numolefays_component_coefficients(
     table: &mut [i64],
     place: &mut u64,
 ) -> u32
-    ensures { returned result place.new table.new ≡ ofLeft (componentCoefficients levels.now table.old) }
+    ensures { returned result place.new table.new ≡ of_left (component_coefficients levels.now table.old) }
 {
     let verdict = components::component_coefficients(levels, table);
     answers::tell(verdict, place)

@@ -1,10 +1,10 @@
 // House files.
 ghost use Rattle.std.specs.Prelude.{◌≡◌};
-ghost use Rattle.house_file.specs.Files.{shapeOfFile, readFile};
-ghost use Rattle.house_writer.specs.Writing.{writeFile};
-ghost use Rattle.house_writer.specs.Rewriting.{rewriteFile};
+ghost use Rattle.house_file.specs.Files.{shape_of_file, read_file};
+ghost use Rattle.house_writer.specs.Writing.{write_file};
+ghost use Rattle.house_writer.specs.Rewriting.{rewrite_file};
 ghost use Rattle.answers.specs.Returned.{returned};
-ghost use Rattle.answers.specs.Answers.{shapeOf, ofReading, ofNamed, ofWriting};
+ghost use Rattle.answers.specs.Answers.{shape_of, of_reading, of_named, of_writing};
 
 use house_file::Opened;
 
@@ -17,7 +17,7 @@ pub extern "C" fn numolefays_read_house_file(
     level: &mut u32,
     place: &mut u64,
 ) -> u32
-    ensures { returned result place.new (axes.new, level.new, table.new) ≡ ofReading (axes.old, level.old) (readFile bytes.now table.old) }
+    ensures { returned result place.new (axes.new, level.new, table.new) ≡ of_reading (axes.old, level.old) (read_file bytes.now table.old) }
 {
     match house_file::read(bytes, table) {
         Opened::Refused(r) => answers::refuse(r, place),
@@ -38,7 +38,7 @@ pub extern "C" fn numolefays_house_file_shape(
     points: &mut u64,
     place: &mut u64,
 ) -> u32
-    ensures { returned result place.new (axes.new, level.new, points.new) ≡ ofNamed (axes.old, level.old, points.old) (shapeOfFile bytes.now) }
+    ensures { returned result place.new (axes.new, level.new, points.new) ≡ of_named (axes.old, level.old, points.old) (shape_of_file bytes.now) }
 {
     match house_file::shape_of(bytes) {
         Opened::Refused(r) => answers::refuse(r, place),
@@ -61,7 +61,7 @@ pub extern "C" fn numolefays_write_house_file(
     length: &mut u64,
     place: &mut u64,
 ) -> u32
-    ensures { returned result place.new (length.new, out.new) ≡ ofWriting length.old (writeFile (shapeOf axes level) rates.now out.old) }
+    ensures { returned result place.new (length.new, out.new) ≡ of_writing length.old (write_file (shape_of axes level) rates.now out.old) }
 {
     let answer = house_writer::write(answers::shape_of(axes, level), rates, out);
     answers::hand_length(answer, length, place)
@@ -76,7 +76,7 @@ pub extern "C" fn numolefays_rewrite_house_file(
     length: &mut u64,
     place: &mut u64,
 ) -> u32
-    ensures { returned result place.new (length.new, out.new) ≡ ofWriting length.old (rewriteFile most bytes.now out.old) }
+    ensures { returned result place.new (length.new, out.new) ≡ of_writing length.old (rewrite_file most bytes.now out.old) }
 {
     let answer = house_writer::rewrite(bytes, most, out);
     answers::hand_length(answer, length, place)

@@ -1,11 +1,11 @@
 // Points: their count, numbers, successors and parents.
 ghost use Rattle.std.specs.Prelude.{◌≡◌};
 ghost use Rattle.shapes.specs.Shapes.{counted};
-ghost use Rattle.numbers.specs.Numbers.{numberOfPoint, pointOfNumber};
-ghost use Rattle.successor.specs.Successor.{successorOf};
-ghost use Rattle.parents.specs.Parents.{parentOf};
+ghost use Rattle.numbers.specs.Numbers.{number_of_point, point_of_number};
+ghost use Rattle.successor.specs.Successor.{successor_of};
+ghost use Rattle.parents.specs.Parents.{parent_of};
 ghost use Rattle.answers.specs.Returned.{returned};
-ghost use Rattle.answers.specs.Answers.{shapeOf, sideOf, ofCounted, ofNumbered, ofPoint, ofLocated};
+ghost use Rattle.answers.specs.Answers.{shape_of, side_of, of_counted, of_numbered, of_point, of_located};
 
 use numbers::Numbered;
 use shapes::Counted;
@@ -13,7 +13,7 @@ use shapes::Counted;
 // How many points the shape has.
 #[unsafe(no_mangle)]
 pub extern "C" fn numolefays_count(axes: u32, level: u32, points: &mut u64, place: &mut u64) -> u32
-    ensures { returned result place.new points.new ≡ ofCounted points.old (counted (shapeOf axes level)) }
+    ensures { returned result place.new points.new ≡ of_counted points.old (counted (shape_of axes level)) }
 {
     match shapes::count(answers::shape_of(axes, level)) {
         Counted::Refused(r) => answers::refuse(r, place),
@@ -34,7 +34,7 @@ pub extern "C" fn numolefays_number_of_point(
     number: &mut u64,
     place: &mut u64,
 ) -> u32
-    ensures { returned result place.new number.new ≡ ofNumbered number.old (numberOfPoint (shapeOf axes level) levels.now indices.now) }
+    ensures { returned result place.new number.new ≡ of_numbered number.old (number_of_point (shape_of axes level) levels.now indices.now) }
 {
     match numbers::number_of_point(answers::shape_of(axes, level), levels, indices) {
         Numbered::Refused(r) => answers::refuse(r, place),
@@ -55,7 +55,7 @@ pub extern "C" fn numolefays_point_of_number(
     indices: &mut [u32; 8],
     place: &mut u64,
 ) -> u32
-    ensures { returned result place.new (levels.new, indices.new) ≡ ofPoint (levels.old, indices.old) (pointOfNumber (shapeOf axes level) number) }
+    ensures { returned result place.new (levels.new, indices.new) ≡ of_point (levels.old, indices.old) (point_of_number (shape_of axes level) number) }
 {
     let located = numbers::point_of_number(answers::shape_of(axes, level), number);
     let mut none: u32 = 0;
@@ -74,7 +74,7 @@ pub extern "C" fn numolefays_successor(
     end: &mut u32,
     place: &mut u64,
 ) -> u32
-    ensures { returned result place.new (next_levels.new, next_indices.new, end.new) ≡ ofLocated (next_levels.old, next_indices.old, end.old) (successorOf (shapeOf axes level) levels.now indices.now) }
+    ensures { returned result place.new (next_levels.new, next_indices.new, end.new) ≡ of_located (next_levels.old, next_indices.old, end.old) (successor_of (shape_of axes level) levels.now indices.now) }
 {
     let located = successor::successor(answers::shape_of(axes, level), levels, indices);
     answers::hand_point(located, next_levels, next_indices, end, place)
@@ -94,7 +94,7 @@ pub extern "C" fn numolefays_parent(
     border: &mut u32,
     place: &mut u64,
 ) -> u32
-    ensures { returned result place.new (parent_levels.new, parent_indices.new, border.new) ≡ ofLocated (parent_levels.old, parent_indices.old, border.old) (parentOf (shapeOf axes level) levels.now indices.now axis (sideOf side)) }
+    ensures { returned result place.new (parent_levels.new, parent_indices.new, border.new) ≡ of_located (parent_levels.old, parent_indices.old, border.old) (parent_of (shape_of axes level) levels.now indices.now axis (side_of side)) }
 {
     let shape = answers::shape_of(axes, level);
     let located = parents::parent(shape, levels, indices, axis, answers::side_of(side));

@@ -1,9 +1,9 @@
 // Tables: load, adopt, unload, and the two whole calls.
 ghost use Rattle.std.specs.Prelude.{◌≡◌};
 ghost use Rattle.tables.specs.Tables.{load, adopt, unload};
-ghost use Rattle.whole.specs.Whole.{ratesToCoefficients, coefficientsToRates};
+ghost use Rattle.whole.specs.Whole.{rates_to_coefficients, coefficients_to_rates};
 ghost use Rattle.answers.specs.Returned.{returned};
-ghost use Rattle.answers.specs.Answers.{shapeOf, stateOf, ofAnswer, ofAfter, ofLeft};
+ghost use Rattle.answers.specs.Answers.{shape_of, state_of, of_answer, of_after, of_left};
 
 // Rates to a loaded table, no axis forward.
 #[unsafe(no_mangle)]
@@ -14,7 +14,7 @@ pub extern "C" fn numolefays_load(
     forward: &mut u8,
     place: &mut u64,
 ) -> u32
-    ensures { returned result place.new (forward.new, table.new) ≡ ofAfter forward.old (load (shapeOf axes level) table.old) }
+    ensures { returned result place.new (forward.new, table.new) ≡ of_after forward.old (load (shape_of axes level) table.old) }
 {
     let answer = tables::load(answers::shape_of(axes, level), table);
     answers::hand_state(answer, forward, place)
@@ -29,7 +29,7 @@ pub extern "C" fn numolefays_adopt(
     forward: &mut u8,
     place: &mut u64,
 ) -> u32
-    ensures { returned result place.new forward.new ≡ ofAnswer forward.old (adopt (shapeOf axes level) table.now) }
+    ensures { returned result place.new forward.new ≡ of_answer forward.old (adopt (shape_of axes level) table.now) }
 {
     let answer = tables::adopt(answers::shape_of(axes, level), table);
     answers::hand_state(answer, forward, place)
@@ -44,7 +44,7 @@ pub extern "C" fn numolefays_unload(
     table: &mut [i64],
     place: &mut u64,
 ) -> u32
-    ensures { returned result place.new table.new ≡ ofLeft (unload (stateOf axes level forward) table.old) }
+    ensures { returned result place.new table.new ≡ of_left (unload (state_of axes level forward) table.old) }
 {
     let verdict = tables::unload(answers::state_of(axes, level, forward), table);
     answers::tell(verdict, place)
@@ -58,7 +58,7 @@ pub extern "C" fn numolefays_rates_to_coefficients(
     table: &mut [i64],
     place: &mut u64,
 ) -> u32
-    ensures { returned result place.new table.new ≡ ofLeft (ratesToCoefficients (shapeOf axes level) table.old) }
+    ensures { returned result place.new table.new ≡ of_left (rates_to_coefficients (shape_of axes level) table.old) }
 {
     let verdict = whole::rates_to_coefficients(answers::shape_of(axes, level), table);
     answers::tell(verdict, place)
@@ -72,7 +72,7 @@ pub extern "C" fn numolefays_coefficients_to_rates(
     table: &mut [i64],
     place: &mut u64,
 ) -> u32
-    ensures { returned result place.new table.new ≡ ofLeft (coefficientsToRates (shapeOf axes level) table.old) }
+    ensures { returned result place.new table.new ≡ of_left (coefficients_to_rates (shape_of axes level) table.old) }
 {
     let verdict = whole::coefficients_to_rates(answers::shape_of(axes, level), table);
     answers::tell(verdict, place)

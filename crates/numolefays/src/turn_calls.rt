@@ -1,9 +1,9 @@
 // Turns: forward, back, and a list of them. A state goes in as shape and set of forward axes, bit t − 1 for axis t; the set comes out.
 ghost use Rattle.std.specs.Prelude.{◌≡◌};
-ghost use Rattle.turns.specs.Turns.{forwardTurn, backTurn};
-ghost use Rattle.runs.specs.Calls.{runCalls};
+ghost use Rattle.turns.specs.Turns.{forward_turn, back_turn};
+ghost use Rattle.runs.specs.Calls.{run_calls};
 ghost use Rattle.answers.specs.Returned.{returned};
-ghost use Rattle.answers.specs.Answers.{stateOf, ofAfter, ofReport};
+ghost use Rattle.answers.specs.Answers.{state_of, of_after, of_report};
 
 // Forward on an axis.
 #[unsafe(no_mangle)]
@@ -15,7 +15,7 @@ pub extern "C" fn numolefays_forward(
     axis: u32,
     place: &mut u64,
 ) -> u32
-    ensures { returned result place.new (forward.new, table.new) ≡ ofAfter forward.old (forwardTurn (stateOf axes level forward.old) table.old axis) }
+    ensures { returned result place.new (forward.new, table.new) ≡ of_after forward.old (forward_turn (state_of axes level forward.old) table.old axis) }
 {
     let answer = turns::hierarchize(answers::state_of(axes, level, *forward), table, axis);
     answers::hand_state(answer, forward, place)
@@ -31,7 +31,7 @@ pub extern "C" fn numolefays_back(
     axis: u32,
     place: &mut u64,
 ) -> u32
-    ensures { returned result place.new (forward.new, table.new) ≡ ofAfter forward.old (backTurn (stateOf axes level forward.old) table.old axis) }
+    ensures { returned result place.new (forward.new, table.new) ≡ of_after forward.old (back_turn (state_of axes level forward.old) table.old axis) }
 {
     let answer = turns::dehierarchize(answers::state_of(axes, level, *forward), table, axis);
     answers::hand_state(answer, forward, place)
@@ -50,7 +50,7 @@ pub extern "C" fn numolefays_run(
     places: &mut [u64],
     place: &mut u64,
 ) -> u32
-    ensures { returned result place.new (forward.new, table.new, numbers.new, places.new) ≡ ofReport forward.old (runCalls (stateOf axes level forward.old) table.old directions.now turned.now numbers.old places.old) }
+    ensures { returned result place.new (forward.new, table.new, numbers.new, places.new) ≡ of_report forward.old (run_calls (state_of axes level forward.old) table.old directions.now turned.now numbers.old places.old) }
 {
     let state = answers::state_of(axes, level, *forward);
     let answer = runs::run(state, table, directions, turned, numbers, places);

@@ -5,21 +5,21 @@ use mathlib.Core.List.{List}
 use mathlib.Core.Path.{◌≡◌, refl}
 use Prim.Native.Nat.{ℕ, suc, ◌-◌, ◌%◌, ◌^◌, ◌≤◌, ◌<◌}
 use native.Mathlib.Omega.{arith}
-use Rattle.naturals.proofs.Sums.{term-le}
+use Rattle.naturals.proofs.Sums.{term_le}
 use Rattle.refusals.specs.declared.Verdict.{Verdict}
 use Rattle.refusals.specs.declared.Verdict.TheVariants.{Passed, Refused}
-use Rattle.refusals.specs.Checks.{◌andThen◌}
-use Rattle.refusals.proofs.Passing.{first-passed, next-passed}
+use Rattle.refusals.specs.Checks.{◌and_then◌}
+use Rattle.refusals.proofs.Passing.{first_passed, next_passed}
 use Rattle.numbering.specs.Point.{at}
 use Rattle.shapes.specs.declared.Shape.{Shape}
-use Rattle.shapes.specs.Shapes.{checkShape, checkAxis}
-use Rattle.shapes.proofs.Checked.{axis-in-range}
+use Rattle.shapes.specs.Shapes.{check_shape, check_axis}
+use Rattle.shapes.proofs.Checked.{axis_in_range}
 use Rattle.points.specs.declared.Given.{Given}
 use Rattle.points.specs.declared.Point.{Point}
-use Rattle.points.specs.Points.{checkLists, checkPoint, pointFrom}
-use Rattle.points.proofs.Handed.{Handed, handed, verdict-is}
+use Rattle.points.specs.Points.{check_lists, check_point, point_from}
+use Rattle.points.proofs.Handed.{Handed, handed, verdict_is}
 
-again : (v w x : Verdict) → v andThen w andThen (v andThen x) ≡ v andThen w andThen x
+again : (v w x : Verdict) → v and_then w and_then (v and_then x) ≡ v and_then w and_then x
 again Passed w x = refl
 again (Refused r) w x = refl
 
@@ -35,17 +35,17 @@ pub record Accepted (s : Shape) (ls is : List ℕ) (axis : ℕ) (p : Point) : Ty
   pub handed : Handed s ls is p
   pub steps : Steps (axis - 1) (at p.levels) (at p.indices)
 
-module _ (s : Shape) (ls is : List ℕ) (axis : ℕ) {g : Given} (e : g ≡ pointFrom s ls is) where
+module _ (s : Shape) (ls is : List ℕ) (axis : ℕ) {g : Given} (e : g ≡ point_from s ls is) where
   -- The checks in the order of document 01.
-  pub checks : checkShape s andThen checkAxis s axis andThen g.verdict ≡ checkShape s andThen checkAxis s axis andThen checkLists s ls is
-  unfolding checkPoint
-  checks = rw (verdict-is s ls is e) (again (checkShape s) (checkAxis s axis) (checkLists s ls is))
+  pub checks : check_shape s and_then check_axis s axis and_then g.verdict ≡ check_shape s and_then check_axis s axis and_then check_lists s ls is
+  unfolding check_point
+  checks = rw (verdict_is s ls is e) (again (check_shape s) (check_axis s axis) (check_lists s ls is))
 
-  pub accepted : checkShape s andThen checkAxis s axis andThen g.verdict ≡ Passed → Accepted s ls is axis g.point
+  pub accepted : check_shape s and_then check_axis s axis and_then g.verdict ≡ Passed → Accepted s ls is axis g.point
   accepted passed =
-      let rest = next-passed (checkShape s) (checkAxis s axis andThen g.verdict) passed in
-      let one = axis-in-range s axis (first-passed (checkAxis s axis) g.verdict rest) in
-      let p = handed s ls is e (next-passed (checkAxis s axis) g.verdict rest) in
+      let rest = next_passed (check_shape s) (check_axis s axis and_then g.verdict) passed in
+      let one = axis_in_range s axis (first_passed (check_axis s axis) g.verdict rest) in
+      let p = handed s ls is e (next_passed (check_axis s axis) g.verdict rest) in
       let point = p.inside.point in
       record {
         low = one.0;
@@ -56,7 +56,7 @@ module _ (s : Shape) (ls is : List ℕ) (axis : ℕ) {g : Given} (e : g ≡ poin
               small =
                   omega (
                     arith,
-                    term-le (at g.point.levels) s.axes (axis - 1) (omega (arith, one)),
+                    term_le (at g.point.levels) s.axes (axis - 1) (omega (arith, one)),
                     point.sum,
                     p.shape.top,
                   );

@@ -2,11 +2,11 @@
 #![tactic(auto)]
 
 ghost use Rattle.std.specs.Prelude.{◌≡◌, ◌%◌, ◌^◌, ◌≤◌, ◌<◌, suc};
-ghost use Rattle.refusals.specs.Checks.{◌andThen◌};
+ghost use Rattle.refusals.specs.Checks.{◌and_then◌};
 ghost use Rattle.numbering.specs.Point.{at};
-ghost use Rattle.numbering.specs.Parent.{numerator, isBorder, parentLevel, parentIndex, parent};
-ghost use Rattle.shapes.specs.Shapes.{checkShape, checkAxis};
-ghost use Rattle.parents.specs.Parents.{located, parentOf};
+ghost use Rattle.numbering.specs.Parent.{numerator, is_border, parent_level, parent_index, parent};
+ghost use Rattle.shapes.specs.Shapes.{check_shape, check_axis};
+ghost use Rattle.parents.specs.Parents.{located, parent_of};
 
 use numbering::Side;
 use points::{Located, Outcome, Point};
@@ -27,7 +27,7 @@ fn neighbour(side: Side, index: u32) -> u32
 // A neighbour at 0 or 1 is the border.
 pub fn is_border(level: u32, numerator: u32) -> bool
     requires { level ≤ 8 }
-    ensures { result ≡ isBorder level numerator }
+    ensures { result ≡ is_border level numerator }
 {
     if numerator == 0 {
         return true;
@@ -45,7 +45,7 @@ pub struct Placed {
 // The parent at a numerator within the borders: each factor of two that it shares with the denominator 2^(l+1) is dropped.
 pub fn reduce(level: u32, numerator: u32) -> Placed
     requires { (level ≤ 8) × (numerator % 2 ≡ 0) × (0 < numerator) × (numerator < 2 ^ suc level) }
-    ensures { (result.level ≡ parentLevel level numerator) × (result.index ≡ parentIndex numerator) }
+    ensures { (result.level ≡ parent_level level numerator) × (result.index ≡ parent_index numerator) }
 {
     let twos = u32::trailing_zeros(numerator);
     Placed {
@@ -76,7 +76,7 @@ fn parent_on(t: usize, side: Side, p: Point) -> Located
 
 // Refused with 1, 2 or 5, else for what the point was.
 fn check(shape: Shape, axis: u32, verdict: Verdict) -> Verdict
-    ensures { result ≡ checkShape shape andThen checkAxis shape axis andThen verdict }
+    ensures { result ≡ check_shape shape and_then check_axis shape axis and_then verdict }
 {
     match shapes::check_shape(shape) {
         Verdict::Refused(r) => Verdict::Refused(r),
@@ -89,7 +89,7 @@ fn check(shape: Shape, axis: u32, verdict: Verdict) -> Verdict
 
 // The parent of a point that is handed in as two lists. Its verdict tests the shape once more.
 pub fn parent(shape: Shape, levels: &[u32], indices: &[u32], axis: u32, side: Side) -> Located
-    ensures { result ≡ parentOf shape levels.now indices.now axis side }
+    ensures { result ≡ parent_of shape levels.now indices.now axis side }
 {
     let given = points::point_from(shape, levels, indices);
     let verdict = given.verdict;

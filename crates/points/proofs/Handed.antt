@@ -9,9 +9,9 @@ use Rattle.shapes.specs.declared.Shape.{Shape}
 use Rattle.shapes.proofs.Checked.{InRange}
 use Rattle.points.specs.declared.Given.{Given}
 use Rattle.points.specs.declared.Point.{Point}
-use Rattle.points.specs.Points.{checkPoint, pointOf, pointFrom}
+use Rattle.points.specs.Points.{check_point, point_of, point_from}
 use Rattle.points.specs.Steps.{PointIn}
-use Rattle.points.proofs.Passed.{point-passed, levels-by-value, indices-by-value, point-by-value}
+use Rattle.points.proofs.Passed.{point_passed, levels_by_value, indices_by_value, point_by_value}
 
 pub record Handed (s : Shape) (ls is : List ℕ) (p : Point) : Type 0 where
   pub shape : InRange s
@@ -19,22 +19,22 @@ pub record Handed (s : Shape) (ls is : List ℕ) (p : Point) : Type 0 where
   pub levels : at p.levels ≡ at ls
   pub indices : at p.indices ≡ at is
 
-module _ (s : Shape) (ls is : List ℕ) {g : Given} (e : g ≡ pointFrom s ls is) where
-  pub verdict-is : g.verdict ≡ checkPoint s ls is
-  unfolding pointFrom
-  verdict-is = ap (λ (x : Given). x.verdict) e
+module _ (s : Shape) (ls is : List ℕ) {g : Given} (e : g ≡ point_from s ls is) where
+  pub verdict_is : g.verdict ≡ check_point s ls is
+  unfolding point_from
+  verdict_is = ap (λ (x : Given). x.verdict) e
 
-  point-is : g.point ≡ pointOf (at ls) (at is)
-  unfolding pointFrom
-  point-is = ap (λ (x : Given). x.point) e
+  point_is : g.point ≡ point_of (at ls) (at is)
+  unfolding point_from
+  point_is = ap (λ (x : Given). x.point) e
 
   pub handed : g.verdict ≡ Passed → Handed s ls is g.point
   handed passed =
-      let passes = point-passed s ls is (sym verdict-is ∙ passed) in
-      rw point-is
+      let passes = point_passed s ls is (sym verdict_is ∙ passed) in
+      rw point_is
       (record {
         shape = passes.shape;
-        inside = point-by-value passes;
-        levels = levels-by-value passes;
-        indices = indices-by-value passes;
+        inside = point_by_value passes;
+        levels = levels_by_value passes;
+        indices = indices_by_value passes;
       })

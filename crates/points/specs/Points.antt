@@ -4,11 +4,11 @@ use Rattle.std.specs.Prelude.{◌&&◌, List, [], ◌∷◌, ℕ, eqb, length}
 use Rattle.refusals.specs.declared.Refusal.{Refusal}
 use Rattle.refusals.specs.declared.Refusal.TheVariants.{ListLength, NoPoint}
 use Rattle.refusals.specs.declared.Verdict.{Verdict}
-use Rattle.refusals.specs.Checks.{unless, ◌andThen◌}
-use Rattle.numbering.specs.Point.{at, isPoint}
+use Rattle.refusals.specs.Checks.{unless, ◌and_then◌}
+use Rattle.numbering.specs.Point.{at, is_point}
 use Rattle.shapes.specs.declared.Shape.{Shape}
-use Rattle.shapes.specs.Shapes.{checkShape}
-use Rattle.grids.specs.Grids.{levelOn, indexOn}
+use Rattle.shapes.specs.Shapes.{check_shape}
+use Rattle.grids.specs.Grids.{level_on, index_on}
 use Rattle.points.specs.declared.Point.{Point}
 use Rattle.points.specs.declared.Outcome.{Outcome}
 use Rattle.points.specs.declared.Outcome.TheVariants.{Found, Refused}
@@ -16,30 +16,30 @@ use Rattle.points.specs.declared.Located.{Located}
 use Rattle.points.specs.declared.Given.{Given}
 
 -- Levels and indices are lists of length d (else 7) that name a point of the shape (else 9).
-unfoldable pub checkLists : Shape → List ℕ → List ℕ → Verdict
-checkLists s ls is =
+unfoldable pub check_lists : Shape → List ℕ → List ℕ → Verdict
+check_lists s ls is =
     unless (eqb (length ls) s.axes && eqb (length is) s.axes) ListLength
-    andThen unless (isPoint s.axes s.level (at ls) (at is)) NoPoint
+    and_then unless (is_point s.axes s.level (at ls) (at is)) NoPoint
 
 -- A point handed in as two lists: refused with 1, 2, 7 or 9.
-unfoldable pub checkPoint : Shape → List ℕ → List ℕ → Verdict
-checkPoint s ls is = checkShape s andThen checkLists s ls is
+unfoldable pub check_point : Shape → List ℕ → List ℕ → Verdict
+check_point s ls is = check_shape s and_then check_lists s ls is
 
 -- A number for each of the eight axes there can be.
 unfoldable pub eight : (ℕ → ℕ) → List ℕ
 eight f = f 0 ∷ f 1 ∷ f 2 ∷ f 3 ∷ f 4 ∷ f 5 ∷ f 6 ∷ f 7 ∷ []
 
 -- A point by value, with these levels and indices.
-abbrev pub pointOf : (ℕ → ℕ) → (ℕ → ℕ) → Point
-pointOf l i = record { levels = eight l; indices = eight i }
+abbrev pub point_of : (ℕ → ℕ) → (ℕ → ℕ) → Point
+point_of l i = record { levels = eight l; indices = eight i }
 
 -- A point handed in as two lists: by value (of longer lists the first eight numbers), with the verdict on it.
-unfoldable pub pointFrom : Shape → List ℕ → List ℕ → Given
-pointFrom s ls is = record { verdict = checkPoint s ls is; point = pointOf (at ls) (at is) }
+unfoldable pub point_from : Shape → List ℕ → List ℕ → Given
+point_from s ls is = record { verdict = check_point s ls is; point = point_of (at ls) (at is) }
 
 -- Point number p of a shape, places past axis d zero.
-unfoldable pub pointAt : Shape → ℕ → Point
-pointAt s p = pointOf (levelOn s p) (indexOn s p)
+unfoldable pub point_at : Shape → ℕ → Point
+point_at s p = point_of (level_on s p) (index_on s p)
 
 -- Where there is no point: zero for every axis.
 abbrev pub none : ℕ → ℕ
@@ -50,7 +50,7 @@ abbrev pub found : Point → Located
 found p = record { outcome = Found; point = p }
 
 abbrev pub nowhere : Outcome → Located
-nowhere o = record { outcome = o; point = pointOf none none }
+nowhere o = record { outcome = o; point = point_of none none }
 
 abbrev pub refused : Refusal → Located
 refused r = nowhere (Refused r)

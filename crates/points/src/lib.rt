@@ -2,8 +2,8 @@
 #![tactic(auto)]
 
 ghost use Rattle.std.specs.Prelude.{◌≡◌, ◌≤◌, length};
-ghost use Rattle.numbering.specs.Point.{at, isIndex, isPoint};
-ghost use Rattle.points.specs.Points.{eight, none, checkLists, checkPoint, pointFrom, pointOf, nowhere};
+ghost use Rattle.numbering.specs.Point.{at, is_index, is_point};
+ghost use Rattle.points.specs.Points.{eight, none, check_lists, check_point, point_from, point_of, nowhere};
 
 use refusals::{Refusal, Verdict};
 use shapes::Shape;
@@ -41,7 +41,7 @@ pub struct Given {
 // An odd index below 2^(l+1).
 fn is_index(l: u32, i: u32) -> bool
     requires { l ≤ 8 }
-    ensures { result ≡ isIndex l i }
+    ensures { result ≡ is_index l i }
 {
     if i % 2 != 1 {
         return false;
@@ -52,7 +52,7 @@ fn is_index(l: u32, i: u32) -> bool
 // Levels that sum to at most the top level, each with an index of it. No sum is formed of levels that were not tested.
 fn is_point(level: u32, levels: &[u32], indices: &[u32]) -> bool
     requires { (level ≤ 8) × (length levels.now ≡ length indices.now) }
-    ensures { result ≡ isPoint (length levels.now) level (at levels.now) (at indices.now) }
+    ensures { result ≡ is_point (length levels.now) level (at levels.now) (at indices.now) }
 {
     let mut left = level;
     let mut t: usize = 0;
@@ -73,7 +73,7 @@ fn is_point(level: u32, levels: &[u32], indices: &[u32]) -> bool
 // Refused with 7 or 9.
 fn check_lists(shape: Shape, levels: &[u32], indices: &[u32]) -> Verdict
     requires { (shape.axes ≤ 8) × (shape.level ≤ 8) }
-    ensures { result ≡ checkLists shape levels.now indices.now }
+    ensures { result ≡ check_lists shape levels.now indices.now }
 {
     let axes = shape.axes as usize;
     if levels.len() != axes {
@@ -91,7 +91,7 @@ fn check_lists(shape: Shape, levels: &[u32], indices: &[u32]) -> Verdict
 
 // Refused with 1, 2, 7 or 9.
 fn check_point(shape: Shape, levels: &[u32], indices: &[u32]) -> Verdict
-    ensures { result ≡ checkPoint shape levels.now indices.now }
+    ensures { result ≡ check_point shape levels.now indices.now }
 {
     match shapes::check_shape(shape) {
         Verdict::Refused(r) => Verdict::Refused(r),
@@ -101,7 +101,7 @@ fn check_point(shape: Shape, levels: &[u32], indices: &[u32]) -> Verdict
 
 // A point that is handed in as two lists: by value, with the verdict on it.
 pub fn point_from(shape: Shape, levels: &[u32], indices: &[u32]) -> Given
-    ensures { result ≡ pointFrom shape levels.now indices.now }
+    ensures { result ≡ point_from shape levels.now indices.now }
 {
     Given {
         verdict: check_point(shape, levels, indices),
@@ -150,7 +150,7 @@ pub fn nowhere(why: Outcome) -> Located
 
 // All zeros.
 fn no_point() -> Point
-    ensures { result ≡ pointOf none none }
+    ensures { result ≡ point_of none none }
 {
     Point {
         levels: [0; 8],

@@ -5,16 +5,16 @@ use mathlib.Core.Bool.{Bool, true, false}
 use Rattle.refusals.specs.declared.Refusal.{Refusal}
 use Rattle.refusals.specs.declared.Verdict.{Verdict}
 use Rattle.refusals.specs.declared.Verdict.TheVariants.{Passed, Refused}
-use Rattle.refusals.specs.Checks.{unless, ◌andThen◌}
+use Rattle.refusals.specs.Checks.{unless, ◌and_then◌}
 
-pub first-passed : (a b : Verdict) → a andThen b ≡ Passed → a ≡ Passed
-first-passed Passed b e = refl
-first-passed (Refused r) b e = cc
+pub first_passed : (a b : Verdict) → a and_then b ≡ Passed → a ≡ Passed
+first_passed Passed b e = refl
+first_passed (Refused r) b e = cc
 
-pub next-passed : (a b : Verdict) → a andThen b ≡ Passed → b ≡ Passed
-next-passed Passed b e = e
-next-passed (Refused r) b e = cc
+pub next_passed : (a b : Verdict) → a and_then b ≡ Passed → b ≡ Passed
+next_passed Passed b e = e
+next_passed (Refused r) b e = cc
 
-pub test-passed : (t : Bool) (r : Refusal) → unless t r ≡ Passed → t ≡ true
-test-passed true r e = refl
-test-passed false r e = cc
+pub test_passed : (t : Bool) (r : Refusal) → unless t r ≡ Passed → t ≡ true
+test_passed true r e = refl
+test_passed false r e = cc

@@ -10,11 +10,11 @@ abbrev pub unless : Bool → Refusal → Verdict
 unless true r = Passed
 unless false r = Refused r
 
-infixr 10 ◌andThen◌
+infixr 10 ◌and_then◌
 -- The first check, and where it passes the second.
-abbrev pub ◌andThen◌ : Verdict → Verdict → Verdict
-Passed andThen next = next
-Refused r andThen next = Refused r
+abbrev pub ◌and_then◌ : Verdict → Verdict → Verdict
+Passed and_then next = next
+Refused r and_then next = Refused r
 
 -- What a call answers: its refusal, or where the checks pass its result.
 abbrev pub answer : {A : Type 0} → (Refusal → A) → Verdict → A → A

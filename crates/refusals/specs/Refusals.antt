@@ -5,45 +5,45 @@ use Rattle.std.specs.Prelude.{ℕ}
 use Rattle.refusals.specs.declared.Refusal.{Refusal}
 use Rattle.refusals.specs.declared.Refusal.TheVariants.{Axes, Level, TableLength, Rate, Axis, PointNumber, ListLength, Coordinate, NoPoint, Contents, FileEnds, FiledNumber, BytesLeft, StrayBit, AlreadyForward, NotForward, StillSampled, StillForward, TooManyPoints}
 
-abbrev pub numberOf : Refusal → ℕ
-numberOf Axes = 1  -- d outside 1 to 8
-numberOf Level = 2  -- n above 8
-numberOf TableLength = 3  -- table buffer not of N places (reader: fewer than N)
-numberOf (Rate point) = 4  -- a rate out of range; place: smallest such point number
-numberOf (Axis axis) = 5  -- axis outside 1 to d; place: the axis given
-numberOf PointNumber = 6  -- point number N or more
-numberOf ListLength = 7  -- a list of coordinates, levels or indices not of length d (a run: lists not of one length)
-numberOf (Coordinate axis) = 8  -- a coordinate too large; place: first such axis
-numberOf NoPoint = 9  -- levels and indices that name no point of the shape
-numberOf Contents = 10  -- contents not accepted
-numberOf FileEnds = 11  -- the file ends inside or before a number
-numberOf FiledNumber = 12  -- a filed number of more than 5 bytes or too large
-numberOf BytesLeft = 13  -- bytes after the last rate
-numberOf StrayBit = 14  -- a bit set above axis d
-numberOf (AlreadyForward axis) = 15  -- forward on an axis already forward; place: the axis
-numberOf (NotForward axis) = 16  -- back on an axis not forward; place: the axis
-numberOf (StillSampled axis) = 17  -- estimate while an axis is not forward; place: first such axis
-numberOf (StillForward axis) = 18  -- unload while an axis is forward; place: first such axis
-numberOf TooManyPoints = 19  -- more than 32,768 points (document 02, c)
+abbrev pub number_of : Refusal → ℕ
+number_of Axes = 1  -- d outside 1 to 8
+number_of Level = 2  -- n above 8
+number_of TableLength = 3  -- table buffer not of N places (reader: fewer than N)
+number_of (Rate point) = 4  -- a rate out of range; place: smallest such point number
+number_of (Axis axis) = 5  -- axis outside 1 to d; place: the axis given
+number_of PointNumber = 6  -- point number N or more
+number_of ListLength = 7  -- a list of coordinates, levels or indices not of length d (a run: lists not of one length)
+number_of (Coordinate axis) = 8  -- a coordinate too large; place: first such axis
+number_of NoPoint = 9  -- levels and indices that name no point of the shape
+number_of Contents = 10  -- contents not accepted
+number_of FileEnds = 11  -- the file ends inside or before a number
+number_of FiledNumber = 12  -- a filed number of more than 5 bytes or too large
+number_of BytesLeft = 13  -- bytes after the last rate
+number_of StrayBit = 14  -- a bit set above axis d
+number_of (AlreadyForward axis) = 15  -- forward on an axis already forward; place: the axis
+number_of (NotForward axis) = 16  -- back on an axis not forward; place: the axis
+number_of (StillSampled axis) = 17  -- estimate while an axis is not forward; place: first such axis
+number_of (StillForward axis) = 18  -- unload while an axis is forward; place: first such axis
+number_of TooManyPoints = 19  -- more than 32,768 points (document 02, c)
 
 -- The place is 0 unless the row names one.
-abbrev pub placeOf : Refusal → ℕ
-placeOf Axes = 0
-placeOf Level = 0
-placeOf TableLength = 0
-placeOf (Rate point) = point
-placeOf (Axis axis) = axis
-placeOf PointNumber = 0
-placeOf ListLength = 0
-placeOf (Coordinate axis) = axis
-placeOf NoPoint = 0
-placeOf Contents = 0
-placeOf FileEnds = 0
-placeOf FiledNumber = 0
-placeOf BytesLeft = 0
-placeOf StrayBit = 0
-placeOf (AlreadyForward axis) = axis
-placeOf (NotForward axis) = axis
-placeOf (StillSampled axis) = axis
-placeOf (StillForward axis) = axis
-placeOf TooManyPoints = 0
+abbrev pub place_of : Refusal → ℕ
+place_of Axes = 0
+place_of Level = 0
+place_of TableLength = 0
+place_of (Rate point) = point
+place_of (Axis axis) = axis
+place_of PointNumber = 0
+place_of ListLength = 0
+place_of (Coordinate axis) = axis
+place_of NoPoint = 0
+place_of Contents = 0
+place_of FileEnds = 0
+place_of FiledNumber = 0
+place_of BytesLeft = 0
+place_of StrayBit = 0
+place_of (AlreadyForward axis) = axis
+place_of (NotForward axis) = axis
+place_of (StillSampled axis) = axis
+place_of (StillForward axis) = axis
+place_of TooManyPoints = 0

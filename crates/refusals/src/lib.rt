@@ -2,7 +2,7 @@
 #![tactic(auto)]
 
 ghost use Rattle.std.specs.Prelude.{◌≡◌};
-ghost use Rattle.refusals.specs.Refusals.{numberOf, placeOf};
+ghost use Rattle.refusals.specs.Refusals.{number_of, place_of};
 
 #[derive(Clone, Copy)]
 pub enum Refusal {
@@ -36,7 +36,7 @@ pub enum Verdict {
 
 // The paper's number of a refusal.
 pub fn refusal_number(r: Refusal) -> u32
-    ensures { result ≡ numberOf r }
+    ensures { result ≡ number_of r }
 {
     match r {
         Refusal::Axes => 1,
@@ -63,7 +63,7 @@ pub fn refusal_number(r: Refusal) -> u32
 
 // The paper's place of a refusal: 0 unless the row names one.
 pub fn refusal_place(r: Refusal) -> u64
-    ensures { result ≡ placeOf r }
+    ensures { result ≡ place_of r }
 {
     match r {
         Refusal::Axes => 0,

@@ -10,96 +10,96 @@ use lib.ListN.{length, take, drop, length-append}
 use lib.Seq.{take-append_seam}
 use Rattle.refusals.specs.declared.Refusal.{Refusal}
 use Rattle.refusals.specs.declared.Verdict.TheVariants as verdict
-use Rattle.hierarchy.proofs.Values.{value-suc}
+use Rattle.hierarchy.proofs.Values.{value_suc}
 use Rattle.shapes.specs.declared.Shape.{Shape}
-use Rattle.shapes.specs.Shapes.{pointsOf}
-use Rattle.shapes.proofs.Checked.{length-passes}
-use Rattle.tables.specs.Tables.{rateAt, checkTable, checkRates}
-use Rattle.tables.proofs.Checking.{rates-pass}
-use Rattle.whole.specs.Whole.{coefficientsOf, ratesToCoefficients}
-use Rattle.whole.proofs.Inverse.{coefficients-length}
+use Rattle.shapes.specs.Shapes.{points_of}
+use Rattle.shapes.proofs.Checked.{length_passes}
+use Rattle.tables.specs.Tables.{rate_at, check_table, check_rates}
+use Rattle.tables.proofs.Checking.{rates_pass}
+use Rattle.whole.specs.Whole.{coefficients_of, rates_to_coefficients}
+use Rattle.whole.proofs.Inverse.{coefficients_length}
 use Rattle.house_file.specs.declared.Opened.{Opened}
 use Rattle.house_file.specs.declared.Opened.TheVariants.{Holds, Refused}
 use Rattle.house_numbers.specs.Reading.{Read, got, refused}
-use Rattle.house_file.specs.Files.{Contents, readContents, AfterReading, afterReading, filledWith, readFile}
-use Rattle.house_file.proofs.Accepting.{AllRates, Accepted, contents-accepted}
-use Rattle.texts.specs.Text.{heading, pointLines, refusedLine}
-use Rattle.reports.specs.Report.{tableText, reported, report}
-use Rattle.reports.specs.Steps.{turnedText, ratesText}
-use Rattle.texts.proofs.Listing.{lines-length, heading-length, refused-length}
+use Rattle.house_file.specs.Files.{Contents, read_contents, AfterReading, after_reading, filled_with, read_file}
+use Rattle.house_file.proofs.Accepting.{AllRates, Accepted, contents_accepted}
+use Rattle.texts.specs.Text.{heading, point_lines, refused_line}
+use Rattle.reports.specs.Report.{table_text, reported, report}
+use Rattle.reports.specs.Steps.{turned_text, rates_text}
+use Rattle.texts.proofs.Listing.{lines_length, heading_length, refused_length}
 
 -- What was read, if anything was, is accepted.
 abbrev Got : ℕ → Read Contents → Type 0
 Got places (got c rest) = Accepted places c.shape c.rates rest
 Got places (refused r) = Unit {0}
 
-contents-read : (places : ℕ) (bytes : List ℕ) → Got places (readContents places bytes)
-contents-read places bytes = so (readContents places bytes) refl
+contents_read : (places : ℕ) (bytes : List ℕ) → Got places (read_contents places bytes)
+contents_read places bytes = so (read_contents places bytes) refl
   where
-    so : (read : Read Contents) → readContents places bytes ≡ read → Got places read
-    so (got c rest) e = contents-accepted places bytes c rest e
+    so : (read : Read Contents) → read_contents places bytes ≡ read → Got places read
+    so (got c rest) e = contents_accepted places bytes c rest e
     so (refused r) e = tt
 
 -- Rates are refused nothing.
-rates-checked : (xs : List ℤ) → AllRates xs → checkRates xs ≡ verdict.Passed
-unfolding rateAt
-rates-checked xs each = rates-pass xs (λ p h. rw (value-suc xs p) (each p h))
+rates_checked : (xs : List ℤ) → AllRates xs → check_rates xs ≡ verdict.Passed
+unfolding rate_at
+rates_checked xs each = rates_pass xs (λ p h. rw (value_suc xs p) (each p h))
 
 -- Their coefficients, whatever stands after them.
-accepted-text : (places : ℕ) (c : Contents) (rest : List ℕ) (xs : List ℤ) → Accepted places c.shape c.rates rest
-    → ratesText c.shape (c.rates ++ xs) ≡ tableText c.shape (coefficientsOf c.shape c.rates)
-unfolding ratesText ratesToCoefficients checkTable turnedText
-accepted-text places c rest xs h =
-    let n = pointsOf c.shape in
+accepted_text : (places : ℕ) (c : Contents) (rest : List ℕ) (xs : List ℤ) → Accepted places c.shape c.rates rest
+    → rates_text c.shape (c.rates ++ xs) ≡ table_text c.shape (coefficients_of c.shape c.rates)
+unfolding rates_text rates_to_coefficients check_table turned_text
+accepted_text places c rest xs h =
+    let n = points_of c.shape in
     let count : length c.rates ≡ n = h.rated.many in
     let t : take n (c.rates ++ xs) ≡ c.rates = rw (sym count) (take-append_seam c.rates xs) in
-    rw (t, h.shaped, length-passes c.shape (length c.rates) count, rates-checked c.rates h.rated.each)
+    rw (t, h.shaped, length_passes c.shape (length c.rates) count, rates_checked c.rates h.rated.each)
 
 -- What was read, as the reader leaves it.
-abbrev answerOf : AfterReading → Opened
-answerOf a = a.answer
+abbrev answer_of : AfterReading → Opened
+answer_of a = a.answer
 
-abbrev tableOfRead : AfterReading → List ℤ
-tableOfRead a = a.table
+abbrev table_of_read : AfterReading → List ℤ
+table_of_read a = a.table
 
-held-text : (table : List ℤ) (s : Shape) (xs : List ℤ) (read : Read Contents) → Got 8192 read → afterReading (Holds s) xs ≡ filledWith table read
-    → ratesText s xs ≡ reported read
-held-text table s xs (got c rest) h e =
-    let a : Holds s ≡ Holds c.shape = ap answerOf e in
+held_text : (table : List ℤ) (s : Shape) (xs : List ℤ) (read : Read Contents) → Got 8192 read → after_reading (Holds s) xs ≡ filled_with table read
+    → rates_text s xs ≡ reported read
+held_text table s xs (got c rest) h e =
+    let a : Holds s ≡ Holds c.shape = ap answer_of e in
     let shape : s ≡ c.shape = cc in
-    let rates : xs ≡ c.rates ++ drop (length c.rates) table = ap tableOfRead e in
-    rw (shape, rates) (accepted-text 8192 c rest (drop (length c.rates) table) h)
-held-text table s xs (refused r) h e = let a : Holds s ≡ Refused r = ap answerOf e in cc
+    let rates : xs ≡ c.rates ++ drop (length c.rates) table = ap table_of_read e in
+    rw (shape, rates) (accepted_text 8192 c rest (drop (length c.rates) table) h)
+held_text table s xs (refused r) h e = let a : Holds s ≡ Refused r = ap answer_of e in cc
 
-refused-read : (table : List ℤ) (r : Refusal) (xs : List ℤ) (read : Read Contents) → afterReading (Refused r) xs ≡ filledWith table read → refusedLine r ≡ reported read
-refused-read table r xs (got c rest) e = let a : Refused r ≡ Holds c.shape = ap answerOf e in cc
-refused-read table r xs (refused q) e = let a : Refused r ≡ Refused q = ap answerOf e in let same : r ≡ q = cc in ap refusedLine same
+refused_read : (table : List ℤ) (r : Refusal) (xs : List ℤ) (read : Read Contents) → after_reading (Refused r) xs ≡ filled_with table read → refused_line r ≡ reported read
+refused_read table r xs (got c rest) e = let a : Refused r ≡ Holds c.shape = ap answer_of e in cc
+refused_read table r xs (refused q) e = let a : Refused r ≡ Refused q = ap answer_of e in let same : r ≡ q = cc in ap refused_line same
 
 module _ (bytes : List ℕ) (table : List ℤ) (all : length table ≡ 8192) where
-  pub held-report : (s : Shape) (xs : List ℤ) → afterReading (Holds s) xs ≡ readFile bytes table → ratesText s xs ≡ report bytes
-  unfolding readFile report
-  held-report s xs e = held-text table s xs (readContents 8192 bytes) (contents-read 8192 bytes) (rw all at e)
+  pub held_report : (s : Shape) (xs : List ℤ) → after_reading (Holds s) xs ≡ read_file bytes table → rates_text s xs ≡ report bytes
+  unfolding read_file report
+  held_report s xs e = held_text table s xs (read_contents 8192 bytes) (contents_read 8192 bytes) (rw all at e)
 
-  pub refused-report : (r : Refusal) (xs : List ℤ) → afterReading (Refused r) xs ≡ readFile bytes table → refusedLine r ≡ report bytes
-  unfolding readFile report
-  refused-report r xs e = refused-read table r xs (readContents 8192 bytes) (rw all at e)
+  pub refused_report : (r : Refusal) (xs : List ℤ) → after_reading (Refused r) xs ≡ read_file bytes table → refused_line r ≡ report bytes
+  unfolding read_file report
+  refused_report r xs e = refused_read table r xs (read_contents 8192 bytes) (rw all at e)
 
 -- A report has room in the buffer that the program keeps for it.
-reported-length : (read : Read Contents) → Got 8192 read → length (reported read) ≤ 352337
-unfolding tableText
-reported-length (got c rest) h =
-    let n = pointsOf c.shape in
-    let ys = coefficientsOf c.shape c.rates in
+reported_length : (read : Read Contents) → Got 8192 read → length (reported read) ≤ 352337
+unfolding table_text
+reported_length (got c rest) h =
+    let n = points_of c.shape in
+    let ys = coefficients_of c.shape c.rates in
     omega (
       arith,
-      length-append (heading c.shape) (pointLines 0 ys),
-      heading-length c.shape.axes c.shape.level n,
-      lines-length ys 0,
-      coefficients-length c.shape c.rates,
+      length-append (heading c.shape) (point_lines 0 ys),
+      heading_length c.shape.axes c.shape.level n,
+      lines_length ys 0,
+      coefficients_length c.shape c.rates,
       h.room,
     )
-reported-length (refused r) h = omega (arith, refused-length r)
+reported_length (refused r) h = omega (arith, refused_length r)
 
-pub report-length : (bytes : List ℕ) → length (report bytes) ≤ 352337
+pub report_length : (bytes : List ℕ) → length (report bytes) ≤ 352337
 unfolding report
-report-length bytes = reported-length (readContents 8192 bytes) (contents-read 8192 bytes)
+report_length bytes = reported_length (read_contents 8192 bytes) (contents_read 8192 bytes)

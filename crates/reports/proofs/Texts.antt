@@ -17,59 +17,59 @@ use Rattle.refusals.specs.declared.Verdict.TheVariants as verdict
 use Rattle.refusals.specs.Checks.{answer}
 use Rattle.shapes.specs.declared.Shape.{Shape}
 use Rattle.shapes.specs.declared.Counted.TheVariants.{Points, Refused}
-use Rattle.shapes.specs.Shapes.{checkShape, pointsOf, checkLength, counted}
+use Rattle.shapes.specs.Shapes.{check_shape, points_of, check_length, counted}
 use Rattle.states.specs.After.{Left, left}
-use Rattle.tables.specs.Tables.{checkTable}
-use Rattle.whole.specs.Whole.{ratesToCoefficients}
-use Rattle.texts.specs.Text.{refusedLine}
-use Rattle.reports.specs.Report.{tableText}
-use Rattle.reports.specs.Steps.{turnedText, leftText, ratesText}
+use Rattle.tables.specs.Tables.{check_table}
+use Rattle.whole.specs.Whole.{rates_to_coefficients}
+use Rattle.texts.specs.Text.{refused_line}
+use Rattle.reports.specs.Report.{table_text}
+use Rattle.reports.specs.Steps.{turned_text, left_text, rates_text}
 
 -- What the count tells.
-points-passed : (v : Verdict) (n count : ℕ) → answer Refused v (Points n) ≡ Points count → v ≡ verdict.Passed
-points-passed verdict.Passed n count e = refl
-points-passed (verdict.Refused r) n count e = cc
+points_passed : (v : Verdict) (n count : ℕ) → answer Refused v (Points n) ≡ Points count → v ≡ verdict.Passed
+points_passed verdict.Passed n count e = refl
+points_passed (verdict.Refused r) n count e = cc
 
-points-same : (v : Verdict) (n count : ℕ) → answer Refused v (Points n) ≡ Points count → count ≡ n
-points-same verdict.Passed n count e = cc
-points-same (verdict.Refused r) n count e = cc
+points_same : (v : Verdict) (n count : ℕ) → answer Refused v (Points n) ≡ Points count → count ≡ n
+points_same verdict.Passed n count e = cc
+points_same (verdict.Refused r) n count e = cc
 
 refused_why : (v : Verdict) (n : ℕ) (r : Refusal) → answer Refused v (Points n) ≡ Refused r → v ≡ verdict.Refused r
 refused_why verdict.Passed n r e = cc
 refused_why (verdict.Refused q) n r e = cc
 
 module _ (s : Shape) (count : ℕ) (e : counted s ≡ Points count) where
-  pub counted-passed : checkShape s ≡ verdict.Passed
+  pub counted_passed : check_shape s ≡ verdict.Passed
   unfolding counted
-  counted-passed = points-passed (checkShape s) (pointsOf s) count e
+  counted_passed = points_passed (check_shape s) (points_of s) count e
 
-  pub counted-points : count ≡ pointsOf s
+  pub counted_points : count ≡ points_of s
   unfolding counted
-  counted-points = points-same (checkShape s) (pointsOf s) count e
+  counted_points = points_same (check_shape s) (points_of s) count e
 
 -- Rates to coefficients refuses, or leaves the coefficients.
-pub refused-text : (s : Shape) (r : Refusal) (xs : List ℤ) (l : Left) → left (verdict.Refused r) xs ≡ l → refusedLine r ≡ leftText s l
-unfolding turnedText
-refused-text s r xs l e = ap (leftText s) e
+pub refused_text : (s : Shape) (r : Refusal) (xs : List ℤ) (l : Left) → left (verdict.Refused r) xs ≡ l → refused_line r ≡ left_text s l
+unfolding turned_text
+refused_text s r xs l e = ap (left_text s) e
 
-pub passed-text : (s : Shape) (xs : List ℤ) (l : Left) → left verdict.Passed xs ≡ l → tableText s xs ≡ leftText s l
-unfolding turnedText
-passed-text s xs l e = ap (leftText s) e
+pub passed_text : (s : Shape) (xs : List ℤ) (l : Left) → left verdict.Passed xs ≡ l → table_text s xs ≡ left_text s l
+unfolding turned_text
+passed_text s xs l e = ap (left_text s) e
 
 -- A shape that is refused.
-pub shape-refused : (s : Shape) (r : Refusal) (xs : List ℤ) → counted s ≡ Refused r → refusedLine r ≡ ratesText s xs
-unfolding ratesText ratesToCoefficients checkTable turnedText counted
-shape-refused s r xs e = rw (refused_why (checkShape s) (pointsOf s) r e)
+pub shape_refused : (s : Shape) (r : Refusal) (xs : List ℤ) → counted s ≡ Refused r → refused_line r ≡ rates_text s xs
+unfolding rates_text rates_to_coefficients check_table turned_text counted
+shape_refused s r xs e = rw (refused_why (check_shape s) (points_of s) r e)
 
 -- A table of too few places.
-pub short-refused : (s : Shape) (xs : List ℤ) → checkShape s ≡ verdict.Passed → length xs < pointsOf s → refusedLine TableLength ≡ ratesText s xs
-unfolding ratesText ratesToCoefficients checkTable checkLength turnedText
-short-refused s xs e few =
-    let t : take (pointsOf s) xs ≡ xs = take_all (pointsOf s) xs (omega arith) in
-    let f : eqb (length xs) (pointsOf s) ≡ false = ne_eqb (length xs) (pointsOf s) (λ q. omega arith) in
+pub short_refused : (s : Shape) (xs : List ℤ) → check_shape s ≡ verdict.Passed → length xs < points_of s → refused_line TableLength ≡ rates_text s xs
+unfolding rates_text rates_to_coefficients check_table check_length turned_text
+short_refused s xs e few =
+    let t : take (points_of s) xs ≡ xs = take_all (points_of s) xs (omega arith) in
+    let f : eqb (length xs) (points_of s) ≡ false = ne_eqb (length xs) (points_of s) (λ q. omega arith) in
     rw (t, e, f)
 
 -- The places counted.
-pub prefix-text : (s : Shape) (count : ℕ) (xs : List ℤ) → counted s ≡ Points count → leftText s (ratesToCoefficients s (take count xs)) ≡ ratesText s xs
-unfolding ratesText
-prefix-text s count xs e = ap (λ (k : ℕ). leftText s (ratesToCoefficients s (take k xs))) (counted-points s count e)
+pub prefix_text : (s : Shape) (count : ℕ) (xs : List ℤ) → counted s ≡ Points count → left_text s (rates_to_coefficients s (take count xs)) ≡ rates_text s xs
+unfolding rates_text
+prefix_text s count xs e = ap (λ (k : ℕ). left_text s (rates_to_coefficients s (take k xs))) (counted_points s count e)

@@ -3,25 +3,25 @@
 use mathlib.Core.Path.{◌≡◌, refl}
 use mathlib.Core.List.{[], ◌∷◌}
 use lib.Count.{count_trailing_zeros}
-use Rattle.naturals.specs.Sum.{sumTo}
+use Rattle.naturals.specs.Sum.{sum_to}
 use Rattle.integers.specs.Half.{half}
 use Rattle.numbering.specs.Binomial.{choose}
 use Rattle.numbering.specs.Count.{vectors, shell, start, points}
-use Rattle.numbering.specs.Number.{ending, rank, digit, position, firstOf, number}
-use Rattle.numbering.specs.Inverse.{block, lastLevel, levelOf, sumAt, within, levelAt, indexOf, indexAt}
-use Rattle.numbering.specs.Parent.{isBorder, twos, parentLevel, parentIndex, update, parent}
-use Rattle.hierarchy.specs.Turns.{valueAt, valuesOf, sumOn, forward}
-use Rattle.hierarchy.specs.Sets.{scaled, swept, tableOf}
-use Rattle.zero_border.specs.ZeroBorder.{codeOf}
-use Rattle.zero_border.specs.ZeroBorder as zero-border
-use Rattle.shapes.specs.Shapes.{checkShape, pointsOf}
-use Rattle.grids.specs.Grids.{numberOf, levelOn, indexOn, neighbour}
-use Rattle.whole.specs.Whole.{coefficientsOf}
-use Rattle.house_numbers.specs.Numbers.{below, groups, largest, limited, readNumber, rateOf}
-use Rattle.house_rates.specs.Rates.{prepended, readRates}
-use Rattle.house_file.specs.Files.{readHead, ended, readTable, readContents}
-use Rattle.texts.specs.Text.{digitsOf, decimal, signed, headingOf, pointLine, pointLines, refusedLine}
-use Rattle.reports.specs.Report.{tableText, report}
+use Rattle.numbering.specs.Number.{ending, rank, digit, position, first_of, number}
+use Rattle.numbering.specs.Inverse.{block, last_level, level_of, sum_at, within, level_at, index_of, index_at}
+use Rattle.numbering.specs.Parent.{is_border, twos, parent_level, parent_index, update, parent}
+use Rattle.hierarchy.specs.Turns.{value_at, values_of, sum_on, forward}
+use Rattle.hierarchy.specs.Sets.{scaled, swept, table_of}
+use Rattle.zero_border.specs.ZeroBorder.{code_of}
+use Rattle.zero_border.specs.ZeroBorder as zero_border
+use Rattle.shapes.specs.Shapes.{check_shape, points_of}
+use Rattle.grids.specs.Grids.{number_of, level_on, index_on, neighbour}
+use Rattle.whole.specs.Whole.{coefficients_of}
+use Rattle.house_numbers.specs.Numbers.{below, groups, largest, limited, read_number, rate_of}
+use Rattle.house_rates.specs.Rates.{prepended, read_rates}
+use Rattle.house_file.specs.Files.{read_head, ended, read_table, read_contents}
+use Rattle.texts.specs.Text.{digits_of, decimal, signed, heading_of, point_line, point_lines, refused_line}
+use Rattle.reports.specs.Report.{table_text, report}
 
 -- 01 01 06 0A 0E: "axes 1 level 1 points 3", "0 6", "1 7", "2 11".
 abbrev pub Example : Type 0
@@ -35,6 +35,6 @@ Negative = report (1 ∷ 0 ∷ 1 ∷ []) ≡ 97 ∷ 120 ∷ 101 ∷ 115 ∷ 32 �
 abbrev pub Cut : Type 0
 Cut = report (9 ∷ []) ≡ 114 ∷ 101 ∷ 102 ∷ 117 ∷ 115 ∷ 101 ∷ 100 ∷ 32 ∷ 49 ∷ 49 ∷ 10 ∷ []
 
-pub worked-reports : Example × Negative × Cut
-unfolding digitsOf decimal signed headingOf pointLine pointLines refusedLine tableText report sumTo choose vectors shell start points pointsOf checkShape numberOf levelOn indexOn block lastLevel levelOf sumAt within levelAt indexOf indexAt ending rank digit position firstOf number isBorder twos parentLevel parentIndex update parent count_trailing_zeros half valueAt valuesOf sumOn forward scaled swept tableOf codeOf zero-border.neighbour neighbour coefficientsOf below groups largest limited readNumber rateOf prepended readRates ended readTable readContents readHead
-worked-reports = (refl, refl, refl)
+pub worked_reports : Example × Negative × Cut
+unfolding digits_of decimal signed heading_of point_line point_lines refused_line table_text report sum_to choose vectors shell start points points_of check_shape number_of level_on index_on block last_level level_of sum_at within level_at index_of index_at ending rank digit position first_of number is_border twos parent_level parent_index update parent count_trailing_zeros half value_at values_of sum_on forward scaled swept table_of code_of zero_border.neighbour neighbour coefficients_of below groups largest limited read_number rate_of prepended read_rates ended read_table read_contents read_head
+worked_reports = (refl, refl, refl)

@@ -4,20 +4,20 @@ use Rattle.std.specs.Prelude.{List, ℕ, ℤ, take}
 use Rattle.refusals.specs.declared.Verdict.{Verdict}
 use Rattle.refusals.specs.declared.Verdict.TheVariants.{Passed, Refused}
 use Rattle.shapes.specs.declared.Shape.{Shape}
-use Rattle.shapes.specs.Shapes.{pointsOf}
+use Rattle.shapes.specs.Shapes.{points_of}
 use Rattle.states.specs.After.{Left}
-use Rattle.whole.specs.Whole.{ratesToCoefficients}
-use Rattle.texts.specs.Text.{refusedLine}
-use Rattle.reports.specs.Report.{tableText}
+use Rattle.whole.specs.Whole.{rates_to_coefficients}
+use Rattle.texts.specs.Text.{refused_line}
+use Rattle.reports.specs.Report.{table_text}
 
 -- The text of what rates to coefficients leaves.
-unfoldable pub turnedText : Shape → Verdict → List ℤ → List ℕ
-turnedText s Passed ys = tableText s ys
-turnedText s (Refused r) ys = refusedLine r
+unfoldable pub turned_text : Shape → Verdict → List ℤ → List ℕ
+turned_text s Passed ys = table_text s ys
+turned_text s (Refused r) ys = refused_line r
 
-abbrev pub leftText : Shape → Left → List ℕ
-leftText s l = turnedText s l.verdict l.table
+abbrev pub left_text : Shape → Left → List ℕ
+left_text s l = turned_text s l.verdict l.table
 
 -- The text of the rates that stand in the first N places of a buffer.
-unfoldable pub ratesText : Shape → List ℤ → List ℕ
-ratesText s xs = leftText s (ratesToCoefficients s (take (pointsOf s) xs))
+unfoldable pub rates_text : Shape → List ℤ → List ℕ
+rates_text s xs = left_text s (rates_to_coefficients s (take (points_of s) xs))

@@ -2,9 +2,9 @@
 ghost use Rattle.std.specs.Prelude.{◌≡◌, ◌+◌, ◌*◌, ◌≤◌, length};
 ghost use Rattle.shapes.specs.declared.Counted.TheVariants.{Points};
 ghost use Rattle.shapes.specs.Shapes.{counted};
-ghost use Rattle.whole.specs.Whole.{ratesToCoefficients};
+ghost use Rattle.whole.specs.Whole.{rates_to_coefficients};
 ghost use Rattle.buffers.specs.Put.{Put};
-ghost use Rattle.reports.specs.Steps.{leftText, ratesText};
+ghost use Rattle.reports.specs.Steps.{left_text, rates_text};
 
 use refusals::{Refusal, Verdict};
 use shapes::{Counted, Shape};
@@ -13,7 +13,7 @@ use texts::lines::{put_heading, put_points, put_refused};
 // The rates become coefficients, and these are listed.
 fn put_coefficients(shape: Shape, count: u64, table: &mut [i64], out: &mut [u8]) -> usize
     requires { (counted shape ≡ Points count) × (81 + 43 * length table.old ≤ length out.old) }
-    ensures { Put (leftText shape (ratesToCoefficients shape table.old)) out.old 0 out.new result }
+    ensures { Put (left_text shape (rates_to_coefficients shape table.old)) out.old 0 out.new result }
 {
     match whole::rates_to_coefficients(shape, table) {
         Verdict::Refused(why) => put_refused(why, out),
@@ -27,7 +27,7 @@ fn put_coefficients(shape: Shape, count: u64, table: &mut [i64], out: &mut [u8])
 // The rates stand in the first places of the table, as many as there are points.
 fn put_counted(shape: Shape, count: u64, table: &mut [i64], out: &mut [u8]) -> usize
     requires { (counted shape ≡ Points count) × (81 + 43 * length table.old ≤ length out.old) }
-    ensures { Put (ratesText shape table.old) out.old 0 out.new result }
+    ensures { Put (rates_text shape table.old) out.old 0 out.new result }
 {
     let places = count as usize;
     if table.len() < places {
@@ -38,7 +38,7 @@ fn put_counted(shape: Shape, count: u64, table: &mut [i64], out: &mut [u8]) -> u
 
 pub fn put_table(shape: Shape, table: &mut [i64], out: &mut [u8]) -> usize
     requires { 81 + 43 * length table.old ≤ length out.old }
-    ensures { Put (ratesText shape table.old) out.old 0 out.new result }
+    ensures { Put (rates_text shape table.old) out.old 0 out.new result }
 {
     match shapes::count(shape) {
         Counted::Refused(why) => put_refused(why, out),

@@ -5,7 +5,7 @@ mod contents;
 
 ghost use Rattle.std.specs.Prelude.{◌≡◌, take};
 ghost use Rattle.io.specs.Counts.{IsPrefixLen};
-ghost use Rattle.texts.specs.Text.{refusedLine};
+ghost use Rattle.texts.specs.Text.{refused_line};
 ghost use Rattle.reports.specs.Report.{report as Report·report};
 ghost use Rattle.buffers.specs.Put.{Put};
 
@@ -28,8 +28,8 @@ pub const LINE: usize = 81;
 
 // Puts the line of a refused file at the start of `out`, and answers how many characters it has.
 pub fn refused(why: Refusal, out: &mut [u8; LINE]) -> usize
-    ensures put { Put (refusedLine why) out.old 0 out.new result }
-    ensures out_after { take result out.new ≡ refusedLine why }
+    ensures put { Put (refused_line why) out.old 0 out.new result }
+    ensures out_after { take result out.new ≡ refused_line why }
     ensures prefix_len { IsPrefixLen result out.new }
 {
     put_refused(why, out)

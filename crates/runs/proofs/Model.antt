@@ -5,12 +5,12 @@ use Prim.Native.Nat.{ℕ}
 use Rattle.refusals.specs.declared.Refusal.{Refusal}
 use Rattle.refusals.specs.declared.Verdict.TheVariants.{Passed, Refused}
 use Rattle.hierarchy.specs.declared.Turn.{Turn}
-use Rattle.runs.specs.Model.{Axes, modelAnswer, changed, modelSet}
+use Rattle.runs.specs.Model.{Axes, model_answer, changed, model_set}
 
-pub model-refused : (d : ℕ) (set : Axes) (call : Turn) (why : Refusal) → modelAnswer d set call ≡ Refused why → modelSet d set call ≡ set
-unfolding modelSet
-model-refused d set call why e = rw e
+pub model_refused : (d : ℕ) (set : Axes) (call : Turn) (why : Refusal) → model_answer d set call ≡ Refused why → model_set d set call ≡ set
+unfolding model_set
+model_refused d set call why e = rw e
 
-pub model-passed : (d : ℕ) (set : Axes) (call : Turn) → modelAnswer d set call ≡ Passed → modelSet d set call ≡ changed set call
-unfolding modelSet
-model-passed d set call e = rw e
+pub model_passed : (d : ℕ) (set : Axes) (call : Turn) → model_answer d set call ≡ Passed → model_set d set call ≡ changed set call
+unfolding model_set
+model_passed d set call e = rw e

@@ -17,130 +17,130 @@ use Rattle.states.specs.declared.State.{State}
 use Rattle.states.specs.declared.Answer.{Answer}
 use Rattle.states.specs.declared.Answer.TheVariants.{Done}
 use Rattle.states.specs.After.{after}
-use Rattle.states.specs.States.{checkState}
-use Rattle.runs.specs.Runs.{carriedOut, handedOn, verdictOf, Ran, run}
-use Rattle.runs.specs.Calls.{turnOf, callsOf, numberIn, placeIn, report, reportOf, runCalls}
-use Rattle.runs.proofs.Appending.{run-snoc, calls-append, Matched, matched-runs}
+use Rattle.states.specs.States.{check_state}
+use Rattle.runs.specs.Runs.{carried_out, handed_on, verdict_of, Ran, run}
+use Rattle.runs.specs.Calls.{turn_of, calls_of, number_in, place_in, report, report_of, run_calls}
+use Rattle.runs.proofs.Appending.{run_snoc, calls_append, Matched, matched_runs}
 
-pub back-turn : (direction axis : ℕ) → (direction ≡ 0 → ⊥) → turnOf direction axis ≡ Back axis
-back-turn zero axis ne = absurd (ne refl)
-back-turn (suc k) axis ne = refl
+pub back_turn_lem : (direction axis : ℕ) → (direction ≡ 0 → ⊥) → turn_of direction axis ≡ Back axis
+back_turn_lem zero axis ne = absurd (ne refl)
+back_turn_lem (suc k) axis ne = refl
 
 -- The first i calls.
-abbrev pub callsTo : List ℕ → List ℕ → ℕ → List Turn
-callsTo directions axes i = callsOf (take i directions) (take i axes)
+abbrev pub calls_to : List ℕ → List ℕ → ℕ → List Turn
+calls_to directions axes i = calls_of (take i directions) (take i axes)
 
-abbrev pub callAt : List ℕ → List ℕ → ℕ → Turn
-callAt directions axes i = turnOf (get_or directions i 0) (get_or axes i 0)
+abbrev pub call_at : List ℕ → List ℕ → ℕ → Turn
+call_at directions axes i = turn_of (get_or directions i 0) (get_or axes i 0)
 
-calls-next : (directions axes : List ℕ) (i : ℕ) → i < length directions → i < length axes →
-    callsTo directions axes (suc i) ≡ callsTo directions axes i ++ (callAt directions axes i ∷ [])
-calls-next directions axes i h k =
+calls_next : (directions axes : List ℕ) (i : ℕ) → i < length directions → i < length axes →
+    calls_to directions axes (suc i) ≡ calls_to directions axes i ++ (call_at directions axes i ∷ [])
+calls_next directions axes i h k =
     rw (take-suc directions i 0 h, take-suc axes i 0 k)
-    (calls-append (take i directions) (take i axes) (get_or directions i 0 ∷ []) (get_or axes i 0 ∷ [])
+    (calls_append (take i directions) (take i axes) (get_or directions i 0 ∷ []) (get_or axes i 0 ∷ [])
     (length-take-le i axes (omega arith) ∙ sym (length-take-le i directions (omega arith))))
 
-calls-all : (directions axes : List ℕ) → length axes ≡ length directions → callsTo directions axes (length directions) ≡ callsOf directions axes
-calls-all directions axes e = ap₂ callsOf (take-length directions) (ap (λ (m : ℕ). take m axes) (sym e) ∙ take-length axes)
+calls_all : (directions axes : List ℕ) → length axes ≡ length directions → calls_to directions axes (length directions) ≡ calls_of directions axes
+calls_all directions axes e = ap₂ calls_of (take-length directions) (ap (λ (m : ℕ). take m axes) (sym e) ∙ take-length axes)
 
 -- A run has as many answers as calls.
-calls-long : (directions axes : List ℕ) → length axes ≡ length directions → length (callsOf directions axes) ≡ length directions
-calls-long [] axes e = refl
-calls-long (x ∷ directions) [] e = absurd (omega (arith, e))
-calls-long (x ∷ directions) (axis ∷ axes) e = ap suc (calls-long directions axes (omega (arith, e)))
+calls_long : (directions axes : List ℕ) → length axes ≡ length directions → length (calls_of directions axes) ≡ length directions
+calls_long [] axes e = refl
+calls_long (x ∷ directions) [] e = absurd (omega (arith, e))
+calls_long (x ∷ directions) (axis ∷ axes) e = ap suc (calls_long directions axes (omega (arith, e)))
 
-answers-long : (calls : List Turn) (s : State) (xs : List ℤ) → length (run calls s xs).answers ≡ length calls
+answers_long : (calls : List Turn) (s : State) (xs : List ℤ) → length (run calls s xs).answers ≡ length calls
 unfolding run
-answers-long [] s xs = refl
-answers-long (call ∷ calls) s xs =
-    ap suc (answers-long calls (handedOn s (carriedOut call s xs).answer) (carriedOut call s xs).table)
+answers_long [] s xs = refl
+answers_long (call ∷ calls) s xs =
+    ap suc (answers_long calls (handed_on s (carried_out call s xs).answer) (carried_out call s xs).table)
 
 -- The answers so far in front of what a list held, and one answer more.
 module _ (f : Verdict → ℕ) where
   abbrev pub answered : List Verdict → List ℕ → List ℕ
   answered answers ns = map f answers ++ drop (length answers) ns
 
-  answered-long : (answers : List Verdict) (ns : List ℕ) → length answers ≤ length ns → length (answered answers ns) ≡ length ns
-  answered-long answers ns h = simp (length-append, length-map, length-drop) (omega arith)
+  answered_long : (answers : List Verdict) (ns : List ℕ) → length answers ≤ length ns → length (answered answers ns) ≡ length ns
+  answered_long answers ns h = simp (length-append, length-map, length-drop) (omega arith)
 
-  answered-all : (answers : List Verdict) (ns : List ℕ) → length answers ≡ length ns → answered answers ns ≡ map f answers
-  answered-all answers ns e = rw (e, drop-length, append-nil)
+  answered_all : (answers : List Verdict) (ns : List ℕ) → length answers ≡ length ns → answered answers ns ≡ map f answers
+  answered_all answers ns e = rw (e, drop-length, append-nil)
 
-  answered-next : (answers : List Verdict) (v : Verdict) (ns : List ℕ) (i : ℕ) → length answers ≡ i → i < length ns →
+  answered_next : (answers : List Verdict) (v : Verdict) (ns : List ℕ) (i : ℕ) → length answers ≡ i → i < length ns →
       set (answered answers ns) i (f v) ≡ answered (answers ++ (v ∷ [])) ns
-  answered-next answers v ns i e h =
+  answered_next answers v ns i e h =
       rw (e, drop-cons ns i 0 h, set_at (map f answers) (get_or ns i 0) (drop (suc i) ns) (f v) i (length-map answers f ∙ e))
       (rw (map-append, length-append, e, add-one, append_snoc))
 
 module _ (s : State) (xs : List ℤ) (directions axes ns ps : List ℕ) where
   -- The run of the first i calls.
-  abbrev pub ranTo : ℕ → Ran
-  ranTo i = run (callsTo directions axes i) s xs
+  abbrev pub ran_to : ℕ → Ran
+  ran_to i = run (calls_to directions axes i) s xs
 
   pub record Reporting (table : List ℤ) (numbers places : List ℕ) (reached : State) (i : ℕ) : Type 0 where
-    pub passed : checkState s (length xs) ≡ Passed
+    pub passed : check_state s (length xs) ≡ Passed
     pub matched : Matched directions axes ns ps
     pub within : i ≤ length directions
-    pub state : reached ≡ (ranTo i).state
+    pub state : reached ≡ (ran_to i).state
     pub long : length table ≡ length xs
-    pub contents : table ≡ (ranTo i).table
-    pub numbered : numbers ≡ answered numberIn (ranTo i).answers ns
-    pub placed : places ≡ answered placeIn (ranTo i).answers ps
+    pub contents : table ≡ (ran_to i).table
+    pub numbered : numbers ≡ answered number_in (ran_to i).answers ns
+    pub placed : places ≡ answered place_in (ran_to i).answers ps
 
-  pub reporting-starts : checkState s (length xs) ≡ Passed → Matched directions axes ns ps → Reporting xs ns ps s 0
+  pub reporting_starts : check_state s (length xs) ≡ Passed → Matched directions axes ns ps → Reporting xs ns ps s 0
   unfolding run
-  reporting-starts passed m = record { passed = passed; matched = m; within = omega arith; state = refl; long = refl; contents = refl; numbered = refl; placed = refl }
+  reporting_starts passed m = record { passed = passed; matched = m; within = omega arith; state = refl; long = refl; contents = refl; numbered = refl; placed = refl }
 
   module _ (table : List ℤ) (numbers places : List ℕ) (reached : State) (i : ℕ) (r : Reporting table numbers places reached i) where
-    count-is : length (ranTo i).answers ≡ i
-    count-is =
-        answers-long (callsTo directions axes i) s xs
-        ∙ calls-long (take i directions) (take i axes)
-        (length-take-le i axes (omega (arith, r.matched.axes-long, r.within)) ∙ sym (length-take-le i directions r.within))
+    count_is : length (ran_to i).answers ≡ i
+    count_is =
+        answers_long (calls_to directions axes i) s xs
+        ∙ calls_long (take i directions) (take i axes)
+        (length-take-le i axes (omega (arith, r.matched.axes_long, r.within)) ∙ sym (length-take-le i directions r.within))
         ∙ length-take-le i directions r.within
 
-    pub numbers-kept : length numbers ≡ length ns
-    numbers-kept = ap length r.numbered ∙ answered-long numberIn (ranTo i).answers ns (omega (arith, count-is, r.within, r.matched.numbers-long))
+    pub numbers_kept : length numbers ≡ length ns
+    numbers_kept = ap length r.numbered ∙ answered_long number_in (ran_to i).answers ns (omega (arith, count_is, r.within, r.matched.numbers_long))
 
-    pub places-kept : length places ≡ length ps
-    places-kept = ap length r.placed ∙ answered-long placeIn (ranTo i).answers ps (omega (arith, count-is, r.within, r.matched.places-long))
+    pub places_kept : length places ≡ length ps
+    places_kept = ap length r.placed ∙ answered_long place_in (ran_to i).answers ps (omega (arith, count_is, r.within, r.matched.places_long))
 
-    pub reporting-ends : length directions ≤ i → report (Done reached) table numbers places ≡ runCalls s xs directions axes ns ps
-    reporting-ends h =
+    pub reporting_ends : length directions ≤ i → report (Done reached) table numbers places ≡ run_calls s xs directions axes ns ps
+    reporting_ends h =
         let end : i ≡ length directions = omega (arith, r.within) in
-        let whole : ranTo i ≡ run (callsOf directions axes) s xs =
-        ap (λ (calls : List Turn). run calls s xs) (ap (callsTo directions axes) end ∙ calls-all directions axes r.matched.axes-long) in
-        let all-numbers : numbers ≡ map numberIn (ranTo i).answers =
-        r.numbered ∙ answered-all numberIn (ranTo i).answers ns (count-is ∙ end ∙ sym r.matched.numbers-long) in
-        let all-places : places ≡ map placeIn (ranTo i).answers =
-        r.placed ∙ answered-all placeIn (ranTo i).answers ps (count-is ∙ end ∙ sym r.matched.places-long) in
-        rw (r.state, r.contents, all-numbers, all-places) (ap reportOf whole ∙ sym (matched-runs s xs directions axes ns ps r.passed r.matched))
+        let whole : ran_to i ≡ run (calls_of directions axes) s xs =
+        ap (λ (calls : List Turn). run calls s xs) (ap (calls_to directions axes) end ∙ calls_all directions axes r.matched.axes_long) in
+        let all_numbers : numbers ≡ map number_in (ran_to i).answers =
+        r.numbered ∙ answered_all number_in (ran_to i).answers ns (count_is ∙ end ∙ sym r.matched.numbers_long) in
+        let all_places : places ≡ map place_in (ran_to i).answers =
+        r.placed ∙ answered_all place_in (ran_to i).answers ps (count_is ∙ end ∙ sym r.matched.places_long) in
+        rw (r.state, r.contents, all_numbers, all_places) (ap report_of whole ∙ sym (matched_runs s xs directions axes ns ps r.passed r.matched))
 
     -- One call more.
     module _ (more : i < length directions) (next : Answer) (left : List ℤ) (long : length left ≡ length table)
-        (e : after next left ≡ carriedOut (callAt directions axes i) reached table) where
-      ran-next : ranTo (suc i)
-          ≡ record { answers = (ranTo i).answers ++ (verdictOf next ∷ []); state = handedOn reached next; table = left }
-      ran-next =
-          ap (λ (calls : List Turn). run calls s xs) (calls-next directions axes i more (omega (arith, more, r.matched.axes-long)))
-          ∙ run-snoc (callsTo directions axes i) (callAt directions axes i) s xs
+        (e : after next left ≡ carried_out (call_at directions axes i) reached table) where
+      ran_next : ran_to (suc i)
+          ≡ record { answers = (ran_to i).answers ++ (verdict_of next ∷ []); state = handed_on reached next; table = left }
+      ran_next =
+          ap (λ (calls : List Turn). run calls s xs) (calls_next directions axes i more (omega (arith, more, r.matched.axes_long)))
+          ∙ run_snoc (calls_to directions axes i) (call_at directions axes i) s xs
           ∙ rw (← r.state, ← r.contents, ← e)
 
-      pub reporting-steps : (number place : ℕ) (to : State) → number ≡ numberIn (verdictOf next) → place ≡ placeIn (verdictOf next) → to ≡ handedOn reached next →
+      pub reporting_steps : (number place : ℕ) (to : State) → number ≡ number_in (verdict_of next) → place ≡ place_in (verdict_of next) → to ≡ handed_on reached next →
           Reporting left (set numbers i number) (set places i place) to (i + 1)
-      reporting-steps number place to n p t =
+      reporting_steps number place to n p t =
           rw add-one
           (record {
             passed = r.passed;
             matched = r.matched;
             within = more;
-            state = t ∙ sym (ap (λ (x : Ran). x.state) ran-next);
+            state = t ∙ sym (ap (λ (x : Ran). x.state) ran_next);
             long = long ∙ r.long;
-            contents = sym (ap (λ (x : Ran). x.table) ran-next);
+            contents = sym (ap (λ (x : Ran). x.table) ran_next);
             numbered =
-                rw (ran-next, n, r.numbered)
-                (answered-next numberIn (ranTo i).answers (verdictOf next) ns i count-is (omega (arith, r.matched.numbers-long)));
+                rw (ran_next, n, r.numbered)
+                (answered_next number_in (ran_to i).answers (verdict_of next) ns i count_is (omega (arith, r.matched.numbers_long)));
             placed =
-                rw (ran-next, p, r.placed)
-                (answered-next placeIn (ranTo i).answers (verdictOf next) ps i count-is (omega (arith, r.matched.places-long)));
+                rw (ran_next, p, r.placed)
+                (answered_next place_in (ran_to i).answers (verdict_of next) ps i count_is (omega (arith, r.matched.places_long)));
           })

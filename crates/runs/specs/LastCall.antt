@@ -7,9 +7,9 @@ use Rattle.hierarchy.specs.declared.Turn.{Turn}
 use Rattle.hierarchy.specs.declared.Turn.TheVariants.{Forward, Back}
 
 -- The axis that a call names.
-abbrev pub axisOf : Turn → ℕ
-axisOf (Forward axis) = axis
-axisOf (Back axis) = axis
+abbrev pub axis_of : Turn → ℕ
+axis_of (Forward axis) = axis
+axis_of (Back axis) = axis
 
 -- A call beside its answer.
 abbrev pub Answered : Type 0
@@ -29,4 +29,4 @@ pub record Unrefused (call : Turn) (list : List Answered) : Type 0 where
 -- The last call on the axis that was not refused went forward: one that did stands in the list, and every call on the axis after it was refused.
 pub record LastForward (axis : ℕ) (list : List Answered) : Type 0 where
   pub one : Unrefused (Forward axis) list
-  pub last : (call : Turn) → axisOf call ≡ axis → Unrefused call one.after → ⊥
+  pub last : (call : Turn) → axis_of call ≡ axis → Unrefused call one.after → ⊥

@@ -4,7 +4,7 @@ use Rattle.std.specs.Prelude.{Bool, true, false, not, ◌&&◌, List, [], ◌∷
 use Rattle.refusals.specs.declared.Refusal.{Refusal}
 use Rattle.refusals.specs.declared.Refusal.TheVariants.{Axis, AlreadyForward, NotForward}
 use Rattle.refusals.specs.declared.Verdict.{Verdict}
-use Rattle.refusals.specs.Checks.{unless, ◌andThen◌, answer}
+use Rattle.refusals.specs.Checks.{unless, ◌and_then◌, answer}
 use Rattle.hierarchy.specs.declared.Turn.{Turn}
 use Rattle.hierarchy.specs.declared.Turn.TheVariants.{Forward, Back}
 use Rattle.hierarchy.specs.Work.{put}
@@ -14,11 +14,11 @@ abbrev pub Axes : Type 0
 Axes = ℕ → Bool
 
 -- Axis outside 1 to d: refused with 5. Forward on axis t: refused with 15 if t is in the set. Back on axis t: refused with 16 if t is not in the set.
-unfoldable pub modelAnswer : ℕ → Axes → Turn → Verdict
-modelAnswer d set (Forward axis) =
-    unless (leb 1 axis && leb axis d) (Axis axis) andThen unless (not (set (axis - 1))) (AlreadyForward axis)
-modelAnswer d set (Back axis) =
-    unless (leb 1 axis && leb axis d) (Axis axis) andThen unless (set (axis - 1)) (NotForward axis)
+unfoldable pub model_answer : ℕ → Axes → Turn → Verdict
+model_answer d set (Forward axis) =
+    unless (leb 1 axis && leb axis d) (Axis axis) and_then unless (not (set (axis - 1))) (AlreadyForward axis)
+model_answer d set (Back axis) =
+    unless (leb 1 axis && leb axis d) (Axis axis) and_then unless (set (axis - 1)) (NotForward axis)
 
 -- Else forward joins t to the set, and back takes it out.
 abbrev pub changed : Axes → Turn → Axes
@@ -29,14 +29,14 @@ changed set (Back axis) = put set (axis - 1) false
 abbrev pub unchanged : Axes → Refusal → Axes
 unchanged set r = set
 
-unfoldable pub modelSet : ℕ → Axes → Turn → Axes
-modelSet d set call = answer (unchanged set) (modelAnswer d set call) (changed set call)
+unfoldable pub model_set : ℕ → Axes → Turn → Axes
+model_set d set call = answer (unchanged set) (model_answer d set call) (changed set call)
 
 -- All answers to a list of calls, and the set after it.
-unfoldable pub modelAnswers : ℕ → Axes → List Turn → List Verdict
-modelAnswers d set [] = []
-modelAnswers d set (call ∷ calls) = modelAnswer d set call ∷ modelAnswers d (modelSet d set call) calls
+unfoldable pub model_answers : ℕ → Axes → List Turn → List Verdict
+model_answers d set [] = []
+model_answers d set (call ∷ calls) = model_answer d set call ∷ model_answers d (model_set d set call) calls
 
-unfoldable pub modelAfter : ℕ → Axes → List Turn → Axes
-modelAfter d set [] = set
-modelAfter d set (call ∷ calls) = modelAfter d (modelSet d set call) calls
+unfoldable pub model_after : ℕ → Axes → List Turn → Axes
+model_after d set [] = set
+model_after d set (call ∷ calls) = model_after d (model_set d set call) calls

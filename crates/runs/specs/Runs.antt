@@ -10,22 +10,22 @@ use Rattle.states.specs.declared.State.{State}
 use Rattle.states.specs.declared.Answer.{Answer}
 use Rattle.states.specs.declared.Answer.TheVariants.{Done, Refused}
 use Rattle.states.specs.After.{After}
-use Rattle.turns.specs.Turns.{forwardTurn, backTurn}
+use Rattle.turns.specs.Turns.{forward_turn, back_turn}
 
 -- One call.
-abbrev pub carriedOut : Turn → State → List ℤ → After
-carriedOut (Forward axis) s xs = forwardTurn s xs axis
-carriedOut (Back axis) s xs = backTurn s xs axis
+abbrev pub carried_out : Turn → State → List ℤ → After
+carried_out (Forward axis) s xs = forward_turn s xs axis
+carried_out (Back axis) s xs = back_turn s xs axis
 
 -- The state that the next call is handed.
-abbrev pub handedOn : State → Answer → State
-handedOn s (Done next) = next
-handedOn s (Refused r) = s
+abbrev pub handed_on : State → Answer → State
+handed_on s (Done next) = next
+handed_on s (Refused r) = s
 
 -- Passed, or refused with this number and place.
-abbrev pub verdictOf : Answer → Verdict
-verdictOf (Done next) = verdict.Passed
-verdictOf (Refused r) = verdict.Refused r
+abbrev pub verdict_of : Answer → Verdict
+verdict_of (Done next) = verdict.Passed
+verdict_of (Refused r) = verdict.Refused r
 
 -- What a run leaves: the answers in order, the state, and the table.
 pub record Ran : Type 0 where
@@ -39,5 +39,5 @@ answering v r = record { answers = v ∷ r.answers; state = r.state; table = r.t
 unfoldable pub run : List Turn → State → List ℤ → Ran
 run [] s xs = record { answers = []; state = s; table = xs }
 run (call ∷ calls) s xs =
-    answering (verdictOf (carriedOut call s xs).answer)
-    (run calls (handedOn s (carriedOut call s xs).answer) (carriedOut call s xs).table)
+    answering (verdict_of (carried_out call s xs).answer)
+    (run calls (handed_on s (carried_out call s xs).answer) (carried_out call s xs).table)

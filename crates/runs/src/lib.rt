@@ -3,15 +3,15 @@
 
 ghost use Rattle.std.specs.Prelude.{◌≡◌};
 ghost use Rattle.states.specs.After.{after};
-ghost use Rattle.runs.specs.Runs.{carriedOut, handedOn, verdictOf};
-ghost use Rattle.runs.specs.Calls.{turnOf, numberIn, placeIn, report, runCalls};
+ghost use Rattle.runs.specs.Runs.{carried_out, handed_on, verdict_of};
+ghost use Rattle.runs.specs.Calls.{turn_of, number_in, place_in, report, run_calls};
 
 use refusals::{Refusal, Verdict};
 use states::{Answer, State};
 
 // One call: direction 0 is forward, every other is back.
 fn turn(state: State, table: &mut [i64], direction: u8, axis: u32) -> Answer
-    ensures { after result table.new ≡ carriedOut (turnOf direction axis) state table.old }
+    ensures { after result table.new ≡ carried_out (turn_of direction axis) state table.old }
 {
     if direction == 0 {
         turns::hierarchize(state, table, axis)
@@ -22,7 +22,7 @@ fn turn(state: State, table: &mut [i64], direction: u8, axis: u32) -> Answer
 
 // The number of a refusal, 0 for a turn that was carried out.
 fn number_in(answer: Answer) -> u32
-    ensures { result ≡ numberIn (verdictOf answer) }
+    ensures { result ≡ number_in (verdict_of answer) }
 {
     match answer {
         Answer::Done(_) => 0,
@@ -32,7 +32,7 @@ fn number_in(answer: Answer) -> u32
 
 // The place of a refusal, 0 where it names none and for a turn that was carried out.
 fn place_in(answer: Answer) -> u64
-    ensures { result ≡ placeIn (verdictOf answer) }
+    ensures { result ≡ place_in (verdict_of answer) }
 {
     match answer {
         Answer::Done(_) => 0,
@@ -42,7 +42,7 @@ fn place_in(answer: Answer) -> u64
 
 // The state that the next call is handed.
 fn handed_on(state: State, answer: Answer) -> State
-    ensures { result ≡ handedOn state answer }
+    ensures { result ≡ handed_on state answer }
 {
     match answer {
         Answer::Done(next) => next,
@@ -61,7 +61,7 @@ pub fn run(
     numbers: &mut [u32],
     places: &mut [u64],
 ) -> Answer
-    ensures { report result table.new numbers.new places.new ≡ runCalls state table.old directions.now axes.now numbers.old places.old }
+    ensures { report result table.new numbers.new places.new ≡ run_calls state table.old directions.now axes.now numbers.old places.old }
 {
     if let Verdict::Refused(r) = states::check_state(state, table.len()) {
         return Answer::Refused(r);

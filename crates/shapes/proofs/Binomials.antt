@@ -9,7 +9,7 @@ use native.Mathlib.Omega.{arith}
 use lib.Dec.{eqb}
 use borrow.Author.Tests.{eqb-true}
 use Rattle.naturals.specs.Test.{all}
-use Rattle.naturals.proofs.Tests.{all-at}
+use Rattle.naturals.proofs.Tests.{all_at}
 use Rattle.numbering.specs.Binomial.{choose}
 use Rattle.numbering.specs.Count.{vectors}
 use Rattle.shapes.specs.Rows.{entry, Binomials}
@@ -27,27 +27,27 @@ rows =
     ∷ (1 ∷ 8 ∷ 36 ∷ 120 ∷ 330 ∷ 792 ∷ 1716 ∷ 3432 ∷ 6435 ∷ [])
     ∷ []
 
-entryRight : ℕ → ℕ → Bool
-entryRight row column = eqb (entry rows row column) (choose (row + column) column)
+entry_right : ℕ → ℕ → Bool
+entry_right row column = eqb (entry rows row column) (choose (row + column) column)
 
-rowRight : ℕ → Bool
-rowRight row = all (entryRight row) 9
+row_right : ℕ → Bool
+row_right row = all (entry_right row) 9
 
-all_right : all rowRight 8 ≡ true
-unfolding all rowRight entryRight rows choose
+all_right : all row_right 8 ≡ true
+unfolding all row_right entry_right rows choose
 all_right = refl
 
 binomials : (d j : ℕ) → 1 ≤ d → d ≤ 8 → j ≤ 8 → entry rows (d - 1) j ≡ choose (d - 1 + j) j
-unfolding rowRight entryRight
+unfolding row_right entry_right
 binomials d j low high short =
-    let row : rowRight (d - 1) ≡ true = all-at rowRight 8 all_right (d - 1) (omega arith) in
-    eqb-true (entry rows (d - 1) j) (choose (d - 1 + j) j) (all-at (entryRight (d - 1)) 9 row j (omega arith))
+    let row : row_right (d - 1) ≡ true = all_at row_right 8 all_right (d - 1) (omega arith) in
+    eqb-true (entry rows (d - 1) j) (choose (d - 1 + j) j) (all_at (entry_right (d - 1)) 9 row j (omega arith))
 
 -- The count of level vectors is that binomial.
-vectors-choose : (d j : ℕ) → 1 ≤ d → vectors d j ≡ choose (d - 1 + j) j
+vectors_choose : (d j : ℕ) → 1 ≤ d → vectors d j ≡ choose (d - 1 + j) j
 unfolding vectors
-vectors-choose zero j low = omega arith
-vectors-choose (suc k) j low = let less : suc k - 1 ≡ k = omega arith in rw less
+vectors_choose zero j low = omega arith
+vectors_choose (suc k) j low = let less : suc k - 1 ≡ k = omega arith in rw less
 
-pub rows-hold : Binomials rows
-rows-hold = record { holds = λ d j low high short. binomials d j low high short ∙ sym (vectors-choose d j low) }
+pub rows_hold : Binomials rows
+rows_hold = record { holds = λ d j low high short. binomials d j low high short ∙ sym (vectors_choose d j low) }

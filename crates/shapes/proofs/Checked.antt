@@ -10,9 +10,9 @@ use Rattle.naturals.proofs.Tests.{and_left, and_right}
 use Rattle.refusals.specs.declared.Refusal.TheVariants.{Axes, Level, TableLength, Axis}
 use Rattle.refusals.specs.declared.Verdict.TheVariants.{Passed}
 use Rattle.refusals.specs.Checks.{unless}
-use Rattle.refusals.proofs.Passing.{first-passed, next-passed, test-passed}
+use Rattle.refusals.proofs.Passing.{first_passed, next_passed, test_passed}
 use Rattle.shapes.specs.declared.Shape.{Shape}
-use Rattle.shapes.specs.Shapes.{checkShape, checkAxis, pointsOf, checkLength}
+use Rattle.shapes.specs.Shapes.{check_shape, check_axis, points_of, check_length}
 
 pub record InRange (s : Shape) : Type 0 where
   pub low : 1 ≤ s.axes
@@ -23,30 +23,30 @@ pub record InRange (s : Shape) : Type 0 where
 between : (a k b : ℕ) → leb a k && leb k b ≡ true → (a ≤ k) × (k ≤ b)
 between a k b e = (leb-true a k (and_left (leb a k) (leb k b) e), leb-true k b (and_right (leb a k) (leb k b) e))
 
-pub passed-in-range : (s : Shape) → checkShape s ≡ Passed → InRange s
-unfolding checkShape
-passed-in-range s e =
+pub passed_in_range : (s : Shape) → check_shape s ≡ Passed → InRange s
+unfolding check_shape
+passed_in_range s e =
     let axes = unless (leb 1 s.axes && leb s.axes 8) Axes in
     let level = unless (leb s.level 8) Level in
-    let bounds = between 1 s.axes 8 (test-passed (leb 1 s.axes && leb s.axes 8) Axes (first-passed axes level e)) in
+    let bounds = between 1 s.axes 8 (test_passed (leb 1 s.axes && leb s.axes 8) Axes (first_passed axes level e)) in
     record {
       low = bounds.0;
       high = bounds.1;
-      top = leb-true s.level 8 (test-passed (leb s.level 8) Level (next-passed axes level e));
+      top = leb-true s.level 8 (test_passed (leb s.level 8) Level (next_passed axes level e));
     }
 
-pub in-range-passed : (s : Shape) → InRange s → checkShape s ≡ Passed
-unfolding checkShape
-in-range-passed s r = simp (le-leb 1 s.axes r.low, le-leb s.axes 8 r.high, le-leb s.level 8 r.top)
+pub in_range_passed : (s : Shape) → InRange s → check_shape s ≡ Passed
+unfolding check_shape
+in_range_passed s r = simp (le-leb 1 s.axes r.low, le-leb s.axes 8 r.high, le-leb s.level 8 r.top)
 
-pub axis-in-range : (s : Shape) (axis : ℕ) → checkAxis s axis ≡ Passed → (1 ≤ axis) × (axis ≤ s.axes)
-unfolding checkAxis
-axis-in-range s axis e = between 1 axis s.axes (test-passed (leb 1 axis && leb axis s.axes) (Axis axis) e)
+pub axis_in_range : (s : Shape) (axis : ℕ) → check_axis s axis ≡ Passed → (1 ≤ axis) × (axis ≤ s.axes)
+unfolding check_axis
+axis_in_range s axis e = between 1 axis s.axes (test_passed (leb 1 axis && leb axis s.axes) (Axis axis) e)
 
-pub length-passed : (s : Shape) (places : ℕ) → checkLength s places ≡ Passed → places ≡ pointsOf s
-unfolding checkLength
-length-passed s places e = eqb-true places (pointsOf s) (test-passed (eqb places (pointsOf s)) TableLength e)
+pub length_passed : (s : Shape) (places : ℕ) → check_length s places ≡ Passed → places ≡ points_of s
+unfolding check_length
+length_passed s places e = eqb-true places (points_of s) (test_passed (eqb places (points_of s)) TableLength e)
 
-pub length-passes : (s : Shape) (places : ℕ) → places ≡ pointsOf s → checkLength s places ≡ Passed
-unfolding checkLength
-length-passes s places e = rw (eq-eqb places (pointsOf s) e)
+pub length_passes : (s : Shape) (places : ℕ) → places ≡ points_of s → check_length s places ≡ Passed
+unfolding check_length
+length_passes s places e = rw (eq-eqb places (points_of s) e)

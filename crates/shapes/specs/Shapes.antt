@@ -3,7 +3,7 @@
 use Rattle.std.specs.Prelude.{◌&&◌, ℕ, leb, eqb}
 use Rattle.refusals.specs.declared.Refusal.TheVariants.{Axes, Level, TableLength, Axis}
 use Rattle.refusals.specs.declared.Verdict.{Verdict}
-use Rattle.refusals.specs.Checks.{unless, ◌andThen◌, answer}
+use Rattle.refusals.specs.Checks.{unless, ◌and_then◌, answer}
 use Rattle.numbering.specs.Count.{points}
 use Rattle.shapes.specs.declared.Shape.{Shape}
 use Rattle.shapes.specs.declared.Counted.{Counted}
@@ -14,25 +14,25 @@ abbrev pub sparse : ℕ → ℕ → Shape
 sparse d n = record { axes = d; level = n }
 
 -- A shape has 1 to 8 axes, else refused with 1, and a top level of at most 8, else with 2.
-unfoldable pub checkShape : Shape → Verdict
-checkShape s = unless (leb 1 s.axes && leb s.axes 8) Axes andThen unless (leb s.level 8) Level
+unfoldable pub check_shape : Shape → Verdict
+check_shape s = unless (leb 1 s.axes && leb s.axes 8) Axes and_then unless (leb s.level 8) Level
 
 -- The largest number of points that is run (document 02, c).
-abbrev pub mostPoints : ℕ
-mostPoints = 32768
+abbrev pub most_points : ℕ
+most_points = 32768
 
 -- N, the number of points of a shape.
-unfoldable pub pointsOf : Shape → ℕ
-pointsOf s = points s.axes s.level
+unfoldable pub points_of : Shape → ℕ
+points_of s = points s.axes s.level
 
 -- A table of a shape has N places, else refused with 3.
-unfoldable pub checkLength : Shape → ℕ → Verdict
-checkLength s places = unless (eqb places (pointsOf s)) TableLength
+unfoldable pub check_length : Shape → ℕ → Verdict
+check_length s places = unless (eqb places (points_of s)) TableLength
 
 -- The count of the points of a shape.
 unfoldable pub counted : Shape → Counted
-counted s = answer Refused (checkShape s) (Points (pointsOf s))
+counted s = answer Refused (check_shape s) (Points (points_of s))
 
 -- An axis of a shape is one of 1 to d, else refused with 5.
-unfoldable pub checkAxis : Shape → ℕ → Verdict
-checkAxis s axis = unless (leb 1 axis && leb axis s.axes) (Axis axis)
+unfoldable pub check_axis : Shape → ℕ → Verdict
+check_axis s axis = unless (leb 1 axis && leb axis s.axes) (Axis axis)

@@ -4,7 +4,7 @@
 ghost use Rattle.std.specs.Prelude.{◌≡◌, ◌≤◌};
 ghost use Rattle.refusals.specs.declared.Verdict.TheVariants.{Passed};
 ghost use Rattle.numbering.specs.Count.{vectors, start};
-ghost use Rattle.shapes.specs.Shapes.{checkShape, checkAxis, pointsOf, checkLength, counted};
+ghost use Rattle.shapes.specs.Shapes.{check_shape, check_axis, points_of, check_length, counted};
 ghost use Rattle.shapes.specs.Rows.{Binomials};
 
 use refusals::{Refusal, Verdict};
@@ -39,7 +39,7 @@ const ROWS: [[u16; 9]; 8] = [
 
 // Refused with 1 or 2.
 pub fn check_shape(shape: Shape) -> Verdict
-    ensures { result ≡ checkShape shape }
+    ensures { result ≡ check_shape shape }
 {
     let axes = shape.axes;
     let level = shape.level;
@@ -57,7 +57,7 @@ pub fn check_shape(shape: Shape) -> Verdict
 
 // Refused with 5.
 pub fn check_axis(shape: Shape, axis: u32) -> Verdict
-    ensures { result ≡ checkAxis shape axis }
+    ensures { result ≡ check_axis shape axis }
 {
     if axis < 1 {
         return Verdict::Refused(Refusal::Axis(axis));
@@ -101,8 +101,8 @@ pub fn start_of(rows: &[[u16; 9]; 8], axes: u32, sum: u32) -> u64
 
 // How many points a shape has that the check passes.
 pub fn points_of(shape: Shape) -> u64
-    requires { checkShape shape ≡ Passed }
-    ensures { result ≡ pointsOf shape }
+    requires { check_shape shape ≡ Passed }
+    ensures { result ≡ points_of shape }
 {
     let rows = rows();
     start_of(&rows, shape.axes, shape.level + 1)
@@ -110,8 +110,8 @@ pub fn points_of(shape: Shape) -> u64
 
 // Refused with 3, for a shape that the check passes.
 pub fn check_length(shape: Shape, places: usize) -> Verdict
-    requires { checkShape shape ≡ Passed }
-    ensures { result ≡ checkLength shape places }
+    requires { check_shape shape ≡ Passed }
+    ensures { result ≡ check_length shape places }
 {
     if places as u64 != points_of(shape) {
         return Verdict::Refused(Refusal::TableLength);

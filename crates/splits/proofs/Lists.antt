@@ -6,31 +6,31 @@ use mathlib.Core.List.{List, [], ◌∷◌, ◌++◌}
 use Prim.Native.Nat.{ℕ, suc}
 use lib.IntN.{ℤ}
 use Rattle.hierarchy.specs.Grid.{Neighbours}
-use Rattle.hierarchy.specs.Work.{put, Item, worked, allWorked, countsAfter, Legal}
+use Rattle.hierarchy.specs.Work.{put, Item, worked, all_worked, counts_after, Legal}
 
 module _ (nb : Neighbours) (axis : ℕ → ℕ) where
-  pub worked-append : (is js : List Item) (f : ℕ → ℤ) → allWorked nb axis (is ++ js) f ≡ allWorked nb axis js (allWorked nb axis is f)
-  unfolding allWorked
-  worked-append [] js f = refl
-  worked-append (i ∷ is) js f = worked-append is js (worked nb axis i f)
+  pub worked_append : (is js : List Item) (f : ℕ → ℤ) → all_worked nb axis (is ++ js) f ≡ all_worked nb axis js (all_worked nb axis is f)
+  unfolding all_worked
+  worked_append [] js f = refl
+  worked_append (i ∷ is) js f = worked_append is js (worked nb axis i f)
 
-  pub counts-append : (is js : List Item) (c : ℕ → ℕ) → countsAfter nb axis (is ++ js) c ≡ countsAfter nb axis js (countsAfter nb axis is c)
-  unfolding countsAfter
-  counts-append [] js c = refl
-  counts-append (i ∷ is) js c = counts-append is js (put c i.point (suc i.stage))
+  pub counts_append : (is js : List Item) (c : ℕ → ℕ) → counts_after nb axis (is ++ js) c ≡ counts_after nb axis js (counts_after nb axis is c)
+  unfolding counts_after
+  counts_append [] js c = refl
+  counts_append (i ∷ is) js c = counts_append is js (put c i.point (suc i.stage))
 
-  pub legal-append : (is js : List Item) (c : ℕ → ℕ) → Legal nb axis is c → Legal nb axis js (countsAfter nb axis is c) →
+  pub legal_append : (is js : List Item) (c : ℕ → ℕ) → Legal nb axis is c → Legal nb axis js (counts_after nb axis is c) →
       Legal nb axis (is ++ js) c
-  unfolding countsAfter
-  legal-append [] js c first second = second
-  legal-append (i ∷ is) js c first second = (first.0, legal-append is js (put c i.point (suc i.stage)) first.1 second)
+  unfolding counts_after
+  legal_append [] js c first second = second
+  legal_append (i ∷ is) js c first second = (first.0, legal_append is js (put c i.point (suc i.stage)) first.1 second)
 
   -- A legal list in two parts: either is legal where it stands.
-  pub first-legal : (is js : List Item) (c : ℕ → ℕ) → Legal nb axis (is ++ js) c → Legal nb axis is c
-  first-legal [] js c legal = tt
-  first-legal (i ∷ is) js c legal = (legal.0, first-legal is js (put c i.point (suc i.stage)) legal.1)
+  pub first_legal : (is js : List Item) (c : ℕ → ℕ) → Legal nb axis (is ++ js) c → Legal nb axis is c
+  first_legal [] js c legal = tt
+  first_legal (i ∷ is) js c legal = (legal.0, first_legal is js (put c i.point (suc i.stage)) legal.1)
 
-  pub next-legal : (is js : List Item) (c : ℕ → ℕ) → Legal nb axis (is ++ js) c → Legal nb axis js (countsAfter nb axis is c)
-  unfolding countsAfter
-  next-legal [] js c legal = legal
-  next-legal (i ∷ is) js c legal = next-legal is js (put c i.point (suc i.stage)) legal.1
+  pub next_legal : (is js : List Item) (c : ℕ → ℕ) → Legal nb axis (is ++ js) c → Legal nb axis js (counts_after nb axis is c)
+  unfolding counts_after
+  next_legal [] js c legal = legal
+  next_legal (i ∷ is) js c legal = next_legal is js (put c i.point (suc i.stage)) legal.1

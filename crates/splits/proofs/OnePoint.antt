@@ -6,26 +6,26 @@ use Prim.Native.Nat.{ℕ, zero, suc, ◌+◌, ◌-◌, ◌≤◌, ◌<◌}
 use native.Mathlib.Omega.{arith}
 use Rattle.numbering.specs.declared.Side.{Side}
 use Rattle.hierarchy.specs.Grid.{Neighbours}
-use Rattle.hierarchy.specs.Work.{put, countsAfter, Legal}
+use Rattle.hierarchy.specs.Work.{put, counts_after, Legal}
 use Rattle.hierarchy.proofs.Work.{put_same, put_other}
-use Rattle.splits.specs.Splits.{itself, stepsAt, Due}
+use Rattle.splits.specs.Splits.{itself, steps_at, Due}
 use Rattle.splits.proofs.Parts.{Does}
 
 module _ (nb : Neighbours) (d p : ℕ) (apart : (a : ℕ) (b : Side) → nb a b p ≡ p → ⊥) where
   -- What n steps from axis s on leave.
   record Stepped (n s : ℕ) (count : ℕ → ℕ) : Type 0 where
-    legal : Legal nb itself (stepsAt n s p) count
-    own : countsAfter nb itself (stepsAt n s p) count p ≡ s + n
-    rest : (q : ℕ) → (q ≡ p → ⊥) → countsAfter nb itself (stepsAt n s p) count q ≡ count q
+    legal : Legal nb itself (steps_at n s p) count
+    own : counts_after nb itself (steps_at n s p) count p ≡ s + n
+    rest : (q : ℕ) → (q ≡ p → ⊥) → counts_after nb itself (steps_at n s p) count q ≡ count q
 
-  steps-done : (n s : ℕ) (count : ℕ → ℕ) → count p ≡ s →
+  steps_done : (n s : ℕ) (count : ℕ → ℕ) → count p ≡ s →
       ((a : ℕ) (b : Side) → s ≤ a → a < s + n → (nb a b p ≡ 0) ⊎ (count (nb a b p) ≡ a)) → Stepped n s count
-  unfolding stepsAt countsAfter
-  steps-done zero s count e edge = record { legal = tt; own = omega arith; rest = λ q other. refl }
-  steps-done (suc n) s count e edge =
+  unfolding steps_at counts_after
+  steps_done zero s count e edge = record { legal = tt; own = omega arith; rest = λ q other. refl }
+  steps_done (suc n) s count e edge =
       let next : ℕ → ℕ = put count p (suc s) in
       let so_far =
-      steps-done n (suc s) next (put_same count p (suc s))
+      steps_done n (suc s) next (put_same count p (suc s))
       (λ a b low high.
       ⊎_elim
       (λ none. inl none)
@@ -44,11 +44,11 @@ module _ (nb : Neighbours) (d p : ℕ) (apart : (a : ℕ) (b : Side) → nb a b 
       }
 
   -- A set that has this one point.
-  pub point-does : (box : ℕ → Type 0) → ((q : ℕ) → box q → q ≡ p) → box p → (s t : ℕ) → s ≤ t → (count : ℕ → ℕ) → Due nb d s t box count →
-      Does nb d t box count (stepsAt (t - s) s p)
-  point-does box only here s t order count due =
+  pub point_does : (box : ℕ → Type 0) → ((q : ℕ) → box q → q ≡ p) → box p → (s t : ℕ) → s ≤ t → (count : ℕ → ℕ) → Due nb d s t box count →
+      Does nb d t box count (steps_at (t - s) s p)
+  point_does box only here s t order count due =
       let steps =
-      steps-done (t - s) s count (due.own p here)
+      steps_done (t - s) s count (due.own p here)
       (λ a b low high. due.edge a b p low (omega arith) here (λ there. apart a b (only (nb a b p) there))) in
       record {
         legal = steps.legal;

@@ -11,9 +11,9 @@ abbrev pub itself : ℕ → ℕ
 itself k = k
 
 -- The next n steps of one point, from axis s on.
-unfoldable pub stepsAt : ℕ → ℕ → ℕ → List Item
-stepsAt zero s p = []
-stepsAt (suc n) s p = record { stage = s; point = p } ∷ stepsAt n (suc s) p
+unfoldable pub steps_at : ℕ → ℕ → ℕ → List Item
+steps_at zero s p = []
+steps_at (suc n) s p = record { stage = s; point = p } ∷ steps_at n (suc s) p
 
 -- Where the axes s to t − 1 are cut by a split along axis r: those below r come before it, held within s and t.
 unfoldable pub cut : ℕ → ℕ → ℕ → ℕ
@@ -32,18 +32,18 @@ module _ (nb : Neighbours) (d : ℕ) where
   -- the middle in a half, and of a half in the middle only along axis r.
   pub record Split (r : ℕ) (whole middle left right : ℕ → Type 0) : Type 0 where
     pub parts : (p : ℕ) → whole p → middle p ⊎ left p ⊎ right p
-    pub middle-in : (p : ℕ) → middle p → whole p
+    pub middle_in : (p : ℕ) → middle p → whole p
     pub left_in : (p : ℕ) → left p → whole p
-    pub right-in : (p : ℕ) → right p → whole p
-    pub middle-left : (p : ℕ) → middle p → left p → ⊥
-    pub middle-right : (p : ℕ) → middle p → right p → ⊥
-    pub left-right : (p : ℕ) → left p → right p → ⊥
-    pub into-left : (a : ℕ) (b : Side) (p : ℕ) → a < d → middle p → left (nb a b p) → ⊥
-    pub into-right : (a : ℕ) (b : Side) (p : ℕ) → a < d → middle p → right (nb a b p) → ⊥
-    pub left-to-right : (a : ℕ) (b : Side) (p : ℕ) → a < d → left p → right (nb a b p) → ⊥
-    pub right-to-left : (a : ℕ) (b : Side) (p : ℕ) → a < d → right p → left (nb a b p) → ⊥
+    pub right_in : (p : ℕ) → right p → whole p
+    pub middle_left : (p : ℕ) → middle p → left p → ⊥
+    pub middle_right : (p : ℕ) → middle p → right p → ⊥
+    pub left_right : (p : ℕ) → left p → right p → ⊥
+    pub into_left : (a : ℕ) (b : Side) (p : ℕ) → a < d → middle p → left (nb a b p) → ⊥
+    pub into_right : (a : ℕ) (b : Side) (p : ℕ) → a < d → middle p → right (nb a b p) → ⊥
+    pub left_to_right : (a : ℕ) (b : Side) (p : ℕ) → a < d → left p → right (nb a b p) → ⊥
+    pub right_to_left : (a : ℕ) (b : Side) (p : ℕ) → a < d → right p → left (nb a b p) → ⊥
     pub left_along : (a : ℕ) (b : Side) (p : ℕ) → a < d → left p → middle (nb a b p) → a ≡ r
-    pub right-along : (a : ℕ) (b : Side) (p : ℕ) → a < d → right p → middle (nb a b p) → a ≡ r
+    pub right_along : (a : ℕ) (b : Side) (p : ℕ) → a < d → right p → middle (nb a b p) → a ≡ r
 
   -- The axes s to t − 1 are due on a set of points: on each of them exactly the axes before s are done, and a neighbour on one of these axes that lies outside is none, or
   -- has exactly the axes before that one done.

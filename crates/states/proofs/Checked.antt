@@ -8,79 +8,79 @@ use native.Mathlib.Numerals.{add-one}
 use native.Mathlib.Omega.{arith}
 use lib.Dec.{leb, ltb}
 use borrow.Author.Tests.{leb-true, le-leb, lt-leb, ltb-true, lt-ltb}
-use Rattle.naturals.proofs.FirstFailing.{first-none, none_first}
+use Rattle.naturals.proofs.FirstFailing.{first_none, none_first}
 use Rattle.refusals.specs.declared.Refusal.{Refusal}
 use Rattle.refusals.specs.declared.Refusal.TheVariants.{StrayBit}
 use Rattle.refusals.specs.declared.Verdict.TheVariants.{Passed, Refused}
-use Rattle.refusals.specs.Checks.{◌andThen◌}
-use Rattle.refusals.proofs.Passing.{first-passed, next-passed, test-passed}
-use Rattle.shapes.specs.Shapes.{checkShape, pointsOf, checkLength}
-use Rattle.shapes.proofs.Checked.{InRange, passed-in-range, in-range-passed, length-passed, length-passes}
+use Rattle.refusals.specs.Checks.{◌and_then◌}
+use Rattle.refusals.proofs.Passing.{first_passed, next_passed, test_passed}
+use Rattle.shapes.specs.Shapes.{check_shape, points_of, check_length}
+use Rattle.shapes.proofs.Checked.{InRange, passed_in_range, in_range_passed, length_passed, length_passes}
 use Rattle.states.specs.declared.State.{State}
-use Rattle.states.specs.States.{has, isOther, firstAxis, checkAxes, checkBits, checkState}
+use Rattle.states.specs.States.{has, is_other, first_axis, check_axes, check_bits, check_state}
 
 pub record Stands (s : State) (places : ℕ) : Type 0 where
   pub range : InRange s.shape
   pub few : s.forward < 2 ^ s.shape.axes
-  pub long : places ≡ pointsOf s.shape
+  pub long : places ≡ points_of s.shape
 
 module _ (s : State) where
-  few_bits : checkBits s ≡ Passed → s.forward < 2 ^ s.shape.axes
-  unfolding checkBits
-  few_bits e = ltb-true s.forward (2 ^ s.shape.axes) (test-passed (ltb s.forward (2 ^ s.shape.axes)) StrayBit e)
+  few_bits : check_bits s ≡ Passed → s.forward < 2 ^ s.shape.axes
+  unfolding check_bits
+  few_bits e = ltb-true s.forward (2 ^ s.shape.axes) (test_passed (ltb s.forward (2 ^ s.shape.axes)) StrayBit e)
 
-  bits-pass : s.forward < 2 ^ s.shape.axes → checkBits s ≡ Passed
-  unfolding checkBits
-  bits-pass h = rw (lt-ltb s.forward (2 ^ s.shape.axes) h)
+  bits_pass : s.forward < 2 ^ s.shape.axes → check_bits s ≡ Passed
+  unfolding check_bits
+  bits_pass h = rw (lt-ltb s.forward (2 ^ s.shape.axes) h)
 
-  pub state-passed : (places : ℕ) → checkState s places ≡ Passed → Stands s places
-  unfolding checkState
-  state-passed places e =
-      let long = checkLength s.shape places in
-      let rest = next-passed (checkShape s.shape) (checkBits s andThen long) e in
+  pub state_passed : (places : ℕ) → check_state s places ≡ Passed → Stands s places
+  unfolding check_state
+  state_passed places e =
+      let long = check_length s.shape places in
+      let rest = next_passed (check_shape s.shape) (check_bits s and_then long) e in
       record {
-        range = passed-in-range s.shape (first-passed (checkShape s.shape) (checkBits s andThen long) e);
-        few = few_bits (first-passed (checkBits s) long rest);
-        long = length-passed s.shape places (next-passed (checkBits s) long rest);
+        range = passed_in_range s.shape (first_passed (check_shape s.shape) (check_bits s and_then long) e);
+        few = few_bits (first_passed (check_bits s) long rest);
+        long = length_passed s.shape places (next_passed (check_bits s) long rest);
       }
 
-  pub state-passes : (places : ℕ) → Stands s places → checkState s places ≡ Passed
-  unfolding checkState
-  state-passes places h = rw (in-range-passed s.shape h.range, bits-pass h.few, length-passes s.shape places h.long)
+  pub state_passes : (places : ℕ) → Stands s places → check_state s places ≡ Passed
+  unfolding check_state
+  state_passes places h = rw (in_range_passed s.shape h.range, bits_pass h.few, length_passes s.shape places h.long)
 
 -- A bit that is not the one looked for is the other.
-other-bit : (b bit : Bool) → not (beq b bit) ≡ true → b ≡ not bit
-other-bit true true e = cc
-other-bit true false e = refl
-other-bit false true e = refl
-other-bit false false e = cc
+other_bit : (b bit : Bool) → not (beq b bit) ≡ true → b ≡ not bit
+other_bit true true e = cc
+other_bit true false e = refl
+other_bit false true e = refl
+other_bit false false e = cc
 
-is-other : (b bit : Bool) → b ≡ not bit → not (beq b bit) ≡ true
-is-other true true e = cc
-is-other true false e = refl
-is-other false true e = refl
-is-other false false e = cc
+is_other_lem : (b bit : Bool) → b ≡ not bit → not (beq b bit) ≡ true
+is_other_lem true true e = cc
+is_other_lem true false e = refl
+is_other_lem false true e = refl
+is_other_lem false false e = cc
 
 module _ (bit : Bool) (refusal : ℕ → Refusal) (s : State) where
   -- What it answers, by the first axis that is found.
-  pub axis-found : (first : ℕ) → first ≡ firstAxis bit s → first < s.shape.axes → checkAxes bit refusal s ≡ Refused (refusal (first + 1))
-  unfolding checkAxes
-  axis-found first e h = rw (← e, lt-leb s.shape.axes first h, add-one first)
+  pub axis_found : (first : ℕ) → first ≡ first_axis bit s → first < s.shape.axes → check_axes bit refusal s ≡ Refused (refusal (first + 1))
+  unfolding check_axes
+  axis_found first e h = rw (← e, lt-leb s.shape.axes first h, add-one first)
 
-  pub none_found : (first : ℕ) → first ≡ firstAxis bit s → s.shape.axes ≤ first → checkAxes bit refusal s ≡ Passed
-  unfolding checkAxes
+  pub none_found : (first : ℕ) → first ≡ first_axis bit s → s.shape.axes ≤ first → check_axes bit refusal s ≡ Passed
+  unfolding check_axes
   none_found first e h = rw (← e, le-leb s.shape.axes first h)
 
-  pub axes-passed : checkAxes bit refusal s ≡ Passed → (t : ℕ) → t < s.shape.axes → has s.forward t ≡ not bit
-  unfolding checkAxes firstAxis isOther
-  axes-passed e t h =
+  pub axes_passed : check_axes bit refusal s ≡ Passed → (t : ℕ) → t < s.shape.axes → has s.forward t ≡ not bit
+  unfolding check_axes first_axis is_other
+  axes_passed e t h =
       let d = s.shape.axes in
-      let first = firstAxis bit s in
-      other-bit (has s.forward t) bit
-      (none_first (isOther bit s.forward) d (leb-true d first (test-passed (leb d first) (refusal (suc first)) e)) t h)
+      let first = first_axis bit s in
+      other_bit (has s.forward t) bit
+      (none_first (is_other bit s.forward) d (leb-true d first (test_passed (leb d first) (refusal (suc first)) e)) t h)
 
-  pub axes-pass : ((t : ℕ) → t < s.shape.axes → has s.forward t ≡ not bit) → checkAxes bit refusal s ≡ Passed
-  unfolding firstAxis isOther
-  axes-pass each =
+  pub axes_pass : ((t : ℕ) → t < s.shape.axes → has s.forward t ≡ not bit) → check_axes bit refusal s ≡ Passed
+  unfolding first_axis is_other
+  axes_pass each =
       let d = s.shape.axes in
-      none_found d (sym (first-none (isOther bit s.forward) d (λ t h. is-other (has s.forward t) bit (each t h)))) (omega arith)
+      none_found d (sym (first_none (is_other bit s.forward) d (λ t h. is_other_lem (has s.forward t) bit (each t h)))) (omega arith)

@@ -28,6 +28,6 @@ abbrev pub left : Verdict → List ℤ → Left
 left v xs = record { verdict = v; table = xs }
 
 -- Refused, the table holds what it held; else it holds the new contents.
-abbrev pub leftBy : List ℤ → Verdict → List ℤ → Left
-leftBy xs Passed ys = left Passed ys
-leftBy xs (verdict.Refused r) ys = left (verdict.Refused r) xs
+abbrev pub left_by : List ℤ → Verdict → List ℤ → Left
+left_by xs Passed ys = left Passed ys
+left_by xs (verdict.Refused r) ys = left (verdict.Refused r) xs

@@ -2,12 +2,12 @@
 -- Assumes nothing.
 use Rattle.std.specs.Prelude.{Bool, not, ℕ, suc, ◌+◌, ◌-◌, ◌/◌, ◌%◌, ◌^◌, leb, ltb, eqb}
 use Rattle.std.specs.Bool.{beq}
-use Rattle.naturals.specs.FirstFailing.{firstFailing}
+use Rattle.naturals.specs.FirstFailing.{first_failing}
 use Rattle.refusals.specs.declared.Refusal.{Refusal}
 use Rattle.refusals.specs.declared.Refusal.TheVariants.{StrayBit}
 use Rattle.refusals.specs.declared.Verdict.{Verdict}
-use Rattle.refusals.specs.Checks.{unless, ◌andThen◌}
-use Rattle.shapes.specs.Shapes.{checkShape, checkLength}
+use Rattle.refusals.specs.Checks.{unless, ◌and_then◌}
+use Rattle.shapes.specs.Shapes.{check_shape, check_length}
 use Rattle.states.specs.declared.State.{State}
 
 -- The set has place t (axis t + 1): bit t of the byte.
@@ -22,21 +22,21 @@ abbrev pub cleared : State → ℕ → State
 cleared s t = record { shape = s.shape; forward = s.forward - 2 ^ t }
 
 -- Bit t is not the bit that is looked for.
-unfoldable pub isOther : Bool → ℕ → ℕ → Bool
-isOther bit byte t = not (beq (has byte t) bit)
+unfoldable pub is_other : Bool → ℕ → ℕ → Bool
+is_other bit byte t = not (beq (has byte t) bit)
 
 -- The first axis whose bit is the one looked for, counted from 0, or d.
-unfoldable pub firstAxis : Bool → State → ℕ
-firstAxis bit s = firstFailing (isOther bit s.forward) s.shape.axes
+unfoldable pub first_axis : Bool → State → ℕ
+first_axis bit s = first_failing (is_other bit s.forward) s.shape.axes
 
 -- No axis has the bit that is looked for, else refused; the place is the first axis that has it.
-unfoldable pub checkAxes : Bool → (ℕ → Refusal) → State → Verdict
-checkAxes bit refusal s = unless (leb s.shape.axes (firstAxis bit s)) (refusal (suc (firstAxis bit s)))
+unfoldable pub check_axes : Bool → (ℕ → Refusal) → State → Verdict
+check_axes bit refusal s = unless (leb s.shape.axes (first_axis bit s)) (refusal (suc (first_axis bit s)))
 
 -- No bit is set above axis d, else refused with 14.
-unfoldable pub checkBits : State → Verdict
-checkBits s = unless (ltb s.forward (2 ^ s.shape.axes)) StrayBit
+unfoldable pub check_bits : State → Verdict
+check_bits s = unless (ltb s.forward (2 ^ s.shape.axes)) StrayBit
 
 -- A state and a table of that many places: refused with 1, 2, 14 or 3.
-unfoldable pub checkState : State → ℕ → Verdict
-checkState s places = checkShape s.shape andThen checkBits s andThen checkLength s.shape places
+unfoldable pub check_state : State → ℕ → Verdict
+check_state s places = check_shape s.shape and_then check_bits s and_then check_length s.shape places

@@ -3,8 +3,8 @@
 
 ghost use Rattle.std.specs.Prelude.{◌≡◌, true, false, ◌≤◌, ◌<◌};
 ghost use Rattle.refusals.specs.declared.Verdict.TheVariants.{Passed};
-ghost use Rattle.shapes.specs.Shapes.{checkShape};
-ghost use Rattle.states.specs.States.{has, marked, cleared, firstAxis, checkBits, checkState};
+ghost use Rattle.shapes.specs.Shapes.{check_shape};
+ghost use Rattle.states.specs.States.{has, marked, cleared, first_axis, check_bits, check_state};
 
 use refusals::{Refusal, Verdict};
 use shapes::Shape;
@@ -60,7 +60,7 @@ pub fn without_axis(state: State, t: u32) -> State
 // The first axis whose bit is the one looked for, counted from 0, or d.
 pub fn first_axis(state: State, bit: bool) -> u32
     requires { state.shape.axes ≤ 8 }
-    ensures { result ≡ firstAxis bit state }
+    ensures { result ≡ first_axis bit state }
 {
     let shape = state.shape;
     let axes = shape.axes;
@@ -77,8 +77,8 @@ pub fn first_axis(state: State, bit: bool) -> u32
 
 // Refused with 14.
 fn check_bits(state: State) -> Verdict
-    requires { checkShape state.shape ≡ Passed }
-    ensures { result ≡ checkBits state }
+    requires { check_shape state.shape ≡ Passed }
+    ensures { result ≡ check_bits state }
 {
     let shape = state.shape;
     let forward = state.forward as u32;
@@ -90,7 +90,7 @@ fn check_bits(state: State) -> Verdict
 
 // Refused with 1, 2, 14 or 3.
 pub fn check_state(state: State, places: usize) -> Verdict
-    ensures { result ≡ checkState state places }
+    ensures { result ≡ check_state state places }
 {
     let shape = state.shape;
     if let Verdict::Refused(r) = shapes::check_shape(shape) {

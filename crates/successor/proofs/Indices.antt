@@ -11,11 +11,11 @@ use native.Mathlib.Omega.{arith}
 use lib.Pow.{pow_pos, pow_mono}
 use lib.ListN.{length, set, length-set}
 use lib.Seq.{get_or-set_same, get_or-set_other}
-use Rattle.naturals.proofs.Sums.{term-le}
-use Rattle.naturals.proofs.Cases.{le-or-lt, eq-or-not}
+use Rattle.naturals.proofs.Sums.{term_le}
+use Rattle.naturals.proofs.Cases.{le_or_lt, eq_or_not}
 use Rattle.numbering.specs.Point.{at, IsPoint}
 use Rattle.numbering.proofs.Position.{half}
-use Rattle.numbering.proofs.Succession.{NextIndices, next-position, last-position}
+use Rattle.numbering.proofs.Succession.{NextIndices, next_position, last_position}
 use Rattle.points.proofs.PointTest.{shifted}
 use Rattle.successor.specs.Steps.{StepsIndices}
 
@@ -33,40 +33,40 @@ module _ {d : ℕ} {ls is next : List ℕ} {t : ℕ} (fits : d ≤ 8) (p : IsPoi
   other : (v u : ℕ) → (u ≡ t → ⊥) → at (set next t v) u ≡ at next u
   other v u h = get_or-set_other next t u v 0 h
 
-  pub turned-steps : t < d → 2 ^ suc (at ls t) ≤ at next t + 2 → Turned d ls is (set next t 1) (suc t)
-  turned-steps h over =
+  pub turned_steps : t < d → 2 ^ suc (at ls t) ≤ at next t + 2 → Turned d ls is (set next t 1) (suc t)
+  turned_steps h over =
       let was : suc (half (at is) t) ≡ 2 ^ at ls t =
       omega (arith, turned.kept t (omega arith), p.odd t h, p.below t h, pow-suc 2 (at ls t)) in
       record {
         place = h;
         long = length-set next t 1 ∙ turned.long;
-        full = λ u lt. eq-or-not u t (λ e. rw e was) (λ ne. turned.full u (omega arith));
-        ones = λ u lt. eq-or-not u t (λ e. rw e (same h 1)) (λ ne. other 1 u ne ∙ turned.ones u (omega arith));
+        full = λ u lt. eq_or_not u t (λ e. rw e was) (λ ne. turned.full u (omega arith));
+        ones = λ u lt. eq_or_not u t (λ e. rw e (same h 1)) (λ ne. other 1 u ne ∙ turned.ones u (omega arith));
         kept = λ u le. other 1 u (λ e. omega arith) ∙ turned.kept u (omega arith);
       }
 
   -- The numbers so far are indices of the levels.
-  now-odd : (u : ℕ) → u < d → at next u % 2 ≡ 1
-  now-odd u h =
-      le-or-lt t u
+  now_odd : (u : ℕ) → u < d → at next u % 2 ≡ 1
+  now_odd u h =
+      le_or_lt t u
       (λ le. omega (arith, turned.kept u le, p.odd u h))
       (λ lt. omega (arith, turned.ones u lt))
 
-  now-below : (u : ℕ) → u < d → at next u < 2 ^ suc (at ls u)
-  now-below u h =
-      le-or-lt t u
+  now_below : (u : ℕ) → u < d → at next u < 2 ^ suc (at ls u)
+  now_below u h =
+      le_or_lt t u
       (λ le. omega (arith, turned.kept u le, p.below u h))
       (λ lt. omega (arith, turned.ones u lt, pow-suc 2 (at ls u), pow_pos (at ls u)))
 
   -- So the code's sums and shifts are small.
-  pub level-small : t < d → at ls t ≤ 8
-  level-small h = omega (arith, term-le (at ls) d t h, p.sum)
+  pub level_small : t < d → at ls t ≤ 8
+  level_small h = omega (arith, term_le (at ls) d t h, p.sum)
 
-  pub index-small : t < d → at next t < 512
-  index-small h = omega (arith, now-below t h, pow_mono {i = suc (at ls t)} {j = 9} (omega (arith, level-small h)))
+  pub index_small : t < d → at next t < 512
+  index_small h = omega (arith, now_below t h, pow_mono {i = suc (at ls t)} {j = 9} (omega (arith, level_small h)))
 
   pub bound : t < d → 2 * 2 ^ at ls t % 2 ^ 32 ≡ 2 ^ suc (at ls t)
-  bound h = shifted (at ls t) (level-small h)
+  bound h = shifted (at ls t) (level_small h)
 
   raises : t < d → NextIndices d t (at ls) (at is) (at (set next t (at next t + 2)))
   raises h =
@@ -79,33 +79,33 @@ module _ {d : ℕ} {ls is next : List ℕ} {t : ℕ} (fits : d ≤ 8) (p : IsPoi
         kept = λ u lt le. other v u (λ e. omega arith) ∙ turned.kept u (omega arith);
       }
 
-  pub turned-raised : t < d → at next t + 2 < 2 ^ suc (at ls t) → StepsIndices d ls is false (set next t (at next t + 2))
-  turned-raised h under =
+  pub turned_raised : t < d → at next t + 2 < 2 ^ suc (at ls t) → StepsIndices d ls is false (set next t (at next t + 2))
+  turned_raised h under =
       let v = at next t + 2 in
       record {
         long = length-set next t v ∙ turned.long;
         rest = λ u le. other v u (λ e. omega arith) ∙ turned.kept u (omega arith);
         odd =
             λ u lt.
-            eq-or-not u t (λ e. rw e (omega (arith, same h v, now-odd t h))) (λ ne. omega (arith, other v u ne, now-odd u lt));
+            eq_or_not u t (λ e. rw e (omega (arith, same h v, now_odd t h))) (λ ne. omega (arith, other v u ne, now_odd u lt));
         below =
             λ u lt.
-            eq-or-not u t
+            eq_or_not u t
             (λ e. rw e (omega (arith, same h v)))
-            (λ ne. omega (arith, other v u ne, now-below u lt));
-        higher = λ e. next-position (raises h);
+            (λ ne. omega (arith, other v u ne, now_below u lt));
+        higher = λ e. next_position (raises h);
         last = λ e. cc;
         ones = λ e u lt. cc;
       }
 
-  pub turned-past : d ≤ t → StepsIndices d ls is true next
-  turned-past h =
+  pub turned_past : d ≤ t → StepsIndices d ls is true next
+  turned_past h =
       record {
         long = turned.long;
         rest = λ u le. turned.kept u (omega (arith, turned.place));
-        odd = now-odd;
-        below = now-below;
+        odd = now_odd;
+        below = now_below;
         higher = λ e. cc;
-        last = λ e. last-position (at ls) (at is) d (λ u lt. turned.full u (omega arith));
+        last = λ e. last_position (at ls) (at is) d (λ u lt. turned.full u (omega arith));
         ones = λ e u lt. turned.ones u (omega arith);
       }

@@ -9,13 +9,13 @@ use Prim.Native.Nat.{ℕ, suc, ◌^◌, ◌≤◌, ◌<◌}
 use native.Mathlib.Nat.{pow-suc}
 use native.Mathlib.Omega.{arith}
 use lib.Pow.{pow_pos}
-use Rattle.naturals.specs.Sum.{sumTo}
+use Rattle.naturals.specs.Sum.{sum_to}
 use Rattle.numbering.specs.Count.{start}
 use Rattle.numbering.specs.Point.{at}
-use Rattle.numbering.specs.Number.{number, firstOf}
-use Rattle.numbering.proofs.Numbering.{points-is, start-mono}
-use Rattle.numbering.proofs.Subspaces.{first-is, number-from-first}
-use Rattle.numbering.proofs.Succession.{first-position}
+use Rattle.numbering.specs.Number.{number, first_of}
+use Rattle.numbering.proofs.Numbering.{points_is, start_mono}
+use Rattle.numbering.proofs.Subspaces.{first_is, number_from_first}
+use Rattle.numbering.proofs.Succession.{first_position}
 use Rattle.vectors.specs.Steps.{VectorIn, NextVector}
 use Rattle.points.specs.declared.Outcome.TheVariants.{End}
 use Rattle.points.specs.Points.{nowhere}
@@ -23,51 +23,51 @@ use Rattle.points.specs.Steps.{PointIn}
 use Rattle.successor.specs.Steps.{StepsIndices}
 use Rattle.successor.proofs.Reached.{reached, following, reaches, ended}
 
-pub vector-of : {d n : ℕ} {ls is : List ℕ} → PointIn d n ls is → (sum : ℕ) → sum ≡ sumTo (at ls) d → VectorIn d sum ls
-vector-of p sum e = record { long = p.long-levels; total = sym e; rest = p.no-level }
+pub vector_of : {d n : ℕ} {ls is : List ℕ} → PointIn d n ls is → (sum : ℕ) → sum ≡ sum_to (at ls) d → VectorIn d sum ls
+vector_of p sum e = record { long = p.long_levels; total = sym e; rest = p.no_level }
 
 module _ {d n : ℕ} {ls is js : List ℕ} {past : Bool} (p : PointIn d n ls is) (turned : StepsIndices d ls is past js) where
-  pub next-index : past ≡ false → reached ls js ≡ following d n (at ls) (at is)
-  next-index e =
+  pub next_index : past ≡ false → reached ls js ≡ following d n (at ls) (at is)
+  next_index e =
       let point : PointIn d n ls js = record {
-        long-levels = p.long-levels;
-        long-indices = turned.long;
+        long_levels = p.long_levels;
+        long_indices = turned.long;
         point = record { sum = p.point.sum; odd = turned.odd; below = turned.below };
-        no-level = p.no-level;
+        no_level = p.no_level;
         no_index = λ t h. turned.rest t h ∙ p.no_index t h;
       } in
       reaches point (at ls) (at is)
-      (omega (arith, number-from-first d (at ls) (at js), number-from-first d (at ls) (at is), turned.higher e))
+      (omega (arith, number_from_first d (at ls) (at js), number_from_first d (at ls) (at is), turned.higher e))
 
-  module _ (e : past ≡ true) {sum sum' : ℕ} {ms : List ℕ} (whole : sum ≡ sumTo (at ls) d) (next : NextVector d sum ls sum' ms) where
+  module _ (e : past ≡ true) {sum sum' : ℕ} {ms : List ℕ} (whole : sum ≡ sum_to (at ls) d) (next : NextVector d sum ls sum' ms) where
     -- The next vector starts one past this point.
-    starts : firstOf d (at ms) ≡ suc (number d (at ls) (at is))
+    starts : first_of d (at ms) ≡ suc (number d (at ls) (at is))
     starts =
         omega (
           arith,
           next.first,
-          number-from-first d (at ls) (at is),
+          number_from_first d (at ls) (at is),
           turned.last e,
           ap (λ (s : ℕ). 2 ^ s) whole,
         )
 
     -- The indices 1 fit any levels.
-    pub first-of-next : sum' ≤ n → reached ms js ≡ following d n (at ls) (at is)
-    first-of-next within =
+    pub first_of_next : sum' ≤ n → reached ms js ≡ following d n (at ls) (at is)
+    first_of_next within =
         let point : PointIn d n ms js = record {
-          long-levels = next.vector.long;
-          long-indices = turned.long;
+          long_levels = next.vector.long;
+          long_indices = turned.long;
           point =
               record {
                 sum = omega (arith, next.vector.total);
                 odd = turned.odd;
                 below = λ t h. omega (arith, turned.ones e t h, pow-suc 2 (at ms t), pow_pos (at ms t));
               };
-          no-level = next.vector.rest;
+          no_level = next.vector.rest;
           no_index = λ t h. turned.rest t h ∙ p.no_index t h;
         } in
         reaches point (at ls) (at is)
-        (omega (arith, number-from-first d (at ms) (at js), first-position (at ms) (at js) d (turned.ones e), starts))
+        (omega (arith, number_from_first d (at ms) (at js), first_position (at ms) (at js) d (turned.ones e), starts))
 
     pub none_left : n < sum' → nowhere End ≡ following d n (at ls) (at is)
     none_left past_top =
@@ -75,8 +75,8 @@ module _ {d n : ℕ} {ls is js : List ℕ} {past : Bool} (p : PointIn d n ls is)
         (omega (
           arith,
           starts,
-          first-is d (at ms),
+          first_is d (at ms),
           ap (start d) next.vector.total,
-          start-mono d (suc n) sum' past_top,
-          points-is d n,
+          start_mono d (suc n) sum' past_top,
+          points_is d n,
         ))

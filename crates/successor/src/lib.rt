@@ -3,10 +3,10 @@
 
 ghost use Rattle.std.specs.Prelude.{◌≡◌, ◌≤◌, length};
 ghost use Rattle.numbering.specs.Point.{at, IsPoint};
-ghost use Rattle.grids.specs.Grids.{numberOf};
+ghost use Rattle.grids.specs.Grids.{number_of};
 ghost use Rattle.points.specs.Steps.{PointIn};
 ghost use Rattle.successor.specs.Steps.{StepsIndices};
-ghost use Rattle.successor.specs.Successor.{after, successorOf};
+ghost use Rattle.successor.specs.Successor.{after, successor_of};
 
 use points::{Located, Outcome, Point};
 use refusals::Verdict;
@@ -47,7 +47,7 @@ fn next_indices(axes: usize, p: Point) -> Stepped
 // The successor of a point of this shape, or the end.
 fn next_point(shape: Shape, p: Point) -> Located
     requires { (1 ≤ shape.axes) × (shape.axes ≤ 8) × (shape.level ≤ 8) × PointIn shape.axes shape.level p.levels p.indices }
-    ensures { result ≡ after shape (numberOf shape (at p.levels) (at p.indices)) }
+    ensures { result ≡ after shape (number_of shape (at p.levels) (at p.indices)) }
 {
     let axes = shape.axes as usize;
     let levels = p.levels;
@@ -79,7 +79,7 @@ fn next_point(shape: Shape, p: Point) -> Located
 
 // The successor of a point, or the end after the last.
 pub fn successor(shape: Shape, levels: &[u32], indices: &[u32]) -> Located
-    ensures { result ≡ successorOf shape levels.now indices.now }
+    ensures { result ≡ successor_of shape levels.now indices.now }
 {
     let given = points::point_from(shape, levels, indices);
     let verdict = given.verdict;

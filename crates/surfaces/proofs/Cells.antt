@@ -6,12 +6,12 @@ use Prim.Native.Nat.{ℕ, suc, ◌+◌, ◌-◌, ◌*◌, ◌/◌, ◌%◌, ◌^
 use native.Mathlib.Nat.{pow-suc, div-eq_of_lt-le}
 use native.Mathlib.Omega.{arith}
 use Rattle.shapes.specs.declared.Shape.{Shape}
-use Rattle.shapes.specs.Shapes.{pointsOf}
-use Rattle.grids.specs.Grids.{levelOn, indexOn}
-use Rattle.grids.proofs.Points.{index-odd, same_point}
+use Rattle.shapes.specs.Shapes.{points_of}
+use Rattle.grids.specs.Grids.{level_on, index_on}
+use Rattle.grids.proofs.Points.{index_odd, same_point}
 use Rattle.surfaces.specs.Weights.{unit, weight, distance}
-use Rattle.surfaces.specs.Surface.{weightIn, jointIn, weightOn, jointAt}
-use Rattle.surfaces.proofs.Joint.{joint-above}
+use Rattle.surfaces.specs.Surface.{weight_in, joint_in, weight_on, joint_at}
+use Rattle.surfaces.proofs.Joint.{joint_above}
 
 -- ---- one axis
 
@@ -20,12 +20,12 @@ module _ (u x l i : ℕ) where
   unfolding weight
   weight_is = refl
 
-  pub weight-le : weight u x l i ≤ u
-  weight-le = omega (arith, weight_is)
+  pub weight_le : weight u x l i ≤ u
+  weight_le = omega (arith, weight_is)
 
-  pub only-half : i % 2 ≡ 1 → 0 < weight u x l i → (i - 1) / 2 ≡ x * 2 ^ l / u
+  pub only_half : i % 2 ≡ 1 → 0 < weight u x l i → (i - 1) / 2 ≡ x * 2 ^ l / u
   unfolding distance
-  only-half odd some =
+  only_half odd some =
       let index : i ≡ 2 * ((i - 1) / 2) + 1 = omega arith in
       sym (in_cell (x * 2 ^ l) ((i - 1) / 2) u
       (omega (arith, weight_is, ap (λ (j : ℕ). j * u) index, ap (λ (m : ℕ). x * m) (pow-suc 2 l))))
@@ -38,18 +38,18 @@ module _ (u x l i : ℕ) where
 module _ (s : Shape) (x : ℕ → ℕ) where
   -- A point whose joint weight is above 0 has on each axis the index of the cell in which the coordinate lies. At the coordinate `unit` itself no point has a
   -- weight above 0.
-  pub which-point : (p : ℕ) → p < pointsOf s → 0 < jointAt s x p →
-      (t : ℕ) → t < s.axes → indexOn s p t ≡ 2 * (x t * 2 ^ levelOn s p t / unit) + 1
-  unfolding jointIn weightIn
-  which-point p p-in some t h =
-      let odd = index-odd s p p-in t h in
-      omega (arith, odd, only-half unit (x t) (levelOn s p t) (indexOn s p t) odd (joint-above unit (weightOn s x p) s.axes some t h))
+  pub which_point : (p : ℕ) → p < points_of s → 0 < joint_at s x p →
+      (t : ℕ) → t < s.axes → index_on s p t ≡ 2 * (x t * 2 ^ level_on s p t / unit) + 1
+  unfolding joint_in weight_in
+  which_point p p_in some t h =
+      let odd = index_odd s p p_in t h in
+      omega (arith, odd, only_half unit (x t) (level_on s p t) (index_on s p t) odd (joint_above unit (weight_on s x p) s.axes some t h))
 
-  pub one-for-each-vector : (p q : ℕ) → p < pointsOf s → q < pointsOf s → ((t : ℕ) → t < s.axes → levelOn s p t ≡ levelOn s q t) →
-      0 < jointAt s x p → 0 < jointAt s x q → p ≡ q
-  one-for-each-vector p q p-in q-in same some-p some-q =
-      same_point s p q p-in q-in same
+  pub one_for_each_vector : (p q : ℕ) → p < points_of s → q < points_of s → ((t : ℕ) → t < s.axes → level_on s p t ≡ level_on s q t) →
+      0 < joint_at s x p → 0 < joint_at s x q → p ≡ q
+  one_for_each_vector p q p_in q_in same some_p some_q =
+      same_point s p q p_in q_in same
       (λ t h.
-      which-point p p-in some-p t h
+      which_point p p_in some_p t h
       ∙ ap (λ (l : ℕ). 2 * (x t * 2 ^ l / unit) + 1) (same t h)
-      ∙ sym (which-point q q-in some-q t h))
+      ∙ sym (which_point q q_in some_q t h))

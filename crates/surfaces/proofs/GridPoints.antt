@@ -6,20 +6,20 @@ use Prim.Native.Nat.{ℕ, zero, suc, ◌+◌, ◌-◌, ◌*◌, ◌/◌, ◌%◌
 use native.Mathlib.Nat.{mul-div_cancel, eq_of_mul-eq-mul_right, pow-suc, pow-zero}
 use native.Mathlib.Omega.{arith}
 use lib.Pow.{pow-add, pow_pos}
-use Rattle.naturals.specs.Sum.{sumTo, prodTo}
-use Rattle.naturals.proofs.Cases.{le-or-lt}
-use Rattle.naturals.proofs.Sums.{sumTo-zero, sumTo-suc, sumTo-mono, term-le}
+use Rattle.naturals.specs.Sum.{sum_to, prod_to}
+use Rattle.naturals.proofs.Cases.{le_or_lt}
+use Rattle.naturals.proofs.Sums.{sum_to_zero, sum_to_suc, sum_to_mono, term_le}
 use Rattle.zero_border.specs.Numbered.{Numbered, Numbering}
 use Rattle.shapes.specs.declared.Shape.{Shape}
-use Rattle.shapes.specs.Shapes.{pointsOf}
+use Rattle.shapes.specs.Shapes.{points_of}
 use Rattle.grids.specs.Grids.{numbered}
-use Rattle.grids.proofs.Points.{level-sum, numbering}
-use Rattle.interpolation.proofs.Products.{prodTo-zero, prodTo-suc}
+use Rattle.grids.proofs.Points.{level_sum, numbering}
+use Rattle.interpolation.proofs.Products.{prod_to_zero, prod_to_suc}
 use Rattle.surfaces.specs.Weights.{unit, weight, joint}
-use Rattle.surfaces.specs.Surface.{coordinatesIn, weightIn, productIn, jointIn, coordinatesOf, productAt, jointAt}
-use Rattle.surfaces.proofs.Unit.{unitBits, unit-is, WholeCoordinates, Share, unit-splits, coordinate-is}
-use Rattle.surfaces.proofs.Hat.{tent, share-above, weight-above, weight-below}
-use Rattle.surfaces.proofs.Joint.{joint-zero, joint-suc}
+use Rattle.surfaces.specs.Surface.{coordinates_in, weight_in, product_in, joint_in, coordinates_of, product_at, joint_at}
+use Rattle.surfaces.proofs.Unit.{unit_bits, unit_is, WholeCoordinates, Share, unit_splits, coordinate_is}
+use Rattle.surfaces.proofs.Hat.{tent, share_above, weight_above, weight_below}
+use Rattle.surfaces.proofs.Joint.{joint_zero, joint_suc}
 
 -- w times 2^e is a multiple of the unit u.
 record Multiple (u w e : ℕ) : Type 0 where
@@ -27,8 +27,8 @@ record Multiple (u w e : ℕ) : Type 0 where
   exact : w * 2 ^ e ≡ times * u
 
 -- The product of two multiples is one of the unit where the unit has all their factors of two.
-product-of : (j w s l a b v u : ℕ) → 0 < s * l → j * s ≡ a * u → w * l ≡ b * u → v * (s * l) ≡ u → j * w ≡ a * b * v * u
-product-of j w s l a b v u some ej ew whole =
+product_of : (j w s l a b v u : ℕ) → 0 < s * l → j * s ≡ a * u → w * l ≡ b * u → v * (s * l) ≡ u → j * w ≡ a * b * v * u
+product_of j w s l a b v u some ej ew whole =
     eq_of_mul-eq-mul_right (s * l) some (j * w) (a * b * v * u)
     (omega (
       arith,
@@ -42,31 +42,31 @@ product-of j w s l a b v u some ej ew whole =
 deeper : (ℕ → ℕ) → ℕ → ℕ
 deeper l t = suc (l t)
 
-deeper-sum : (l : ℕ → ℕ) (d : ℕ) → sumTo (deeper l) d ≡ sumTo l d + d
+deeper_sum : (l : ℕ → ℕ) (d : ℕ) → sum_to (deeper l) d ≡ sum_to l d + d
 unfolding deeper
-deeper-sum l zero = omega (arith, sumTo-zero (deeper l), sumTo-zero l)
-deeper-sum l (suc d) = omega (arith, sumTo-suc (deeper l) d, sumTo-suc l d, deeper-sum l d)
+deeper_sum l zero = omega (arith, sum_to_zero (deeper l), sum_to_zero l)
+deeper_sum l (suc d) = omega (arith, sum_to_suc (deeper l) d, sum_to_suc l d, deeper_sum l d)
 
 -- The levels of every point and the axes are together at most the factors of two of the unit, so that joint weights at points are whole.
 abbrev pub WholeWeights : ℕ → Numbered → Type 0
-WholeWeights bits g = (q : ℕ) → q < g.count → sumTo (g.level q) g.axes + g.axes ≤ bits
+WholeWeights bits g = (q : ℕ) → q < g.count → sum_to (g.level q) g.axes + g.axes ≤ bits
 
 -- Then coordinates are.
-pub whole-coordinates : (bits : ℕ) (g : Numbered) → WholeWeights bits g → WholeCoordinates bits g
-whole-coordinates bits g whole q t q-in axis = omega (arith, whole q q-in, term-le (g.level q) g.axes t axis)
+pub whole_coordinates : (bits : ℕ) (g : Numbered) → WholeWeights bits g → WholeCoordinates bits g
+whole_coordinates bits g whole q t q_in axis = omega (arith, whole q q_in, term_le (g.level q) g.axes t axis)
 
 -- ---- weights in a unit of so many factors of two
 
 module _ (u bits : ℕ) (binary : u ≡ 2 ^ bits) where
   splits : (k : ℕ) → k ≤ bits → Share u k
-  splits k few = unit-splits u bits k binary few
+  splits k few = unit_splits u bits k binary few
 
   -- ---- one axis
 
-  weight-multiple : (lp ip lq m v : ℕ) → ip % 2 ≡ 1 → v * 2 ^ suc lq ≡ u → Multiple u (weight u (m * v) lp ip) (suc lq)
-  weight-multiple lp ip lq m v odd whole =
-      le-or-lt lp lq above
-      (λ lt. record { times = 0; exact = ap (λ (w : ℕ). w * 2 ^ suc lq) (weight-below u lp ip lq m v whole lt odd) ∙ zeros (2 ^ suc lq) u })
+  weight_multiple : (lp ip lq m v : ℕ) → ip % 2 ≡ 1 → v * 2 ^ suc lq ≡ u → Multiple u (weight u (m * v) lp ip) (suc lq)
+  weight_multiple lp ip lq m v odd whole =
+      le_or_lt lp lq above
+      (λ lt. record { times = 0; exact = ap (λ (w : ℕ). w * 2 ^ suc lq) (weight_below u lp ip lq m v whole lt odd) ∙ zeros (2 ^ suc lq) u })
     where
       zeros : (a u : ℕ) → 0 * a ≡ 0 * u
       zeros a u = omega arith
@@ -78,13 +78,13 @@ module _ (u bits : ℕ) (binary : u ≡ 2 ^ bits) where
       above : lp ≤ lq → Multiple u (weight u (m * v) lp ip) (suc lq)
       above le =
           let h : ℕ = 2 ^ (lq - lp) in
-          let high = share-above u lp lq v whole le in
+          let high = share_above u lp lq v whole le in
           let parts : suc lq ≡ lq - lp + suc lp = omega arith in
           record {
             times = tent h (ip * h) m * 2 ^ suc lp;
             exact =
                 regroup (v * 2 ^ suc lp) (tent h (ip * h) m) h (2 ^ suc lp) (2 ^ suc lq) (weight u (m * v) lp ip) u high
-                (weight-above u lp ip m v h high)
+                (weight_above u lp ip m v h high)
                 (ap (λ (k : ℕ). 2 ^ k) parts ∙ pow-add 2 (lq - lp) (suc lp));
           }
 
@@ -98,7 +98,7 @@ module _ (u bits : ℕ) (binary : u ≡ 2 ^ bits) where
     product_is : j * w ≡ left * u
     unfolding left
     product_is =
-        product-of j w (2 ^ s) (2 ^ l) mj.times mw.times (splits (s + l) few).share u
+        product_of j w (2 ^ s) (2 ^ l) mj.times mw.times (splits (s + l) few).share u
         (rw (sym (pow-add 2 s l)) (pow_pos (s + l)))
         mj.exact
         mw.exact
@@ -107,12 +107,12 @@ module _ (u bits : ℕ) (binary : u ≡ 2 ^ bits) where
     quotient_is : j * w / u ≡ left
     quotient_is = ap (λ (x : ℕ). x / u) product_is ∙ mul-div_cancel left (omega (arith, binary, pow_pos bits))
 
-    exact-step : j * w / u * u ≡ j * w
-    exact-step = ap (λ (x : ℕ). x * u) quotient_is ∙ sym product_is
+    exact_step : j * w / u * u ≡ j * w
+    exact_step = ap (λ (x : ℕ). x * u) quotient_is ∙ sym product_is
 
-    multiple-step : Multiple u (j * w / u) (s + l)
+    multiple_step : Multiple u (j * w / u) (s + l)
     unfolding left
-    multiple-step =
+    multiple_step =
         record {
           times = mj.times * mw.times;
           exact =
@@ -126,23 +126,23 @@ module _ (u bits : ℕ) (binary : u ≡ 2 ^ bits) where
   -- ---- all axes
 
   -- Weights that are multiples of the u over 2 to the numbers of m, whose sum is small.
-  module _ (w m : ℕ → ℕ) (d : ℕ) (few : sumTo m d ≤ bits) (each : (t : ℕ) → t < d → Multiple u (w t) (m t)) where
-    sums : (k : ℕ) → k < d → sumTo m k + m k ≤ bits
-    sums k h = omega (arith, sumTo-mono m (suc k) d h, sumTo-suc m k)
+  module _ (w m : ℕ → ℕ) (d : ℕ) (few : sum_to m d ≤ bits) (each : (t : ℕ) → t < d → Multiple u (w t) (m t)) where
+    sums : (k : ℕ) → k < d → sum_to m k + m k ≤ bits
+    sums k h = omega (arith, sum_to_mono m (suc k) d h, sum_to_suc m k)
 
-    joint-multiple : (k : ℕ) → k ≤ d → Multiple u (joint u w k) (sumTo m k)
-    joint-multiple zero h = record { times = 1; exact = rw (joint-zero u w, sumTo-zero m) (omega arith) }
-    joint-multiple (suc k) h =
-        rw (joint-suc u w k, sumTo-suc m k)
-        (multiple-step (joint u w k) (w k) (sumTo m k) (m k) (sums k h) (joint-multiple k (omega arith)) (each k h))
+    joint_multiple : (k : ℕ) → k ≤ d → Multiple u (joint u w k) (sum_to m k)
+    joint_multiple zero h = record { times = 1; exact = rw (joint_zero u w, sum_to_zero m) (omega arith) }
+    joint_multiple (suc k) h =
+        rw (joint_suc u w k, sum_to_suc m k)
+        (multiple_step (joint u w k) (w k) (sum_to m k) (m k) (sums k h) (joint_multiple k (omega arith)) (each k h))
 
-    joint-product : (k : ℕ) → k ≤ d → joint u w k * u ^ k ≡ prodTo w k * u
-    joint-product zero h = rw (joint-zero u w, prodTo-zero w, pow-zero u) (omega arith)
-    joint-product (suc k) h =
-        rw (joint-suc u w k, prodTo-suc w k, pow-suc u k)
-        (regroup (joint u w k) (w k) (joint u w k * w k / u) (u ^ k) (prodTo w k) u
-        (exact-step (joint u w k) (w k) (sumTo m k) (m k) (sums k h) (joint-multiple k (omega arith)) (each k h))
-        (joint-product k (omega arith)))
+    joint_product : (k : ℕ) → k ≤ d → joint u w k * u ^ k ≡ prod_to w k * u
+    joint_product zero h = rw (joint_zero u w, prod_to_zero w, pow-zero u) (omega arith)
+    joint_product (suc k) h =
+        rw (joint_suc u w k, prod_to_suc w k, pow-suc u k)
+        (regroup (joint u w k) (w k) (joint u w k * w k / u) (u ^ k) (prod_to w k) u
+        (exact_step (joint u w k) (w k) (sum_to m k) (m k) (sums k h) (joint_multiple k (omega arith)) (each k h))
+        (joint_product k (omega arith)))
       where
         regroup : (j w r e p u : ℕ) → r * u ≡ j * w → j * e ≡ p * u → r * (e * u) ≡ p * w * u
         regroup j w r e p u exact before = omega (arith, ap (λ (y : ℕ). y * e) exact, ap (λ (y : ℕ). y * w) before)
@@ -150,28 +150,28 @@ module _ (u bits : ℕ) (binary : u ≡ 2 ^ bits) where
   -- ---- the points
 
   module _ {g : Numbered} {Point : (ℕ → ℕ) → (ℕ → ℕ) → Type 0} (n : Numbering g Point) (whole : WholeWeights bits g)
-      (p q : ℕ) (p-in : p < g.count) (q-in : q < g.count) where
-    axis-multiple : (t : ℕ) → t < g.axes → Multiple u (weightIn u g (coordinatesIn u g q) p t) (deeper (g.level q) t)
-    unfolding weightIn coordinatesIn deeper
-    axis-multiple t axis =
-        let part = splits (suc (g.level q t)) (whole-coordinates bits g whole q t q-in axis) in
-        rw (coordinate-is u (g.level q t) (g.index q t) (g.level q t) (g.index q t) part.share part.whole refl)
-        (weight-multiple (g.level p t) (g.index p t) (g.level q t) (g.index q t) part.share
-        (n.odd (n.point_at p p-in) t axis)
+      (p q : ℕ) (p_in : p < g.count) (q_in : q < g.count) where
+    axis_multiple : (t : ℕ) → t < g.axes → Multiple u (weight_in u g (coordinates_in u g q) p t) (deeper (g.level q) t)
+    unfolding weight_in coordinates_in deeper
+    axis_multiple t axis =
+        let part = splits (suc (g.level q t)) (whole_coordinates bits g whole q t q_in axis) in
+        rw (coordinate_is u (g.level q t) (g.index q t) (g.level q t) (g.index q t) part.share part.whole refl)
+        (weight_multiple (g.level p t) (g.index p t) (g.level q t) (g.index q t) part.share
+        (n.odd (n.point_at p p_in) t axis)
         part.whole)
 
-    pub joint-exact-in : jointIn u g (coordinatesIn u g q) p * u ^ g.axes ≡ productIn u g (coordinatesIn u g q) p * u
-    unfolding jointIn productIn
-    joint-exact-in =
-        joint-product (weightIn u g (coordinatesIn u g q) p) (deeper (g.level q)) g.axes
-        (omega (arith, deeper-sum (g.level q) g.axes, whole q q-in))
-        axis-multiple g.axes (omega arith)
+    pub joint_exact_in : joint_in u g (coordinates_in u g q) p * u ^ g.axes ≡ product_in u g (coordinates_in u g q) p * u
+    unfolding joint_in product_in
+    joint_exact_in =
+        joint_product (weight_in u g (coordinates_in u g q) p) (deeper (g.level q)) g.axes
+        (omega (arith, deeper_sum (g.level q) g.axes, whole q q_in))
+        axis_multiple g.axes (omega arith)
 
 -- Those of a shape, where top level and axes together are at most the bits of the unit.
-module _ (s : Shape) (few : s.level + s.axes ≤ unitBits) where
-  pub shape-weights : WholeWeights unitBits (numbered s)
-  shape-weights q q-in = omega (arith, level-sum s q q-in)
+module _ (s : Shape) (few : s.level + s.axes ≤ unit_bits) where
+  pub shape_weights : WholeWeights unit_bits (numbered s)
+  shape_weights q q_in = omega (arith, level_sum s q q_in)
 
-  pub joint-exact : (p q : ℕ) → p < pointsOf s → q < pointsOf s →
-      jointAt s (coordinatesOf s q) p * unit ^ s.axes ≡ productAt s (coordinatesOf s q) p * unit
-  joint-exact = joint-exact-in unit unitBits unit-is (numbering s) shape-weights
+  pub joint_exact : (p q : ℕ) → p < points_of s → q < points_of s →
+      joint_at s (coordinates_of s q) p * unit ^ s.axes ≡ product_at s (coordinates_of s q) p * unit
+  joint_exact = joint_exact_in unit unit_bits unit_is (numbering s) shape_weights

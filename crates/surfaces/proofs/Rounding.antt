@@ -5,30 +5,30 @@ use mathlib.Core.Path.{◌≡◌, ap, ◌∙◌}
 use Prim.Native.Nat.{ℕ, ◌*◌, ◌≤◌, ◌<◌}
 use lib.IntN.{ℤ, pos, neg_ℤ, nat_abs, ◌-ℤ◌, ◌*ℤ◌}
 use Rattle.integers.specs.Nearest.{Nearest}
-use Rattle.integers.proofs.Nearest.{nearest-odd, nearest-half, nearest-is, nearest-whole}
+use Rattle.integers.proofs.Nearest.{nearest_odd, nearest_half, nearest_is, nearest_whole}
 use Rattle.shapes.specs.declared.Shape.{Shape}
-use Rattle.shapes.specs.Shapes.{pointsOf}
-use Rattle.interpolation.proofs.Weighted.{weightedSum-negated}
+use Rattle.shapes.specs.Shapes.{points_of}
+use Rattle.interpolation.proofs.Weighted.{weighted_sum_negated}
 use Rattle.surfaces.specs.Weights.{unit}
-use Rattle.surfaces.specs.Surface.{jointSumIn, rounded, estimateIn, jointAt, jointSum, estimateAt}
-use Rattle.surfaces.proofs.Unit.{unit-pos}
+use Rattle.surfaces.specs.Surface.{joint_sum_in, rounded, estimate_in, joint_at, joint_sum, estimate_at}
+use Rattle.surfaces.proofs.Unit.{unit_pos}
 
-pub rounded-whole : (u : ℕ) → 0 < u → (z : ℤ) → rounded u (z *ℤ pos u) ≡ z
+pub rounded_whole : (u : ℕ) → 0 < u → (z : ℤ) → rounded u (z *ℤ pos u) ≡ z
 unfolding rounded
-rounded-whole u some z = nearest-whole u some z
+rounded_whole u some z = nearest_whole u some z
 
 module _ (s : Shape) (c : ℕ → ℤ) (x : ℕ → ℕ) where
   -- The estimate is the whole number nearest to the quotient, of two as near the one further from zero.
-  pub estimate-nearest : Nearest unit (jointSum s c x) (estimateAt s c x)
-  unfolding estimateIn rounded
-  estimate-nearest = nearest-is unit (jointSum s c x) unit-pos
+  pub estimate_nearest : Nearest unit (joint_sum s c x) (estimate_at s c x)
+  unfolding estimate_in rounded
+  estimate_nearest = nearest_is unit (joint_sum s c x) unit_pos
 
   -- So it is within one half of it.
-  pub estimate-half : 2 * nat_abs (estimateAt s c x *ℤ pos unit -ℤ jointSum s c x) ≤ unit
-  unfolding estimateIn rounded
-  estimate-half = nearest-half unit (jointSum s c x) unit-pos
+  pub estimate_half : 2 * nat_abs (estimate_at s c x *ℤ pos unit -ℤ joint_sum s c x) ≤ unit
+  unfolding estimate_in rounded
+  estimate_half = nearest_half unit (joint_sum s c x) unit_pos
 
   -- The estimate of the negated coefficients is the negated estimate.
-  pub estimate-odd : estimateAt s (λ p. neg_ℤ (c p)) x ≡ neg_ℤ (estimateAt s c x)
-  unfolding estimateIn rounded jointSumIn
-  estimate-odd = ap (rounded unit) (weightedSum-negated (pointsOf s) c (jointAt s x)) ∙ nearest-odd unit (jointSum s c x) unit-pos
+  pub estimate_odd : estimate_at s (λ p. neg_ℤ (c p)) x ≡ neg_ℤ (estimate_at s c x)
+  unfolding estimate_in rounded joint_sum_in
+  estimate_odd = ap (rounded unit) (weighted_sum_negated (points_of s) c (joint_at s x)) ∙ nearest_odd unit (joint_sum s c x) unit_pos

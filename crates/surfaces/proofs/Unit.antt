@@ -11,15 +11,15 @@ use Rattle.surfaces.specs.declared.TheConstants.{BITS}
 use Rattle.surfaces.specs.Weights.{unit, coordinate}
 
 -- How many factors of two the unit has.
-abbrev pub unitBits : ℕ
-unitBits = BITS
+abbrev pub unit_bits : ℕ
+unit_bits = BITS
 
-pub unit-is : unit ≡ 2 ^ unitBits
+pub unit_is : unit ≡ 2 ^ unit_bits
 unfolding unit
-unit-is = refl
+unit_is = refl
 
-pub unit-pos : 0 < unit
-unit-pos = omega (arith, unit-is, pow_pos unitBits)
+pub unit_pos : 0 < unit
+unit_pos = omega (arith, unit_is, pow_pos unit_bits)
 
 -- ---- a unit u with b factors of two
 
@@ -28,8 +28,8 @@ pub record Share (u k : ℕ) : Type 0 where
   pub share : ℕ
   pub whole : share * 2 ^ k ≡ u
 
-pub unit-splits : (u b k : ℕ) → u ≡ 2 ^ b → k ≤ b → Share u k
-unit-splits u b k binary few =
+pub unit_splits : (u b k : ℕ) → u ≡ 2 ^ b → k ≤ b → Share u k
+unit_splits u b k binary few =
     let again : b - k + k ≡ b = omega arith in
     record {
       share = 2 ^ (b - k);
@@ -41,9 +41,9 @@ abbrev pub WholeCoordinates : ℕ → Numbered → Type 0
 WholeCoordinates b g = (p t : ℕ) → p < g.count → t < g.axes → g.level p t < b
 
 -- A point's coordinate is m shares of level l where its index over 2^(k+1) is m over 2^(l+1).
-pub coordinate-is : (u l m k i v : ℕ) → v * 2 ^ suc l ≡ u → i * 2 ^ suc l ≡ m * 2 ^ suc k → coordinate u k i ≡ m * v
+pub coordinate_is : (u l m k i v : ℕ) → v * 2 ^ suc l ≡ u → i * 2 ^ suc l ≡ m * 2 ^ suc k → coordinate u k i ≡ m * v
 unfolding coordinate
-coordinate-is u l m k i v whole same =
+coordinate_is u l m k i v whole same =
     ap (λ (x : ℕ). x / 2 ^ suc k) shares ∙ mul-div_cancel (m * v) (pow_pos (suc k))
   where
     shares : i * u ≡ m * v * 2 ^ suc k

@@ -9,8 +9,8 @@ unit = 1048576
 -- The rest is said of any unit u (document 02, e, speaks of two).
 
 -- x is a coordinate: at most the unit.
-unfoldable pub isCoordinate : ℕ → ℕ → Bool
-isCoordinate u x = leb x u
+unfoldable pub is_coordinate : ℕ → ℕ → Bool
+is_coordinate u x = leb x u
 
 -- The coordinate of a point on one axis: i / 2^(l+1) in units. The division loses nothing where 2^(l+1) divides the unit.
 unfoldable pub coordinate : ℕ → ℕ → ℕ → ℕ

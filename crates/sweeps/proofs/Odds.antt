@@ -6,69 +6,69 @@ use mathlib.Core.List.{List}
 use Prim.Native.Nat.{ℕ, zero, suc, ◌+◌, ◌≤◌, ◌<◌}
 use native.Mathlib.Omega.{arith}
 use lib.IntN.{ℤ, ◌+ℤ◌}
-use Rattle.naturals.proofs.Cases.{le-or-lt}
-use Rattle.naturals.proofs.Sums.{sumTo-zero, sumTo-suc}
-use Rattle.integers.specs.Half.{oddOf}
+use Rattle.naturals.proofs.Cases.{le_or_lt}
+use Rattle.naturals.proofs.Sums.{sum_to_zero, sum_to_suc}
+use Rattle.integers.specs.Half.{odd_of}
 use Rattle.integers.proofs.Steps.{odd_small}
 use Rattle.numbering.specs.declared.Side.TheVariants.{Left, Right}
-use Rattle.hierarchy.specs.Turns.{valueAt, sumOn}
+use Rattle.hierarchy.specs.Turns.{value_at, sum_on}
 use Rattle.shapes.specs.declared.Shape.{Shape}
 use Rattle.neighbours.specs.declared.Subspace.{Subspace}
-use Rattle.neighbours.specs.Steps.{sparseOf, Seen}
-use Rattle.neighbours.proofs.Beside.{parent-before}
-use Rattle.lists.specs.Lists.{oddAt, oddSums}
+use Rattle.neighbours.specs.Steps.{sparse_of, Seen}
+use Rattle.neighbours.proofs.Beside.{parent_before}
+use Rattle.lists.specs.Lists.{odd_at, odd_sums}
 
 -- ---- counts
 
 module _ (s : Shape) (t : ℕ) (xs : List ℤ) where
-  pub odds-none : oddSums s t xs 0 ≡ 0
-  unfolding oddSums
-  odds-none = sumTo-zero (oddAt s t xs)
+  pub odds_none : odd_sums s t xs 0 ≡ 0
+  unfolding odd_sums
+  odds_none = sum_to_zero (odd_at s t xs)
 
-  odds-suc : (m : ℕ) → oddSums s t xs (suc m) ≡ oddSums s t xs m + oddAt s t xs m
-  unfolding oddSums
-  odds-suc m = sumTo-suc (oddAt s t xs) m
+  odds_suc : (m : ℕ) → odd_sums s t xs (suc m) ≡ odd_sums s t xs m + odd_at s t xs m
+  unfolding odd_sums
+  odds_suc m = sum_to_suc (odd_at s t xs) m
 
-  one-odd : (p : ℕ) → oddAt s t xs p ≤ 1
-  unfolding oddAt
-  one-odd p = odd_small _
+  one_odd : (p : ℕ) → odd_at s t xs p ≤ 1
+  unfolding odd_at
+  one_odd p = odd_small _
 
   -- No more sums are odd than there are points.
-  pub odds-few : (m : ℕ) → oddSums s t xs m ≤ m
-  odds-few zero = omega (arith, odds-none)
-  odds-few (suc m) = omega (arith, odds-suc m, one-odd m, odds-few m)
+  pub odds_few : (m : ℕ) → odd_sums s t xs m ≤ m
+  odds_few zero = omega (arith, odds_none)
+  odds_few (suc m) = omega (arith, odds_suc m, one_odd m, odds_few m)
 
 -- Two tables with the same sums from number lo on.
-same-growth : (s : Shape) (t : ℕ) (xs ys : List ℤ) (lo hi : ℕ) → lo ≤ hi → ((p : ℕ) → lo ≤ p → p < hi → oddAt s t xs p ≡ oddAt s t ys p) →
-    oddSums s t xs hi + oddSums s t ys lo ≡ oddSums s t ys hi + oddSums s t xs lo
-same-growth s t xs ys lo zero le same =
+same_growth : (s : Shape) (t : ℕ) (xs ys : List ℤ) (lo hi : ℕ) → lo ≤ hi → ((p : ℕ) → lo ≤ p → p < hi → odd_at s t xs p ≡ odd_at s t ys p) →
+    odd_sums s t xs hi + odd_sums s t ys lo ≡ odd_sums s t ys hi + odd_sums s t xs lo
+same_growth s t xs ys lo zero le same =
     let none : lo ≡ 0 = omega arith in
     rw none (omega arith)
-same-growth s t xs ys lo (suc hi) le same =
-    le-or-lt (suc hi) lo
+same_growth s t xs ys lo (suc hi) le same =
+    le_or_lt (suc hi) lo
     (λ whole.
     let none : lo ≡ suc hi = omega arith in
     rw none (omega arith))
     (λ more.
     omega (
       arith,
-      odds-suc s t xs hi,
-      odds-suc s t ys hi,
+      odds_suc s t xs hi,
+      odds_suc s t ys hi,
       same hi (omega arith) (omega arith),
-      same-growth s t xs ys lo hi (omega arith) (λ p from to. same p from (omega arith)),
+      same_growth s t xs ys lo hi (omega arith) (λ p from to. same p from (omega arith)),
     ))
 
 -- ---- a level list
 
-module _ (v : Subspace) (seen : Seen v) (xs ys : List ℤ) (same : (code : ℕ) → code ≤ v.start → valueAt xs code ≡ valueAt ys code) where
-  same-odd : (p : ℕ) → v.start ≤ p → p < v.end → oddAt (sparseOf v.line) v.line.place xs p ≡ oddAt (sparseOf v.line) v.line.place ys p
-  unfolding oddAt sumOn
-  same-odd p from to =
-      ap₂ (λ (a b : ℤ). oddOf (a +ℤ b))
-      (same _ (parent-before seen p from to Left))
-      (same _ (parent-before seen p from to Right))
+module _ (v : Subspace) (seen : Seen v) (xs ys : List ℤ) (same : (code : ℕ) → code ≤ v.start → value_at xs code ≡ value_at ys code) where
+  same_odd : (p : ℕ) → v.start ≤ p → p < v.end → odd_at (sparse_of v.line) v.line.place xs p ≡ odd_at (sparse_of v.line) v.line.place ys p
+  unfolding odd_at sum_on
+  same_odd p from to =
+      ap₂ (λ (a b : ℤ). odd_of (a +ℤ b))
+      (same _ (parent_before seen p from to Left))
+      (same _ (parent_before seen p from to Right))
 
-  pub list-odds : (k : ℕ) → oddSums (sparseOf v.line) v.line.place ys v.start + k ≡ oddSums (sparseOf v.line) v.line.place ys v.end →
-      oddSums (sparseOf v.line) v.line.place xs v.start + k ≡ oddSums (sparseOf v.line) v.line.place xs v.end
-  list-odds k counted =
-      omega (arith, counted, same-growth (sparseOf v.line) v.line.place xs ys v.start v.end (omega (arith, seen.start, seen.end)) same-odd)
+  pub list_odds : (k : ℕ) → odd_sums (sparse_of v.line) v.line.place ys v.start + k ≡ odd_sums (sparse_of v.line) v.line.place ys v.end →
+      odd_sums (sparse_of v.line) v.line.place xs v.start + k ≡ odd_sums (sparse_of v.line) v.line.place xs v.end
+  list_odds k counted =
+      omega (arith, counted, same_growth (sparse_of v.line) v.line.place xs ys v.start v.end (omega (arith, seen.start, seen.end)) same_odd)

@@ -14,170 +14,170 @@ use lib.ListN.{length}
 use Rattle.naturals.proofs.Shifts.{one_shifted}
 use Rattle.numbering.specs.Count.{vectors, start}
 use Rattle.numbering.specs.Point.{at}
-use Rattle.numbering.specs.Number.{rank, firstOf}
-use Rattle.numbering.proofs.Numbering.{points-is, start-suc}
-use Rattle.hierarchy.specs.Turns.{valueAt}
-use Rattle.shapes.specs.Shapes.{pointsOf}
-use Rattle.shapes.proofs.Totals.{start-zero}
+use Rattle.numbering.specs.Number.{rank, first_of}
+use Rattle.numbering.proofs.Numbering.{points_is, start_suc}
+use Rattle.hierarchy.specs.Turns.{value_at}
+use Rattle.shapes.specs.Shapes.{points_of}
+use Rattle.shapes.proofs.Totals.{start_zero}
 use Rattle.grids.specs.Grids.{height}
-use Rattle.grids.specs.Turned.{formerTable}
-use Rattle.grids.proofs.Sparse.{points-sparse}
-use Rattle.grids.proofs.Turned.{former-length}
-use Rattle.walks.specs.Walks.{walkUp}
+use Rattle.grids.specs.Turned.{former_table}
+use Rattle.grids.proofs.Sparse.{points_sparse}
+use Rattle.grids.proofs.Turned.{former_length}
+use Rattle.walks.specs.Walks.{walk_up}
 use Rattle.neighbours.specs.declared.Line.{Line}
 use Rattle.neighbours.specs.declared.Subspace.{Subspace}
-use Rattle.neighbours.specs.Steps.{sparseOf}
-use Rattle.lists.specs.Lists.{oddSums, listWorked, firstIn, endOf, wholeTurn, cameTo, ListTurned}
+use Rattle.neighbours.specs.Steps.{sparse_of}
+use Rattle.lists.specs.Lists.{odd_sums, list_worked, first_in, end_of, whole_turn, came_to, ListTurned}
 use Rattle.lists.specs.Steps.{OnAxis, Within}
-use Rattle.sweeps.specs.Sweeps.{listsWorked}
-use Rattle.sweeps.proofs.Ranks.{firstAt, Follows, last-of-all}
-use Rattle.sweeps.proofs.Room.{former-within}
-use Rattle.sweeps.proofs.Parted.{Parted, all-above, below-only, below-codes, parted-within}
-use Rattle.sweeps.proofs.Odds.{odds-none, odds-few}
-use Rattle.sweeps.proofs.Walking.{same-walk, first-worked, none-worked, leftUp, up-all, up-first, up-sum, up-none}
-use Rattle.sweeps.proofs.Standing.{Standing, first-at, rank-in, levels-of-rank, end-inside}
-use Rattle.sweeps.proofs.Coming.{comes-up, goes-up}
-use Rattle.sweeps.proofs.Meeting.{Met, met-odds}
+use Rattle.sweeps.specs.Sweeps.{lists_worked}
+use Rattle.sweeps.proofs.Ranks.{first_at, Follows, last_of_all}
+use Rattle.sweeps.proofs.Room.{former_within}
+use Rattle.sweeps.proofs.Parted.{Parted, all_above, below_only, below_codes, parted_within}
+use Rattle.sweeps.proofs.Odds.{odds_none, odds_few}
+use Rattle.sweeps.proofs.Walking.{same_walk, first_worked, none_worked, left_up, up_all, up_first, up_sum, up_none}
+use Rattle.sweeps.proofs.Standing.{Standing, first_at_lem, rank_in, levels_of_rank, end_inside}
+use Rattle.sweeps.proofs.Coming.{comes_up, goes_up}
+use Rattle.sweeps.proofs.Meeting.{Met, met_odds}
 
 -- The table that the whole turn takes to xs.
-abbrev pub formerOn : Line → List ℤ → List ℤ
-formerOn line xs = formerTable (sparseOf line) line.place xs
+abbrev pub former_on : Line → List ℤ → List ℤ
+former_on line xs = former_table (sparse_of line) line.place xs
 
 -- Of the sum the first b lists are done; below number k the table ys is final, and so many sums were odd there.
 pub record Raising (line : Line) (xs : List ℤ) (sum b k odd : ℕ) (ys : List ℤ) : Type 0 where
-  pub first : k ≡ firstAt line.axes sum b
-  pub parted : Parted (pointsOf (sparseOf line)) k (formerOn line xs) xs ys
-  pub odds : odd ≡ oddSums (sparseOf line) line.place (formerOn line xs) k
-  pub walked : listsWorked false (sparseOf line) line.place (leftUp line.axes line.level sum b) ys
-      ≡ listsWorked false (sparseOf line) line.place (walkUp line.axes line.level) xs
+  pub first : k ≡ first_at line.axes sum b
+  pub parted : Parted (points_of (sparse_of line)) k (former_on line xs) xs ys
+  pub odds : odd ≡ odd_sums (sparse_of line) line.place (former_on line xs) k
+  pub walked : lists_worked false (sparse_of line) line.place (left_up line.axes line.level sum b) ys
+      ≡ lists_worked false (sparse_of line) line.place (walk_up line.axes line.level) xs
 
-module _ {line : Line} {xs : List ℤ} (on : OnAxis (sparseOf line) line.place xs) where
-  former-long : length (formerOn line xs) ≡ pointsOf (sparseOf line)
-  former-long = former-length (sparseOf line) line.place xs
+module _ {line : Line} {xs : List ℤ} (on : OnAxis (sparse_of line) line.place xs) where
+  former_long : length (former_on line xs) ≡ points_of (sparse_of line)
+  former_long = former_length (sparse_of line) line.place xs
 
-  few-levels : height (sparseOf line) ≤ 9
+  few_levels : height (sparse_of line) ≤ 9
   unfolding height
-  few-levels = omega (arith, on.low)
+  few_levels = omega (arith, on.low)
 
   -- At the start none is done.
-  pub raising-starts : Raising line xs 0 0 0 0 xs
-  raising-starts =
+  pub raising_starts : Raising line xs 0 0 0 0 xs
+  raising_starts =
       record {
-        first = omega (arith, start-zero line.axes);
-        parted = all-above _ (formerOn line xs) xs former-long on.long;
-        odds = omega (arith, odds-none (sparseOf line) line.place (formerOn line xs));
-        walked = same-walk false (sparseOf line) line.place xs (up-all line.axes line.level);
+        first = omega (arith, start_zero line.axes);
+        parted = all_above _ (former_on line xs) xs former_long on.long;
+        odds = omega (arith, odds_none (sparse_of line) line.place (former_on line xs));
+        walked = same_walk false (sparse_of line) line.place xs (up_all line.axes line.level);
       }
 
   module _ {sum b k odd : ℕ} {ys : List ℤ} (s : Raising line xs sum b k odd ys) where
-    pub raising-on : OnAxis (sparseOf line) line.place ys
-    raising-on = record { few = on.few; low = on.low; place = on.place; long = s.parted.long }
+    pub raising_on : OnAxis (sparse_of line) line.place ys
+    raising_on = record { few = on.few; low = on.low; place = on.place; long = s.parted.long }
 
     -- The values have room for a step.
-    pub raising-room : Within (2 ^ 55) xs → Within (2 ^ 60) ys
-    raising-room small =
-        parted-within _ (formerOn line xs) xs former-long on.long k ys s.parted (2 ^ 60)
-        (λ code. omega (arith, former-within (sparseOf line) line.place xs (2 ^ 55) on.long few-levels small code))
+    pub raising_room : Within (2 ^ 55) xs → Within (2 ^ 60) ys
+    raising_room small =
+        parted_within _ (former_on line xs) xs former_long on.long k ys s.parted (2 ^ 60)
+        (λ code. omega (arith, former_within (sparse_of line) line.place xs (2 ^ 55) on.long few_levels small code))
         (λ code. omega (arith, small code))
 
     -- No more sums are odd than there are points.
-    pub raising-few : odd ≤ k
-    raising-few = omega (arith, s.odds, odds-few (sparseOf line) line.place (formerOn line xs) k)
+    pub raising_few : odd ≤ k
+    raising_few = omega (arith, s.odds, odds_few (sparse_of line) line.place (former_on line xs) k)
 
     -- Where all lists of the sum are done, none of the next sum is.
-    raising-sum : sum < line.level → b ≡ vectors line.axes sum → Raising line xs (suc sum) 0 k odd ys
-    raising-sum more all =
+    raising_sum : sum < line.level → b ≡ vectors line.axes sum → Raising line xs (suc sum) 0 k odd ys
+    raising_sum more all =
         record {
-          first = omega (arith, s.first, ap (firstAt line.axes sum) all, mul-zero (2 ^ suc sum), start-suc line.axes sum);
+          first = omega (arith, s.first, ap (first_at line.axes sum) all, mul-zero (2 ^ suc sum), start_suc line.axes sum);
           parted = s.parted;
           odds = s.odds;
           walked =
-              same-walk false (sparseOf line) line.place ys
-              (sym (ap (leftUp line.axes line.level sum) all ∙ up-sum line.axes line.level sum more))
+              same_walk false (sparse_of line) line.place ys
+              (sym (ap (left_up line.axes line.level sum) all ∙ up_sum line.axes line.level sum more))
               ∙ s.walked;
         }
 
     -- At the end of the table none is left.
-    module _ (done : k ≡ pointsOf (sparseOf line)) where
-      pub raising-former : ys ≡ formerOn line xs
-      raising-former = below-only _ (formerOn line xs) xs former-long on.long k ys s.parted (omega arith)
+    module _ (done : k ≡ points_of (sparse_of line)) where
+      pub raising_former : ys ≡ former_on line xs
+      raising_former = below_only _ (former_on line xs) xs former_long on.long k ys s.parted (omega arith)
 
-      pub raising-odds : odd ≡ oddSums (sparseOf line) line.place ys (pointsOf (sparseOf line))
-      raising-odds =
-          s.odds ∙ ap₂ (λ (ws : List ℤ) (m : ℕ). oddSums (sparseOf line) line.place ws m) (sym raising-former) done
+      pub raising_odds : odd ≡ odd_sums (sparse_of line) line.place ys (points_of (sparse_of line))
+      raising_odds =
+          s.odds ∙ ap₂ (λ (ws : List ℤ) (m : ℕ). odd_sums (sparse_of line) line.place ws m) (sym raising_former) done
 
   module _ {sum r k odd : ℕ} {ys : List ℤ} (s : Raising line xs sum (suc r) k odd ys) where
     -- The list that comes next is the first of those that are left.
-    pub raising-next : {sum' r' : ℕ} → sum' ≤ line.level → Follows line.axes sum r sum' r' → Raising line xs sum' r' k odd ys
-    raising-next low =
+    pub raising_next : {sum' r' : ℕ} → sum' ≤ line.level → Follows line.axes sum r sum' r' → Raising line xs sum' r' k odd ys
+    raising_next low =
         ⊎_elim
         (λ same. rw (same.0, same.1) s)
-        (λ above. rw (above.0, above.1) (raising-sum s (omega (arith, above.0)) above.2))
+        (λ above. rw (above.0, above.1) (raising_sum s (omega (arith, above.0)) above.2))
 
-    pub raising-walked : sum ≤ line.level → r < vectors line.axes sum → k ≡ pointsOf (sparseOf line) →
-        ys ≡ listsWorked false (sparseOf line) line.place (walkUp line.axes line.level) xs
-    raising-walked low in_sum done =
-        let end : firstAt line.axes sum r + 2 ^ sum ≡ start line.axes (suc line.level)
-        = omega (arith, s.first, done, mul-suc (2 ^ sum) r, points-sparse line.axes line.level, points-is line.axes line.level) in
-        let all = last-of-all line.axes (omega (arith, on.place)) sum r in_sum line.level low end in
-        none-worked false (sparseOf line) line.place ys
-        (ap₂ (leftUp line.axes line.level) all.0 (all.1 ∙ ap (vectors line.axes) all.0) ∙ up-none line.axes line.level)
+    pub raising_walked : sum ≤ line.level → r < vectors line.axes sum → k ≡ points_of (sparse_of line) →
+        ys ≡ lists_worked false (sparse_of line) line.place (walk_up line.axes line.level) xs
+    raising_walked low in_sum done =
+        let end : first_at line.axes sum r + 2 ^ sum ≡ start line.axes (suc line.level)
+        = omega (arith, s.first, done, mul-suc (2 ^ sum) r, points_sparse line.axes line.level, points_is line.axes line.level) in
+        let all = last_of_all line.axes (omega (arith, on.place)) sum r in_sum line.level low end in
+        none_worked false (sparse_of line) line.place ys
+        (ap₂ (left_up line.axes line.level) all.0 (all.1 ∙ ap (vectors line.axes) all.0) ∙ up_none line.axes line.level)
         ∙ s.walked
 
   -- The first list that is left of the sum.
   module _ {sum k odd : ℕ} {ls : List ℕ} {ys : List ℤ} (here : Standing line.axes line.level sum ls)
       (s : Raising line xs sum (rank (at ls) line.axes) k odd ys) where
-    pub raising-first : k ≡ firstOf line.axes (at ls)
-    raising-first = omega (arith, s.first, first-at here.vector)
+    pub raising_first : k ≡ first_of line.axes (at ls)
+    raising_first = omega (arith, s.first, first_at_lem here.vector)
 
     -- Its end, as the code reckons it.
-    pub raising-end : k + 1 * 2 ^ sum % 2 ^ 64 ≡ firstOf line.axes (at ls) + 2 ^ sum
-    raising-end = omega (arith, raising-first, one_shifted 64 sum (omega (arith, here.low, on.low)))
+    pub raising_end : k + 1 * 2 ^ sum % 2 ^ 64 ≡ first_of line.axes (at ls) + 2 ^ sum
+    raising_end = omega (arith, raising_first, one_shifted 64 sum (omega (arith, here.low, on.low)))
 
-    ends-list : k + 1 * 2 ^ sum % 2 ^ 64 ≡ endOf (sparseOf line) (at ls)
-    ends-list = raising-end ∙ ap (λ (u : ℕ). firstOf line.axes (at ls) + 2 ^ u) (sym here.vector.total)
+    ends_list : k + 1 * 2 ^ sum % 2 ^ 64 ≡ end_of (sparse_of line) (at ls)
+    ends_list = raising_end ∙ ap (λ (u : ℕ). first_of line.axes (at ls) + 2 ^ u) (sym here.vector.total)
 
-    pub raising-inside : k + 1 * 2 ^ sum % 2 ^ 64 ≤ pointsOf (sparseOf line)
-    raising-inside = omega (arith, raising-end, end-inside here, points-sparse line.axes line.level)
+    pub raising_inside : k + 1 * 2 ^ sum % 2 ^ 64 ≤ points_of (sparse_of line)
+    raising_inside = omega (arith, raising_end, end_inside here, points_sparse line.axes line.level)
 
-    came : ys ≡ cameTo false (sparseOf line) line.place (at ls) xs
-    unfolding wholeTurn
-    came = comes-up line.axes line.level line.place xs on (at ls) ys (rw raising-first at s.parted)
+    came : ys ≡ came_to false (sparse_of line) line.place (at ls) xs
+    unfolding whole_turn
+    came = comes_up line.axes line.level line.place xs on (at ls) ys (rw raising_first at s.parted)
 
-    list-first : leftUp line.axes line.level sum (rank (at ls) line.axes) ≡ at ls ∷ leftUp line.axes line.level sum (suc (rank (at ls) line.axes))
-    list-first =
-        up-first line.axes line.level sum (rank (at ls) line.axes) (rank-in here.vector)
-        ∙ ap (λ (l : ℕ → ℕ). l ∷ leftUp line.axes line.level sum (suc (rank (at ls) line.axes))) (levels-of-rank here.vector)
+    list_first : left_up line.axes line.level sum (rank (at ls) line.axes) ≡ at ls ∷ left_up line.axes line.level sum (suc (rank (at ls) line.axes))
+    list_first =
+        up_first line.axes line.level sum (rank (at ls) line.axes) (rank_in here.vector)
+        ∙ ap (λ (l : ℕ → ℕ). l ∷ left_up line.axes line.level sum (suc (rank (at ls) line.axes))) (levels_of_rank here.vector)
 
-    module _ (zs : List ℤ) (more : ℕ) (worked : zs ≡ listWorked false (sparseOf line) line.place (at ls) ys)
-        (counted : oddSums (sparseOf line) line.place (formerOn line xs) (firstIn (sparseOf line) (at ls)) + more
-        ≡ oddSums (sparseOf line) line.place (formerOn line xs) (endOf (sparseOf line) (at ls)))
-        (turned : ListTurned false (sparseOf line) line.place (at ls) xs ys zs) where
-      list-parted : Parted (pointsOf (sparseOf line)) (endOf (sparseOf line) (at ls)) (formerOn line xs) xs zs
-      unfolding wholeTurn
-      list-parted = rw worked (goes-up line.axes line.level line.place xs on (at ls) ys (rw raising-first at s.parted) (rw worked at turned))
+    module _ (zs : List ℤ) (more : ℕ) (worked : zs ≡ list_worked false (sparse_of line) line.place (at ls) ys)
+        (counted : odd_sums (sparse_of line) line.place (former_on line xs) (first_in (sparse_of line) (at ls)) + more
+        ≡ odd_sums (sparse_of line) line.place (former_on line xs) (end_of (sparse_of line) (at ls)))
+        (turned : ListTurned false (sparse_of line) line.place (at ls) xs ys zs) where
+      list_parted : Parted (points_of (sparse_of line)) (end_of (sparse_of line) (at ls)) (former_on line xs) xs zs
+      unfolding whole_turn
+      list_parted = rw worked (goes_up line.axes line.level line.place xs on (at ls) ys (rw raising_first at s.parted) (rw worked at turned))
 
-      list-done : Raising line xs sum (suc (rank (at ls) line.axes)) (endOf (sparseOf line) (at ls)) (odd + more) zs
-      list-done =
+      list_done : Raising line xs sum (suc (rank (at ls) line.axes)) (end_of (sparse_of line) (at ls)) (odd + more) zs
+      list_done =
           record {
-            first = omega (arith, ends-list, raising-end, first-at here.vector, mul-suc (2 ^ sum) (rank (at ls) line.axes));
-            parted = list-parted;
-            odds = omega (arith, counted, s.odds, ap (oddSums (sparseOf line) line.place (formerOn line xs)) raising-first);
-            walked = first-worked false (sparseOf line) line.place ys zs list-first worked ∙ s.walked;
+            first = omega (arith, ends_list, raising_end, first_at_lem here.vector, mul-suc (2 ^ sum) (rank (at ls) line.axes));
+            parted = list_parted;
+            odds = omega (arith, counted, s.odds, ap (odd_sums (sparse_of line) line.place (former_on line xs)) raising_first);
+            walked = first_worked false (sparse_of line) line.place ys zs list_first worked ∙ s.walked;
           }
 
     -- As it is met: the work on it does its part of the turn.
-    pub raising-worked : (v : Subspace) → Met line ls v → (zs : List ℤ) (more : ℕ) →
-        zs ≡ listWorked false (sparseOf v.line) v.line.place (at v.levels) ys →
-        oddSums (sparseOf v.line) v.line.place ys v.start + more ≡ oddSums (sparseOf v.line) v.line.place ys v.end →
-        ((ws : List ℤ) → length ws ≡ length ys → ys ≡ cameTo false (sparseOf v.line) v.line.place (at v.levels) ws →
-        ListTurned false (sparseOf v.line) v.line.place (at v.levels) ws ys zs) →
+    pub raising_worked : (v : Subspace) → Met line ls v → (zs : List ℤ) (more : ℕ) →
+        zs ≡ list_worked false (sparse_of v.line) v.line.place (at v.levels) ys →
+        odd_sums (sparse_of v.line) v.line.place ys v.start + more ≡ odd_sums (sparse_of v.line) v.line.place ys v.end →
+        ((ws : List ℤ) → length ws ≡ length ys → ys ≡ came_to false (sparse_of v.line) v.line.place (at v.levels) ws →
+        ListTurned false (sparse_of v.line) v.line.place (at v.levels) ws ys zs) →
         Raising line xs sum (suc (rank (at ls) line.axes)) (k + 1 * 2 ^ sum % 2 ^ 64) (odd + more) zs
-    raising-worked v m zs more worked counted turned =
-        let held : (code : ℕ) → code ≤ k → valueAt (formerOn line xs) code ≡ valueAt ys code
-        = below-codes _ (formerOn line xs) xs former-long on.long k ys s.parted in
-        rw ends-list
-        (list-done zs more
+    raising_worked v m zs more worked counted turned =
+        let held : (code : ℕ) → code ≤ k → value_at (former_on line xs) code ≡ value_at ys code
+        = below_codes _ (former_on line xs) xs former_long on.long k ys s.parted in
+        rw ends_list
+        (list_done zs more
         (rw (m.on, m.levels) at worked)
-        (met-odds here v m (formerOn line xs) ys (λ code h. held code (omega (arith, raising-first))) more counted)
+        (met_odds here v m (former_on line xs) ys (λ code h. held code (omega (arith, raising_first))) more counted)
         (rw (m.on, m.levels) at (turned xs (on.long ∙ sym s.parted.long) (rw (m.on, m.levels) came))))

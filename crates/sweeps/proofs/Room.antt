@@ -9,64 +9,64 @@ use native.Mathlib.Omega.{arith}
 use lib.IntN.{ℤ, nat_abs, ◌+ℤ◌}
 use lib.ListN.{length}
 use Rattle.integers.specs.Half.{half}
-use Rattle.integers.proofs.Sizes.{sum-size, difference-size}
-use Rattle.integers.proofs.Steps.{sum-within, half-within}
+use Rattle.integers.proofs.Sizes.{sum_size, difference_size}
+use Rattle.integers.proofs.Steps.{sum_within, half_within}
 use Rattle.numbering.specs.declared.Side.TheVariants.{Left, Right}
 use Rattle.hierarchy.specs.Grid.{Neighbours}
-use Rattle.hierarchy.specs.Turns.{valueAt, sumOn, forward, backward}
-use Rattle.shapes.specs.Shapes.{pointsOf}
+use Rattle.hierarchy.specs.Turns.{value_at, sum_on, forward, backward}
+use Rattle.shapes.specs.Shapes.{points_of}
 use Rattle.shapes.specs.declared.Shape.{Shape}
 use Rattle.grids.specs.Grids.{neighbour, height}
-use Rattle.grids.specs.Turned.{turnedTable, formerTable}
-use Rattle.grids.proofs.Turned.{turned-holds, former-holds}
+use Rattle.grids.specs.Turned.{turned_table, former_table}
+use Rattle.grids.proofs.Turned.{turned_holds, former_holds}
 use Rattle.lists.specs.Steps.{Within}
 
 -- ---- tables as functions
 
 module _ (nb : Neighbours) (t b : ℕ) (f : ℕ → ℤ) (small : (p : ℕ) → nat_abs (f p) ≤ b) where
-  forward-size : (p : ℕ) → nat_abs (forward nb t f p) ≤ 2 * b
-  unfolding forward sumOn
-  forward-size p =
+  forward_size : (p : ℕ) → nat_abs (forward nb t f p) ≤ 2 * b
+  unfolding forward sum_on
+  forward_size p =
       let left : ℤ = f (nb t Left p) in
       let right : ℤ = f (nb t Right p) in
       omega (
         arith,
-        difference-size (f p) (half (left +ℤ right)),
-        half-within b (left +ℤ right) (sum-within b left right (small (nb t Left p)) (small (nb t Right p))),
+        difference_size (f p) (half (left +ℤ right)),
+        half_within b (left +ℤ right) (sum_within b left right (small (nb t Left p)) (small (nb t Right p))),
         small p,
       )
 
-  backward-size : (k p : ℕ) → nat_abs (backward nb k t f p) ≤ suc k * b
+  backward_size : (k p : ℕ) → nat_abs (backward nb k t f p) ≤ suc k * b
   unfolding backward
-  backward-size zero p = omega (arith, small p)
-  backward-size (suc k) p =
+  backward_size zero p = omega (arith, small p)
+  backward_size (suc k) p =
       let left : ℤ = backward nb k t f (nb t Left p) in
       let right : ℤ = backward nb k t f (nb t Right p) in
       let most : ℕ = suc k * b in
       omega (
         arith,
-        sum-size (f p) (half (left +ℤ right)),
-        half-within most (left +ℤ right) (sum-within most left right (backward-size k (nb t Left p)) (backward-size k (nb t Right p))),
+        sum_size (f p) (half (left +ℤ right)),
+        half_within most (left +ℤ right) (sum_within most left right (backward_size k (nb t Left p)) (backward_size k (nb t Right p))),
         small p,
         suc-mul (suc k) b,
       )
 
 -- ---- tables of a shape
 
-module _ (s : Shape) (t : ℕ) (xs : List ℤ) (b : ℕ) (long : length xs ≡ pointsOf s) where
-  pub turned-within : Within b xs → Within (2 * b) (turnedTable s t xs)
-  turned-within small code =
+module _ (s : Shape) (t : ℕ) (xs : List ℤ) (b : ℕ) (long : length xs ≡ points_of s) where
+  pub turned_within : Within b xs → Within (2 * b) (turned_table s t xs)
+  turned_within small code =
       omega (
         arith,
-        ap (λ (f : ℕ → ℤ). nat_abs (f code)) (turned-holds s t xs long),
-        forward-size (neighbour s) t b (valueAt xs) small code,
+        ap (λ (f : ℕ → ℤ). nat_abs (f code)) (turned_holds s t xs long),
+        forward_size (neighbour s) t b (value_at xs) small code,
       )
 
-  pub former-within : height s ≤ 9 → Within b xs → Within (10 * b) (formerTable s t xs)
-  former-within low small code =
+  pub former_within : height s ≤ 9 → Within b xs → Within (10 * b) (former_table s t xs)
+  former_within low small code =
       omega (
         arith,
-        ap (λ (f : ℕ → ℤ). nat_abs (f code)) (former-holds s t xs long),
-        backward-size (neighbour s) t b (valueAt xs) small (height s) code,
+        ap (λ (f : ℕ → ℤ). nat_abs (f code)) (former_holds s t xs long),
+        backward_size (neighbour s) t b (value_at xs) small (height s) code,
         mul-le-mul_right {m = suc (height s)} {n = 10} b (omega arith),
       )

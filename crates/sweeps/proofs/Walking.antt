@@ -10,103 +10,103 @@ use native.Mathlib.Omega.{arith}
 use lib.IntN.{ℤ}
 use lib.ListN.{length}
 use Rattle.numbering.specs.Count.{vectors}
-use Rattle.numbering.specs.Inverse.{levelOf}
+use Rattle.numbering.specs.Inverse.{level_of}
 use Rattle.hierarchy.proofs.Values.{values_length}
-use Rattle.shapes.specs.Shapes.{pointsOf}
+use Rattle.shapes.specs.Shapes.{points_of}
 use Rattle.shapes.specs.declared.Shape.{Shape}
-use Rattle.walks.specs.Walks.{Levels, rising, risingSums, walkUp, falling, fallingSums, walkDown}
-use Rattle.walks.proofs.Parts.{rising-zero, rising-suc, risingSums-zero, risingSums-suc, walkUp-is, falling-zero, falling-suc, fallingSums-zero, fallingSums-suc, walkDown-is}
-use Rattle.lists.specs.Lists.{steppedBetween, listWorked}
-use Rattle.sweeps.specs.Sweeps.{listsWorked}
+use Rattle.walks.specs.Walks.{Levels, rising, rising_sums, walk_up, falling, falling_sums, walk_down}
+use Rattle.walks.proofs.Parts.{rising_zero, rising_suc, rising_sums_zero, rising_sums_suc, walk_up_is, falling_zero, falling_suc, falling_sums_zero, falling_sums_suc, walk_down_is}
+use Rattle.lists.specs.Lists.{stepped_between, list_worked}
+use Rattle.sweeps.specs.Sweeps.{lists_worked}
 
 -- ---- work
 
 module _ (ahead : Bool) (s : Shape) (t : ℕ) where
-  pub worked-long : (l : Levels) (xs : List ℤ) → length (listWorked ahead s t l xs) ≡ pointsOf s
-  unfolding listWorked steppedBetween
-  worked-long l xs = values_length (pointsOf s) _
+  pub worked_long : (l : Levels) (xs : List ℤ) → length (list_worked ahead s t l xs) ≡ points_of s
+  unfolding list_worked stepped_between
+  worked_long l xs = values_length (points_of s) _
 
-  no-lists : (xs : List ℤ) → listsWorked ahead s t [] xs ≡ xs
-  unfolding listsWorked
-  no-lists xs = refl
+  no_lists : (xs : List ℤ) → lists_worked ahead s t [] xs ≡ xs
+  unfolding lists_worked
+  no_lists xs = refl
 
-  lists-worked : (l : Levels) (ls : List Levels) (xs : List ℤ) → listsWorked ahead s t (l ∷ ls) xs ≡ listsWorked ahead s t ls (listWorked ahead s t l xs)
-  unfolding listsWorked
-  lists-worked l ls xs = refl
+  lists_worked_lem : (l : Levels) (ls : List Levels) (xs : List ℤ) → lists_worked ahead s t (l ∷ ls) xs ≡ lists_worked ahead s t ls (list_worked ahead s t l xs)
+  unfolding lists_worked
+  lists_worked_lem l ls xs = refl
 
-  pub same-walk : {ls ms : List Levels} (xs : List ℤ) → ls ≡ ms → listsWorked ahead s t ls xs ≡ listsWorked ahead s t ms xs
-  same-walk xs e = ap (λ (ls : List Levels). listsWorked ahead s t ls xs) e
+  pub same_walk : {ls ms : List Levels} (xs : List ℤ) → ls ≡ ms → lists_worked ahead s t ls xs ≡ lists_worked ahead s t ms xs
+  same_walk xs e = ap (λ (ls : List Levels). lists_worked ahead s t ls xs) e
 
   -- The walk ls with its first list done.
-  pub first-worked : {l : Levels} {ls ms : List Levels} (xs ys : List ℤ) → ls ≡ l ∷ ms → ys ≡ listWorked ahead s t l xs →
-      listsWorked ahead s t ms ys ≡ listsWorked ahead s t ls xs
-  first-worked {l} {ls} {ms} xs ys e worked = ap (listsWorked ahead s t ms) worked ∙ sym (lists-worked l ms xs) ∙ same-walk xs (sym e)
+  pub first_worked : {l : Levels} {ls ms : List Levels} (xs ys : List ℤ) → ls ≡ l ∷ ms → ys ≡ list_worked ahead s t l xs →
+      lists_worked ahead s t ms ys ≡ lists_worked ahead s t ls xs
+  first_worked {l} {ls} {ms} xs ys e worked = ap (lists_worked ahead s t ms) worked ∙ sym (lists_worked_lem l ms xs) ∙ same_walk xs (sym e)
 
-  pub none-worked : {ls : List Levels} (xs : List ℤ) → ls ≡ [] → xs ≡ listsWorked ahead s t ls xs
-  none-worked xs e = sym (same-walk xs e ∙ no-lists xs)
+  pub none_worked : {ls : List Levels} (xs : List ℤ) → ls ≡ [] → xs ≡ lists_worked ahead s t ls xs
+  none_worked xs e = sym (same_walk xs e ∙ no_lists xs)
 
 -- ---- down
 
 module _ (d : ℕ) where
   -- The first b lists of sum s, the last of them first, then all of the sums below.
-  unfoldable pub leftDown : ℕ → ℕ → List Levels
-  leftDown s b = falling d s b ++ fallingSums d s
+  unfoldable pub left_down : ℕ → ℕ → List Levels
+  left_down s b = falling d s b ++ falling_sums d s
 
-  pub down-all : (n : ℕ) → leftDown n (vectors d n) ≡ walkDown d n
-  unfolding leftDown
-  down-all n = sym (walkDown-is d n ∙ fallingSums-suc d n)
+  pub down_all : (n : ℕ) → left_down n (vectors d n) ≡ walk_down d n
+  unfolding left_down
+  down_all n = sym (walk_down_is d n ∙ falling_sums_suc d n)
 
-  pub down-first : (s b : ℕ) → leftDown s (suc b) ≡ levelOf d s b ∷ leftDown s b
-  unfolding leftDown
-  down-first s b = ap (λ (ls : List Levels). ls ++ fallingSums d s) (falling-suc d s b)
+  pub down_first : (s b : ℕ) → left_down s (suc b) ≡ level_of d s b ∷ left_down s b
+  unfolding left_down
+  down_first s b = ap (λ (ls : List Levels). ls ++ falling_sums d s) (falling_suc d s b)
 
-  none-falling : (s : ℕ) → leftDown s 0 ≡ fallingSums d s
-  unfolding leftDown
-  none-falling s = ap (λ (ls : List Levels). ls ++ fallingSums d s) (falling-zero d s)
+  none_falling : (s : ℕ) → left_down s 0 ≡ falling_sums d s
+  unfolding left_down
+  none_falling s = ap (λ (ls : List Levels). ls ++ falling_sums d s) (falling_zero d s)
 
-  pub down-sum : (s : ℕ) → leftDown (suc s) 0 ≡ leftDown s (vectors d s)
-  down-sum s = none-falling (suc s) ∙ sym (walkDown-is d s) ∙ sym (down-all s)
+  pub down_sum : (s : ℕ) → left_down (suc s) 0 ≡ left_down s (vectors d s)
+  down_sum s = none_falling (suc s) ∙ sym (walk_down_is d s) ∙ sym (down_all s)
 
-  pub down-none : leftDown 0 0 ≡ []
-  down-none = none-falling 0 ∙ fallingSums-zero d
+  pub down_none : left_down 0 0 ≡ []
+  down_none = none_falling 0 ∙ falling_sums_zero d
 
 -- ---- up
 
 module _ (d n : ℕ) where
   -- The lists of sum s but the first b, then all of the sums above.
-  unfoldable pub leftUp : ℕ → ℕ → List Levels
-  leftUp s b = rising d s b (vectors d s - b) ++ risingSums d (suc s) (n - s)
+  unfoldable pub left_up : ℕ → ℕ → List Levels
+  left_up s b = rising d s b (vectors d s - b) ++ rising_sums d (suc s) (n - s)
 
-  all-rising : (s : ℕ) → leftUp s 0 ≡ rising d s 0 (vectors d s) ++ risingSums d (suc s) (n - s)
-  unfolding leftUp
-  all-rising s = ap (λ (m : ℕ). rising d s 0 m ++ risingSums d (suc s) (n - s)) (sub-zero (vectors d s))
+  all_rising : (s : ℕ) → left_up s 0 ≡ rising d s 0 (vectors d s) ++ rising_sums d (suc s) (n - s)
+  unfolding left_up
+  all_rising s = ap (λ (m : ℕ). rising d s 0 m ++ rising_sums d (suc s) (n - s)) (sub-zero (vectors d s))
 
-  pub up-all : leftUp 0 0 ≡ walkUp d n
-  up-all =
-      all-rising 0
-      ∙ ap (λ (k : ℕ). rising d 0 0 (vectors d 0) ++ risingSums d 1 k) (sub-zero n)
-      ∙ sym (walkUp-is d n ∙ risingSums-suc d 0 n)
+  pub up_all : left_up 0 0 ≡ walk_up d n
+  up_all =
+      all_rising 0
+      ∙ ap (λ (k : ℕ). rising d 0 0 (vectors d 0) ++ rising_sums d 1 k) (sub-zero n)
+      ∙ sym (walk_up_is d n ∙ rising_sums_suc d 0 n)
 
-  pub up-first : (s b : ℕ) → b < vectors d s → leftUp s b ≡ levelOf d s b ∷ leftUp s (suc b)
-  unfolding leftUp
-  up-first s b h =
+  pub up_first : (s b : ℕ) → b < vectors d s → left_up s b ≡ level_of d s b ∷ left_up s (suc b)
+  unfolding left_up
+  up_first s b h =
       let more : vectors d s - b ≡ suc (vectors d s - suc b) = omega arith in
-      ap (λ (ls : List Levels). ls ++ risingSums d (suc s) (n - s))
-      (ap (rising d s b) more ∙ rising-suc d s b (vectors d s - suc b))
+      ap (λ (ls : List Levels). ls ++ rising_sums d (suc s) (n - s))
+      (ap (rising d s b) more ∙ rising_suc d s b (vectors d s - suc b))
 
-  none-rising : (s : ℕ) → leftUp s (vectors d s) ≡ risingSums d (suc s) (n - s)
-  unfolding leftUp
-  none-rising s =
+  none_rising : (s : ℕ) → left_up s (vectors d s) ≡ rising_sums d (suc s) (n - s)
+  unfolding left_up
+  none_rising s =
       let none : vectors d s - vectors d s ≡ 0 = omega arith in
-      ap (λ (ls : List Levels). ls ++ risingSums d (suc s) (n - s))
-      (ap (rising d s (vectors d s)) none ∙ rising-zero d s (vectors d s))
+      ap (λ (ls : List Levels). ls ++ rising_sums d (suc s) (n - s))
+      (ap (rising d s (vectors d s)) none ∙ rising_zero d s (vectors d s))
 
-  pub up-sum : (s : ℕ) → s < n → leftUp s (vectors d s) ≡ leftUp (suc s) 0
-  up-sum s h =
+  pub up_sum : (s : ℕ) → s < n → left_up s (vectors d s) ≡ left_up (suc s) 0
+  up_sum s h =
       let more : n - s ≡ suc (n - suc s) = omega arith in
-      none-rising s ∙ ap (risingSums d (suc s)) more ∙ risingSums-suc d (suc s) (n - suc s) ∙ sym (all-rising (suc s))
+      none_rising s ∙ ap (rising_sums d (suc s)) more ∙ rising_sums_suc d (suc s) (n - suc s) ∙ sym (all_rising (suc s))
 
-  pub up-none : leftUp n (vectors d n) ≡ []
-  up-none =
+  pub up_none : left_up n (vectors d n) ≡ []
+  up_none =
       let none : n - n ≡ 0 = omega arith in
-      none-rising n ∙ ap (risingSums d (suc n)) none ∙ risingSums-zero d (suc n)
+      none_rising n ∙ ap (rising_sums d (suc n)) none ∙ rising_sums_zero d (suc n)

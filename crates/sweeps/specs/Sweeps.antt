@@ -3,9 +3,9 @@
 use Rattle.std.specs.Prelude.{Bool, List, [], ◌∷◌, ℕ, ℤ}
 use Rattle.shapes.specs.declared.Shape.{Shape}
 use Rattle.walks.specs.Walks.{Levels}
-use Rattle.lists.specs.Lists.{listWorked}
+use Rattle.lists.specs.Lists.{list_worked}
 
 -- The work on the level lists of a walk, in its order.
-unfoldable pub listsWorked : Bool → Shape → ℕ → List Levels → List ℤ → List ℤ
-listsWorked ahead s t [] xs = xs
-listsWorked ahead s t (l ∷ ls) xs = listsWorked ahead s t ls (listWorked ahead s t l xs)
+unfoldable pub lists_worked : Bool → Shape → ℕ → List Levels → List ℤ → List ℤ
+lists_worked ahead s t [] xs = xs
+lists_worked ahead s t (l ∷ ls) xs = lists_worked ahead s t ls (list_worked ahead s t l xs)

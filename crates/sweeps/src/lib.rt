@@ -2,22 +2,22 @@
 #![tactic(auto)]
 
 ghost use Rattle.std.specs.Prelude.{true, false, ◌≡◌, ◌^◌};
-ghost use Rattle.shapes.specs.Shapes.{pointsOf};
-ghost use Rattle.grids.specs.Turned.{turnedTable, formerTable};
-ghost use Rattle.walks.specs.Walks.{walkUp, walkDown};
-ghost use Rattle.neighbours.specs.Steps.{sparseOf};
-ghost use Rattle.lists.specs.Lists.{oddSums};
+ghost use Rattle.shapes.specs.Shapes.{points_of};
+ghost use Rattle.grids.specs.Turned.{turned_table, former_table};
+ghost use Rattle.walks.specs.Walks.{walk_up, walk_down};
+ghost use Rattle.neighbours.specs.Steps.{sparse_of};
+ghost use Rattle.lists.specs.Lists.{odd_sums};
 ghost use Rattle.lists.specs.Steps.{OnAxis, Within};
-ghost use Rattle.sweeps.specs.Sweeps.{listsWorked};
+ghost use Rattle.sweeps.specs.Sweeps.{lists_worked};
 
 use neighbours::Line;
 
 // The forward turn of a table, whether or not it is accepted: the level lists from the last down. Answers how many sums were odd.
 pub fn lower(line: Line, table: &mut [i64]) -> u64
-    requires { OnAxis (sparseOf line) line.place table.old × Within (2 ^ 59) table.old }
-    ensures walked { table.new ≡ listsWorked true (sparseOf line) line.place (walkDown line.axes line.level) table.old }
-    ensures turned { table.new ≡ turnedTable (sparseOf line) line.place table.old }
-    ensures odds { result ≡ oddSums (sparseOf line) line.place table.old (pointsOf (sparseOf line)) }
+    requires { OnAxis (sparse_of line) line.place table.old × Within (2 ^ 59) table.old }
+    ensures walked { table.new ≡ lists_worked true (sparse_of line) line.place (walk_down line.axes line.level) table.old }
+    ensures turned { table.new ≡ turned_table (sparse_of line) line.place table.old }
+    ensures odds { result ≡ odd_sums (sparse_of line) line.place table.old (points_of (sparse_of line)) }
 {
     let starts = cursors::starts(line);
     let mut start = table.len() as u64;
@@ -44,10 +44,10 @@ pub fn lower(line: Line, table: &mut [i64]) -> u64
 
 // The table that a forward turn takes to this one, whether or not that turn is accepted: the level lists from the first up. Answers how many sums were odd.
 pub fn raise(line: Line, table: &mut [i64]) -> u64
-    requires { OnAxis (sparseOf line) line.place table.old × Within (2 ^ 55) table.old }
-    ensures walked { table.new ≡ listsWorked false (sparseOf line) line.place (walkUp line.axes line.level) table.old }
-    ensures turned { table.new ≡ formerTable (sparseOf line) line.place table.old }
-    ensures odds { result ≡ oddSums (sparseOf line) line.place table.new (pointsOf (sparseOf line)) }
+    requires { OnAxis (sparse_of line) line.place table.old × Within (2 ^ 55) table.old }
+    ensures walked { table.new ≡ lists_worked false (sparse_of line) line.place (walk_up line.axes line.level) table.old }
+    ensures turned { table.new ≡ former_table (sparse_of line) line.place table.old }
+    ensures odds { result ≡ odd_sums (sparse_of line) line.place table.new (points_of (sparse_of line)) }
 {
     let starts = cursors::starts(line);
     let mut sum: u32 = 0;

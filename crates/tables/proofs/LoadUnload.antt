@@ -5,28 +5,28 @@
 use Rattle.std.proofs.Common.{◌≡◌, ℕ, suc, ◌%◌, ◌^◌, ◌<◌, true, List, [], ◌∷◌, map, length, get_or, ℤ, pos, nat_abs, sym, refl, ap, ◌∙◌, ap₂, arith, pow_pos}
 use lib.ListN.{length-map}
 use Rattle.naturals.specs.Test.{all}
-use Rattle.naturals.proofs.Tests.{all-at, all_from}
+use Rattle.naturals.proofs.Tests.{all_at, all_from}
 use Rattle.naturals.specs.FirstFailing.{Passes}
 use Rattle.refusals.specs.declared.Refusal.TheVariants.{Contents, StillForward}
 use Rattle.refusals.specs.declared.Verdict.{Verdict}
 use Rattle.refusals.specs.declared.Verdict.TheVariants as verdict
 use Rattle.refusals.specs.declared.Verdict.TheVariants.{Passed}
-use Rattle.refusals.specs.Checks.{unless, ◌andThen◌, answer}
-use Rattle.refusals.proofs.Passing.{first-passed, next-passed, test-passed}
-use Rattle.integers.specs.Half.{isRate}
-use Rattle.hierarchy.specs.Turns.{valueAt}
-use Rattle.hierarchy.proofs.Values.{value-mapped, value-suc}
+use Rattle.refusals.specs.Checks.{unless, ◌and_then◌, answer}
+use Rattle.refusals.proofs.Passing.{first_passed, next_passed, test_passed}
+use Rattle.integers.specs.Half.{is_rate}
+use Rattle.hierarchy.specs.Turns.{value_at}
+use Rattle.hierarchy.proofs.Values.{value_mapped, value_suc}
 use Rattle.shapes.specs.declared.Shape.{Shape}
 use Rattle.states.specs.declared.State.{State}
 use Rattle.states.specs.declared.Answer.TheVariants.{Done, Refused}
-use Rattle.states.specs.After.{After, after, kept, Left, left, leftBy}
-use Rattle.states.specs.States.{checkState}
-use Rattle.states.proofs.Bits.{no_bits, no-axis}
-use Rattle.states.proofs.Checked.{Stands, state-passed, state-passes, axes-passed, axes-pass}
-use Rattle.tables.specs.Tables.{rateAt, checkRated, times, load, quotient, isScaled, scaledAt, checkSampled, unload}
-use Rattle.tables.proofs.Answering.{load-done, unload-done}
-use Rattle.tables.proofs.Checking.{Opens, rated-pass, rated-opens, rated-passes}
-use Rattle.tables.proofs.Quotients.{quotient-times, times-quotient, times_zero, quotient-zero, scaled-parts, is-scaled-rate}
+use Rattle.states.specs.After.{After, after, kept, Left, left, left_by}
+use Rattle.states.specs.States.{check_state}
+use Rattle.states.proofs.Bits.{no_bits, no_axis_lem}
+use Rattle.states.proofs.Checked.{Stands, state_passed, state_passes, axes_passed, axes_pass}
+use Rattle.tables.specs.Tables.{rate_at, check_rated, times, load, quotient, is_scaled, scaled_at, check_sampled, unload}
+use Rattle.tables.proofs.Answering.{load_done, unload_done}
+use Rattle.tables.proofs.Checking.{Opens, rated_pass, rated_opens, rated_passes}
+use Rattle.tables.proofs.Quotients.{quotient_times, times_quotient, times_zero, quotient_zero, scaled_parts, is_scaled_rate}
 
 -- ---- lists
 
@@ -37,113 +37,113 @@ map_back f g (x ∷ xs) each = ap₂ ◌∷◌ (each 0 (omega arith)) (map_back 
 
 -- ---- load, then unload
 
-module _ (s : Shape) (xs : List ℤ) (opens : Opens s xs) (rates : Passes (rateAt xs) (length xs)) where
+module _ (s : Shape) (xs : List ℤ) (opens : Opens s xs) (rates : Passes (rate_at xs) (length xs)) where
   loaded : State
   loaded = record { shape = s; forward = 0 }
 
   scaled : List ℤ
   scaled = map (times s.axes) xs
 
-  loaded-passes : checkState loaded (length scaled) ≡ Passed
+  loaded_passes : check_state loaded (length scaled) ≡ Passed
   unfolding loaded scaled
-  loaded-passes =
-      state-passes loaded (length scaled)
+  loaded_passes =
+      state_passes loaded (length scaled)
       (record { range = opens.range; few = pow_pos s.axes; long = length-map xs (times s.axes) ∙ opens.long })
 
-  none-forward : checkSampled loaded ≡ Passed
-  unfolding checkSampled loaded
-  none-forward = axes-pass true StillForward loaded (λ t h. no_bits t)
+  none_forward : check_sampled loaded ≡ Passed
+  unfolding check_sampled loaded
+  none_forward = axes_pass true StillForward loaded (λ t h. no_bits t)
 
-  all-scaled : all (scaledAt s.axes scaled) (length scaled) ≡ true
-  unfolding scaledAt rateAt scaled
-  all-scaled =
-      all_from (scaledAt s.axes scaled) (length scaled)
+  all_scaled : all (scaled_at s.axes scaled) (length scaled) ≡ true
+  unfolding scaled_at rate_at scaled
+  all_scaled =
+      all_from (scaled_at s.axes scaled) (length scaled)
       (λ p h.
-      ap (isScaled s.axes) (value-mapped (times s.axes) xs (times_zero s.axes) (suc p))
-      ∙ is-scaled-rate s.axes (valueAt xs (suc p)) (rates p (omega (arith, length-map xs (times s.axes)))))
+      ap (is_scaled s.axes) (value_mapped (times s.axes) xs (times_zero s.axes) (suc p))
+      ∙ is_scaled_rate s.axes (value_at xs (suc p)) (rates p (omega (arith, length-map xs (times s.axes)))))
 
-  unload-loaded : unload loaded scaled ≡ left Passed xs
+  unload_loaded : unload loaded scaled ≡ left Passed xs
   unfolding loaded scaled
-  unload-loaded =
-      unload-done loaded scaled loaded-passes none-forward all-scaled
-      ∙ ap (left Passed) (map_back (quotient s.axes) (times s.axes) xs (λ p h. quotient-times s.axes (get_or xs p (pos 0))))
+  unload_loaded =
+      unload_done loaded scaled loaded_passes none_forward all_scaled
+      ∙ ap (left Passed) (map_back (quotient s.axes) (times s.axes) xs (λ p h. quotient_times s.axes (get_or xs p (pos 0))))
 
 -- What is done has passed.
-done-passed : (xs : List ℤ) (v : Verdict) (res : After) (st : State) (ys : List ℤ) → answer (kept xs) v res ≡ after (Done st) ys → v ≡ Passed
-done-passed xs verdict.Passed res st ys e = refl
-done-passed xs (verdict.Refused r) res st ys e =
+done_passed : (xs : List ℤ) (v : Verdict) (res : After) (st : State) (ys : List ℤ) → answer (kept xs) v res ≡ after (Done st) ys → v ≡ Passed
+done_passed xs verdict.Passed res st ys e = refl
+done_passed xs (verdict.Refused r) res st ys e =
     let never : Refused r ≡ Done st = ap (λ (a : After). a.answer) e in cc
 
-pub load-unload : (s : Shape) (xs : List ℤ) (st : State) (ys : List ℤ) → load s xs ≡ after (Done st) ys → unload st ys ≡ left Passed xs
+pub load_unload : (s : Shape) (xs : List ℤ) (st : State) (ys : List ℤ) → load s xs ≡ after (Done st) ys → unload st ys ≡ left Passed xs
 unfolding load
-load-unload s xs st ys e =
-    let passed = done-passed xs (checkRated s xs) _ st ys e in
-    let same : after (Done (record { shape = s; forward = 0 })) (map (times s.axes) xs) ≡ after (Done st) ys = sym (load-done s xs passed) ∙ e in
+load_unload s xs st ys e =
+    let passed = done_passed xs (check_rated s xs) _ st ys e in
+    let same : after (Done (record { shape = s; forward = 0 })) (map (times s.axes) xs) ≡ after (Done st) ys = sym (load_done s xs passed) ∙ e in
     let done : Done (record { shape = s; forward = 0 }) ≡ Done st = ap (λ (a : After). a.answer) same in
     let state : record { shape = s; forward = 0 } ≡ st = cc in
     let contents : map (times s.axes) xs ≡ ys = ap (λ (a : After). a.table) same in
-    rw (← state, ← contents) (unfold loaded scaled in (unload-loaded s xs (rated-opens s xs passed) (rated-passes s xs passed)))
+    rw (← state, ← contents) (unfold loaded scaled in (unload_loaded s xs (rated_opens s xs passed) (rated_passes s xs passed)))
 
 -- ---- unload, then load
 
 -- What is left passed is what the verdict was.
-left_passed : (xs : List ℤ) (v : Verdict) (res ys : List ℤ) → leftBy xs v res ≡ left Passed ys → v ≡ Passed
+left_passed : (xs : List ℤ) (v : Verdict) (res ys : List ℤ) → left_by xs v res ≡ left Passed ys → v ≡ Passed
 left_passed xs verdict.Passed res ys e = refl
 left_passed xs (verdict.Refused r) res ys e = ap (λ (l : Left). l.verdict) e
 
 module _ (st : State) (xs : List ℤ) where
   pub record Unloads : Type 0 where
-    pub state : checkState st (length xs) ≡ Passed
-    pub sampled : checkSampled st ≡ Passed
-    pub scaled : all (scaledAt st.shape.axes xs) (length xs) ≡ true
+    pub state : check_state st (length xs) ≡ Passed
+    pub sampled : check_sampled st ≡ Passed
+    pub scaled : all (scaled_at st.shape.axes xs) (length xs) ≡ true
 
   unloads : (ys : List ℤ) → unload st xs ≡ left Passed ys → Unloads
   unfolding unload
   unloads ys e =
-      let state = checkState st (length xs) in
-      let accepts = all (scaledAt st.shape.axes xs) (length xs) in
-      let passed = left_passed xs (state andThen checkSampled st andThen unless accepts Contents) (map (quotient st.shape.axes) xs) ys e in
-      let rest = next-passed state (checkSampled st andThen unless accepts Contents) passed in
+      let state = check_state st (length xs) in
+      let accepts = all (scaled_at st.shape.axes xs) (length xs) in
+      let passed = left_passed xs (state and_then check_sampled st and_then unless accepts Contents) (map (quotient st.shape.axes) xs) ys e in
+      let rest = next_passed state (check_sampled st and_then unless accepts Contents) passed in
       record {
-        state = first-passed state (checkSampled st andThen unless accepts Contents) passed;
-        sampled = first-passed (checkSampled st) (unless accepts Contents) rest;
-        scaled = test-passed accepts Contents (next-passed (checkSampled st) (unless accepts Contents) rest);
+        state = first_passed state (check_sampled st and_then unless accepts Contents) passed;
+        sampled = first_passed (check_sampled st) (unless accepts Contents) rest;
+        scaled = test_passed accepts Contents (next_passed (check_sampled st) (unless accepts Contents) rest);
       }
 
   module _ (u : Unloads) where
     stands : Stands st (length xs)
-    stands = state-passed st (length xs) u.state
+    stands = state_passed st (length xs) u.state
 
     opens : Opens st.shape (map (quotient st.shape.axes) xs)
     opens = record { range = stands.range; long = length-map xs (quotient st.shape.axes) ∙ stands.long }
 
-    no-forward : st.forward ≡ 0
-    unfolding checkSampled
-    no-forward = no-axis st.forward st.shape.axes (axes-passed true StillForward st u.sampled) stands.few
+    no_forward : st.forward ≡ 0
+    unfolding check_sampled
+    no_forward = no_axis_lem st.forward st.shape.axes (axes_passed true StillForward st u.sampled) stands.few
 
-    value-parts : (p : ℕ) → p < length xs →
-        let z = valueAt xs (suc p) in (nat_abs z % 2 ^ st.shape.axes ≡ 0) × (isRate (quotient st.shape.axes z) ≡ true)
-    unfolding scaledAt
-    value-parts p h =
-        scaled-parts st.shape.axes (valueAt xs (suc p)) (all-at (scaledAt st.shape.axes xs) (length xs) u.scaled p h)
+    value_parts : (p : ℕ) → p < length xs →
+        let z = value_at xs (suc p) in (nat_abs z % 2 ^ st.shape.axes ≡ 0) × (is_rate (quotient st.shape.axes z) ≡ true)
+    unfolding scaled_at
+    value_parts p h =
+        scaled_parts st.shape.axes (value_at xs (suc p)) (all_at (scaled_at st.shape.axes xs) (length xs) u.scaled p h)
 
-    rates : Passes (rateAt (map (quotient st.shape.axes) xs)) (length (map (quotient st.shape.axes) xs))
-    unfolding rateAt
+    rates : Passes (rate_at (map (quotient st.shape.axes) xs)) (length (map (quotient st.shape.axes) xs))
+    unfolding rate_at
     rates p h =
-        ap isRate (value-mapped (quotient st.shape.axes) xs (quotient-zero st.shape.axes) (suc p))
-        ∙ (value-parts p (omega (arith, length-map xs (quotient st.shape.axes)))).1
+        ap is_rate (value_mapped (quotient st.shape.axes) xs (quotient_zero st.shape.axes) (suc p))
+        ∙ (value_parts p (omega (arith, length-map xs (quotient st.shape.axes)))).1
 
     back : map (times st.shape.axes) (map (quotient st.shape.axes) xs) ≡ xs
     back =
         map_back (times st.shape.axes) (quotient st.shape.axes) xs
-        (λ p h. times-quotient st.shape.axes (get_or xs p (pos 0)) (rw (value-suc xs p) at (value-parts p h).0))
+        (λ p h. times_quotient st.shape.axes (get_or xs p (pos 0)) (rw (value_suc xs p) at (value_parts p h).0))
 
-pub unload-load : (st : State) (xs ys : List ℤ) → unload st xs ≡ left Passed ys → load st.shape ys ≡ after (Done st) xs
-unload-load st xs ys e =
+pub unload_load : (st : State) (xs ys : List ℤ) → unload st xs ≡ left Passed ys → load st.shape ys ≡ after (Done st) xs
+unload_load st xs ys e =
     let u = unloads st xs ys e in
     let d = st.shape.axes in
     let contents : map (quotient d) xs ≡ ys =
-    ap (λ (l : Left). l.table) (sym (unload-done st xs u.state u.sampled u.scaled) ∙ e) in
+    ap (λ (l : Left). l.table) (sym (unload_done st xs u.state u.sampled u.scaled) ∙ e) in
     rw (← contents)
-    (load-done st.shape (map (quotient d) xs) (rated-pass st.shape (map (quotient d) xs) (opens st xs u) (rates st xs u))
-    ∙ ap₂ (λ (n : ℕ) (zs : List ℤ). after (Done (record { shape = st.shape; forward = n })) zs) (sym (no-forward st xs u)) (back st xs u))
+    (load_done st.shape (map (quotient d) xs) (rated_pass st.shape (map (quotient d) xs) (opens st xs u) (rates st xs u))
+    ∙ ap₂ (λ (n : ℕ) (zs : List ℤ). after (Done (record { shape = st.shape; forward = n })) zs) (sym (no_forward st xs u)) (back st xs u))

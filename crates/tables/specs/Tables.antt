@@ -2,36 +2,36 @@
 -- Assumes nothing.
 use Rattle.std.specs.Prelude.{ℕ, suc, ◌-◌, ◌%◌, ◌^◌, Bool, true, ◌&&◌, List, map, length, ℤ, pos, ◌*ℤ◌, ◌==◌, nat_le, unsigned_abs}
 use Rattle.naturals.specs.Test.{all}
-use Rattle.naturals.specs.FirstFailing.{firstFailing}
+use Rattle.naturals.specs.FirstFailing.{first_failing}
 use Rattle.refusals.specs.declared.Refusal.TheVariants.{Rate, Contents, StillForward}
 use Rattle.refusals.specs.declared.Verdict.{Verdict}
-use Rattle.refusals.specs.Checks.{unless, ◌andThen◌, answer}
-use Rattle.integers.specs.Half.{contentAt, isRate}
+use Rattle.refusals.specs.Checks.{unless, ◌and_then◌, answer}
+use Rattle.integers.specs.Half.{content_at, is_rate}
 use Rattle.integers.specs.Floor.{floor}
-use Rattle.hierarchy.specs.Turns.{valueAt}
+use Rattle.hierarchy.specs.Turns.{value_at}
 use Rattle.shapes.specs.declared.Shape.{Shape}
-use Rattle.shapes.specs.Shapes.{checkShape, checkLength}
+use Rattle.shapes.specs.Shapes.{check_shape, check_length}
 use Rattle.states.specs.declared.State.{State}
 use Rattle.states.specs.declared.Answer.{Answer}
 use Rattle.states.specs.declared.Answer.TheVariants.{Done, Refused}
-use Rattle.states.specs.After.{After, after, kept, Left, leftBy}
-use Rattle.states.specs.States.{checkAxes, checkState}
+use Rattle.states.specs.After.{After, after, kept, Left, left_by}
+use Rattle.states.specs.States.{check_axes, check_state}
 
 -- A table handed in with a shape: refused with 1, 2 or 3.
-unfoldable pub checkTable : Shape → List ℤ → Verdict
-checkTable s xs = checkShape s andThen checkLength s (length xs)
+unfoldable pub check_table : Shape → List ℤ → Verdict
+check_table s xs = check_shape s and_then check_length s (length xs)
 
 -- The value at point p is a rate.
-unfoldable pub rateAt : List ℤ → ℕ → Bool
-rateAt xs p = isRate (valueAt xs (suc p))
+unfoldable pub rate_at : List ℤ → ℕ → Bool
+rate_at xs p = is_rate (value_at xs (suc p))
 
 -- A rate out of range is refused with 4, and the smallest such point number.
-unfoldable pub checkRates : List ℤ → Verdict
-checkRates xs = unless (nat_le (length xs) (firstFailing (rateAt xs) (length xs))) (Rate (firstFailing (rateAt xs) (length xs)))
+unfoldable pub check_rates : List ℤ → Verdict
+check_rates xs = unless (nat_le (length xs) (first_failing (rate_at xs) (length xs))) (Rate (first_failing (rate_at xs) (length xs)))
 
 -- A table of rates handed in with a shape: refused with 1, 2, 3 or 4.
-abbrev pub checkRated : Shape → List ℤ → Verdict
-checkRated s xs = checkTable s xs andThen checkRates xs
+abbrev pub check_rated : Shape → List ℤ → Verdict
+check_rated s xs = check_table s xs and_then check_rates xs
 
 -- A value times 2^d.
 unfoldable pub times : ℕ → ℤ → ℤ
@@ -40,7 +40,7 @@ times d z = z *ℤ pos (2 ^ d)
 -- Load: rates to a loaded table, each times 2^d, no axis forward.
 unfoldable pub load : Shape → List ℤ → After
 load s xs =
-    answer (kept xs) (checkRated s xs)
+    answer (kept xs) (check_rated s xs)
     (after (Done (record { shape = s; forward = 0 })) (map (times s.axes) xs))
 
 -- The state of an adopted table: all axes forward.
@@ -50,7 +50,7 @@ adopted s = record { shape = s; forward = 2 ^ s.axes - 1 }
 -- Adopt: coefficients, unchanged, all axes forward.
 unfoldable pub adopt : Shape → List ℤ → Answer
 adopt s xs =
-    answer Refused (checkTable s xs andThen unless (all (contentAt xs) (length xs)) Contents)
+    answer Refused (check_table s xs and_then unless (all (content_at xs) (length xs)) Contents)
     (Done (adopted s))
 
 -- A value divided by 2^d, rounded down.
@@ -58,21 +58,21 @@ unfoldable pub quotient : ℕ → ℤ → ℤ
 quotient d z = floor (2 ^ d) z
 
 -- The value is 2^d times a rate: it is divisible, and the quotient is a rate.
-unfoldable pub isScaled : ℕ → ℤ → Bool
-isScaled d z = unsigned_abs z % 2 ^ d == 0 && isRate (quotient d z)
+unfoldable pub is_scaled : ℕ → ℤ → Bool
+is_scaled d z = unsigned_abs z % 2 ^ d == 0 && is_rate (quotient d z)
 
-unfoldable pub scaledAt : ℕ → List ℤ → ℕ → Bool
-scaledAt d xs p = isScaled d (valueAt xs (suc p))
+unfoldable pub scaled_at : ℕ → List ℤ → ℕ → Bool
+scaled_at d xs p = is_scaled d (value_at xs (suc p))
 
 -- No axis is forward, else refused with 18 and the first that is.
-unfoldable pub checkSampled : State → Verdict
-checkSampled s = checkAxes true StillForward s
+unfoldable pub check_sampled : State → Verdict
+check_sampled s = check_axes true StillForward s
 
 -- Unload: a table with no axis forward becomes rates, each value divided by 2^d. Refused with 1, 2, 14, 3, 18 (first forward axis) or 10.
 unfoldable pub unload : State → List ℤ → Left
 unload s xs =
-    leftBy xs
-    (checkState s (length xs)
-    andThen checkSampled s
-    andThen unless (all (scaledAt s.shape.axes xs) (length xs)) Contents)
+    left_by xs
+    (check_state s (length xs)
+    and_then check_sampled s
+    and_then unless (all (scaled_at s.shape.axes xs) (length xs)) Contents)
     (map (quotient s.shape.axes) xs)

@@ -4,9 +4,9 @@
 ghost use Rattle.std.specs.Prelude.{◌≡◌, ◌+◌, ◌-◌, ◌%◌, ◌^◌, ◌<◌, ◌≤◌, true, map, length};
 ghost use Rattle.naturals.specs.Test.{all};
 ghost use Rattle.naturals.specs.FirstFailing.{Passes};
-ghost use Rattle.integers.specs.Half.{isRate};
+ghost use Rattle.integers.specs.Half.{is_rate};
 ghost use Rattle.states.specs.After.{after, left};
-ghost use Rattle.tables.specs.Tables.{checkTable, rateAt, checkRates, checkRated, times, load, adopt, quotient, isScaled, scaledAt, checkSampled, unload};
+ghost use Rattle.tables.specs.Tables.{check_table, rate_at, check_rates, check_rated, times, load, adopt, quotient, is_scaled, scaled_at, check_sampled, unload};
 
 use refusals::{Refusal, Verdict};
 use shapes::Shape;
@@ -14,7 +14,7 @@ use states::{Answer, State};
 
 // Refused with 1, 2 or 3.
 fn check_table(shape: Shape, table: &[i64]) -> Verdict
-    ensures { result ≡ checkTable shape table.now }
+    ensures { result ≡ check_table shape table.now }
 {
     if let Verdict::Refused(r) = shapes::check_shape(shape) {
         return Verdict::Refused(r);
@@ -24,7 +24,7 @@ fn check_table(shape: Shape, table: &[i64]) -> Verdict
 
 // A value plus 2^31, modulo 2^64: below 2^32 only for a rate.
 fn raised(v: i64) -> u64
-    ensures { result < 2 ^ 32 → isRate v ≡ true }
+    ensures { result < 2 ^ 32 → is_rate v ≡ true }
 {
     if v < 0 {
         return std::num::wrapping_sub_u64(2147483647, (-1 - v) as u64);
@@ -34,7 +34,7 @@ fn raised(v: i64) -> u64
 
 // All values are rates, seen without a branch for each.
 fn all_rates(table: &[i64]) -> bool
-    ensures { result ≡ true → Passes (rateAt table.now) (length table.now) }
+    ensures { result ≡ true → Passes (rate_at table.now) (length table.now) }
 {
     let mut bits: u64 = 0;
     let mut p: usize = 0;
@@ -47,7 +47,7 @@ fn all_rates(table: &[i64]) -> bool
 
 // All values are rates, else refused with 4 and the first place that holds none.
 pub fn check_rates(table: &[i64]) -> Verdict
-    ensures { result ≡ checkRates table.now }
+    ensures { result ≡ check_rates table.now }
 {
     if all_rates(table) {
         return Verdict::Passed;
@@ -57,7 +57,7 @@ pub fn check_rates(table: &[i64]) -> Verdict
 
 // The same, value by value.
 fn first_rate(table: &[i64]) -> Verdict
-    ensures { result ≡ checkRates table.now }
+    ensures { result ≡ check_rates table.now }
 {
     let mut p: usize = 0;
     while p < table.len() {
@@ -71,7 +71,7 @@ fn first_rate(table: &[i64]) -> Verdict
 
 // A table of rates: refused with 1, 2, 3 or 4.
 pub fn check_rated(shape: Shape, table: &[i64]) -> Verdict
-    ensures { result ≡ checkRated shape table.now }
+    ensures { result ≡ check_rated shape table.now }
 {
     if let Verdict::Refused(r) = check_table(shape, table) {
         return Verdict::Refused(r);
@@ -81,7 +81,7 @@ pub fn check_rated(shape: Shape, table: &[i64]) -> Verdict
 
 // A rate times 2^d.
 fn scaled(axes: u32, rate: i64) -> i64
-    requires { (axes ≤ 8) × (isRate rate ≡ true) }
+    requires { (axes ≤ 8) × (is_rate rate ≡ true) }
     ensures { result ≡ times axes rate }
 {
     rate * (1 << axes)
@@ -89,7 +89,7 @@ fn scaled(axes: u32, rate: i64) -> i64
 
 // Each rate times 2^d.
 pub fn scale(axes: u32, table: &mut [i64])
-    requires { (axes ≤ 8) × Passes (rateAt table.old) (length table.old) }
+    requires { (axes ≤ 8) × Passes (rate_at table.old) (length table.old) }
     ensures { table.new ≡ map (times axes) table.old }
 {
     let mut p: usize = 0;
@@ -141,7 +141,7 @@ pub fn adopt(shape: Shape, table: &[i64]) -> Answer
 // No axis is forward, else refused with 18 and the first that is.
 fn check_sampled(state: State) -> Verdict
     requires { state.shape.axes ≤ 8 }
-    ensures { result ≡ checkSampled state }
+    ensures { result ≡ check_sampled state }
 {
     let shape = state.shape;
     let first = states::first_axis(state, true);
@@ -154,7 +154,7 @@ fn check_sampled(state: State) -> Verdict
 // The value is 2^d times a rate.
 fn is_scaled(axes: u32, v: i64) -> bool
     requires { axes ≤ 8 }
-    ensures { result ≡ isScaled axes v }
+    ensures { result ≡ is_scaled axes v }
 {
     let rate = v >> axes;
     if !integers::is_rate(rate) {
@@ -166,7 +166,7 @@ fn is_scaled(axes: u32, v: i64) -> bool
 // A value plus 2^(31 + d), modulo 2^64: below 2^(32 + d) and divided by 2^d only for 2^d times a rate.
 fn lifted(axes: u32, v: i64) -> u64
     requires { axes ≤ 8 }
-    ensures { result < 2 ^ (32 + axes) → result % 2 ^ axes ≡ 0 → isScaled axes v ≡ true }
+    ensures { result < 2 ^ (32 + axes) → result % 2 ^ axes ≡ 0 → is_scaled axes v ≡ true }
 {
     let half: u64 = 2147483648 << axes;
     if v < 0 {
@@ -178,7 +178,7 @@ fn lifted(axes: u32, v: i64) -> u64
 // All values are 2^d times a rate, seen without a branch for each: the bits gathered are in range and divided by 2^d only where each sum is.
 fn seen_scaled(axes: u32, table: &[i64]) -> bool
     requires { axes ≤ 8 }
-    ensures { result ≡ true → Passes (scaledAt axes table.now) (length table.now) }
+    ensures { result ≡ true → Passes (scaled_at axes table.now) (length table.now) }
 {
     let mut bits: u64 = 0;
     let mut p: usize = 0;
@@ -195,7 +195,7 @@ fn seen_scaled(axes: u32, table: &[i64]) -> bool
 // All values are 2^d times a rate. Where that is not seen for all together, they are looked at one by one.
 fn all_scaled(axes: u32, table: &[i64]) -> bool
     requires { axes ≤ 8 }
-    ensures { result ≡ all (scaledAt axes table.now) (length table.now) }
+    ensures { result ≡ all (scaled_at axes table.now) (length table.now) }
 {
     if seen_scaled(axes, table) {
         return true;

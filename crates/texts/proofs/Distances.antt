@@ -21,31 +21,31 @@ negated (negsuc n) e = +ℤ_idl (neg_ℤ (negsuc n +ℤ pos 1)) ∙ ap neg_ℤ (
     opposite zero = refl
     opposite (suc m) = ap pos (omega arith)
 
-pub one-more-fits : (v : ℤ) → lt_z v (pos 0) ≡ true → SFits w64 v → SFits w64 (v +ℤ pos 1)
-one-more-fits (pos n) e f = absurd (omega (arith, ltb-true n 0 e))
-one-more-fits (negsuc n) e f = rw (+ℤ_one (negsuc n)) (next n f.sfits)
+pub one_more_fits : (v : ℤ) → lt_z v (pos 0) ≡ true → SFits w64 v → SFits w64 (v +ℤ pos 1)
+one_more_fits (pos n) e f = absurd (omega (arith, ltb-true n 0 e))
+one_more_fits (negsuc n) e f = rw (+ℤ_one (negsuc n)) (next n f.sfits)
   where
     next : (m : ℕ) → m < 2 ^ 63 → SFits w64 (suc_ℤ (negsuc m))
     next zero h = record { sfits = omega arith }
     next (suc m) h = record { sfits = omega arith }
 
-pub less-one-fits : (v : ℤ) → lt_z v (pos 0) ≡ true → SFits w64 v → SFits w64 (pos (nat_abs v - 1))
-less-one-fits (pos n) e f = absurd (omega (arith, ltb-true n 0 e))
-less-one-fits (negsuc n) e f = let h : n < 2 ^ 63 = f.sfits in record { sfits = omega arith }
+pub less_one_fits : (v : ℤ) → lt_z v (pos 0) ≡ true → SFits w64 v → SFits w64 (pos (nat_abs v - 1))
+less_one_fits (pos n) e f = absurd (omega (arith, ltb-true n 0 e))
+less_one_fits (negsuc n) e f = let h : n < 2 ^ 63 = f.sfits in record { sfits = omega arith }
 
 -- The same, as the code's signed operands have it.
 pub operand : (v : ℤ) → lt_z v (pos 0) ≡ true → SFits w64 v → pos 0 -ℤ to_z w64 (of_z w64 (to_z w64 (of_z w64 v) +ℤ pos 1)) ≡ pos (nat_abs v - 1)
-operand v e f = rw (to_z-of_z w64 v f, to_z-of_z w64 (v +ℤ pos 1) (one-more-fits v e f)) (negated v e)
+operand v e f = rw (to_z-of_z w64 v f, to_z-of_z w64 (v +ℤ pos 1) (one_more_fits v e f)) (negated v e)
 
 pub distance : (v : ℤ) → lt_z v (pos 0) ≡ true → nat_abs v - 1 + 1 ≡ nat_abs v
 distance (pos n) e = absurd (omega (arith, ltb-true n 0 e))
 distance (negsuc n) e = omega arith
 
-pub distance-fits : (v : ℤ) → SFits w64 v → Fits w64 (nat_abs v)
-distance-fits (pos n) f = let h : n < 2 ^ 63 = f.sfits in record { fits = omega arith }
-distance-fits (negsuc n) f = let h : n < 2 ^ 63 = f.sfits in record { fits = omega arith }
+pub distance_fits : (v : ℤ) → SFits w64 v → Fits w64 (nat_abs v)
+distance_fits (pos n) f = let h : n < 2 ^ 63 = f.sfits in record { fits = omega arith }
+distance_fits (negsuc n) f = let h : n < 2 ^ 63 = f.sfits in record { fits = omega arith }
 
 -- From zero on.
-pub not-below : (v : ℤ) → lt_z v (pos 0) ≡ false → T (non_neg v)
-not-below (pos n) e = tt
-not-below (negsuc n) e = absurd (false≢true (sym e))
+pub not_below : (v : ℤ) → lt_z v (pos 0) ≡ false → T (non_neg v)
+not_below (pos n) e = tt
+not_below (negsuc n) e = absurd (false≢true (sym e))

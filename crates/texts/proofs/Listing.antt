@@ -9,62 +9,62 @@ use lib.IntN.{ℤ, pos}
 use lib.ListN.{length, take, get_or, length-append}
 use lib.Seq.{take-suc, take_all, length-take-le}
 use Rattle.refusals.specs.declared.Refusal.{Refusal}
-use Rattle.refusals.specs.Refusals.{numberOf}
-use Rattle.texts.specs.Text.{headingOf, pointLine, pointLines, refusedLine}
+use Rattle.refusals.specs.Refusals.{number_of}
+use Rattle.texts.specs.Text.{heading_of, point_line, point_lines, refused_line}
 use Rattle.buffers.specs.Put.{Put}
-use Rattle.texts.proofs.Decimals.{decimal-length, signed-length}
-use Rattle.buffers.proofs.Puts.{put_then, put_as, put-nothing, put-length}
+use Rattle.texts.proofs.Decimals.{decimal_length, signed_length}
+use Rattle.buffers.proofs.Puts.{put_then, put_as, put_nothing, put_length}
 
 -- One line more.
-lines_snoc : (vs : List ℤ) (v : ℤ) (p : ℕ) → pointLines p (vs ++ (v ∷ [])) ≡ pointLines p vs ++ pointLine (p + length vs) v
-unfolding pointLines
+lines_snoc : (vs : List ℤ) (v : ℤ) (p : ℕ) → point_lines p (vs ++ (v ∷ [])) ≡ point_lines p vs ++ point_line (p + length vs) v
+unfolding point_lines
 lines_snoc [] v p =
     let e : p + 0 ≡ p = omega arith in
-    append-nil (pointLine p v) ∙ ap (λ (k : ℕ). pointLine k v) (sym e)
+    append-nil (point_line p v) ∙ ap (λ (k : ℕ). point_line k v) (sym e)
 lines_snoc (w ∷ vs) v p =
     let e : suc p + length vs ≡ p + suc (length vs) = omega arith in
-    ap (λ (l : List ℕ). pointLine p w ++ l) (lines_snoc vs v (suc p) ∙ ap (λ (k : ℕ). pointLines (suc p) vs ++ pointLine k v) e)
-    ∙ sym (append_assoc (pointLine p w) (pointLines (suc p) vs) (pointLine (p + suc (length vs)) v))
+    ap (λ (l : List ℕ). point_line p w ++ l) (lines_snoc vs v (suc p) ∙ ap (λ (k : ℕ). point_lines (suc p) vs ++ point_line k v) e)
+    ∙ sym (append_assoc (point_line p w) (point_lines (suc p) vs) (point_line (p + suc (length vs)) v))
 
-line-length : (p : ℕ) (v : ℤ) → length (pointLine p v) ≤ 43
-unfolding pointLine
-line-length p v =
-    simp length-append (omega (arith, decimal-length p, signed-length v))
+line_length : (p : ℕ) (v : ℤ) → length (point_line p v) ≤ 43
+unfolding point_line
+line_length p v =
+    simp length-append (omega (arith, decimal_length p, signed_length v))
 
-pub lines-length : (vs : List ℤ) (p : ℕ) → length (pointLines p vs) ≤ 43 * length vs
-unfolding pointLines
-lines-length [] p = omega arith
-lines-length (v ∷ vs) p = omega (arith, length-append (pointLine p v) (pointLines (suc p) vs), line-length p v, lines-length vs (suc p))
+pub lines_length : (vs : List ℤ) (p : ℕ) → length (point_lines p vs) ≤ 43 * length vs
+unfolding point_lines
+lines_length [] p = omega arith
+lines_length (v ∷ vs) p = omega (arith, length-append (point_line p v) (point_lines (suc p) vs), line_length p v, lines_length vs (suc p))
 
 -- The lines of the points below p have been put.
 pub record Listed (table : List ℤ) (old : List ℕ) (place : ℕ) (new : List ℕ) (next p : ℕ) : Type 0 where
   pub within : p ≤ length table
-  pub listed : Put (pointLines 0 (take p table)) old place new next
+  pub listed : Put (point_lines 0 (take p table)) old place new next
 
 module _ {table : List ℤ} {old : List ℕ} {place : ℕ} where
-  pub listed-starts : Listed table old place old place 0
-  unfolding pointLines
-  listed-starts = record { within = omega arith; listed = put-nothing old place }
+  pub listed_starts : Listed table old place old place 0
+  unfolding point_lines
+  listed_starts = record { within = omega arith; listed = put_nothing old place }
 
-  pub listed-room : {new : List ℕ} {next p : ℕ} → Listed table old place new next p → p < length table → place + 43 * length table ≤ length old → next + 43 ≤ length new
-  listed-room {new} {next} {p} h lt room =
-      omega (arith, h.listed.after, put-length h.listed, lines-length (take p table) 0, length-take-le p table h.within)
+  pub listed_room : {new : List ℕ} {next p : ℕ} → Listed table old place new next p → p < length table → place + 43 * length table ≤ length old → next + 43 ≤ length new
+  listed_room {new} {next} {p} h lt room =
+      omega (arith, h.listed.after, put_length h.listed, lines_length (take p table) 0, length-take-le p table h.within)
 
-  pub listed-steps : {mid new : List ℕ} {m next p : ℕ} → Listed table old place mid m p → p < length table → Put (pointLine p (get_or table p (pos 0))) mid m new next
+  pub listed_steps : {mid new : List ℕ} {m next p : ℕ} → Listed table old place mid m p → p < length table → Put (point_line p (get_or table p (pos 0))) mid m new next
       → Listed table old place new next (p + 1)
-  listed-steps {mid} {new} {m} {next} {p} h lt put =
+  listed_steps {mid} {new} {m} {next} {p} h lt put =
       let z : 0 + length (take p table) ≡ p = omega (arith, length-take-le p table h.within) in
-      let e : pointLines 0 (take p table) ++ pointLine p (get_or table p (pos 0)) ≡ pointLines 0 (take (p + 1) table) =
-      sym (rw (add-one, take-suc table p (pos 0) lt) (lines_snoc (take p table) (get_or table p (pos 0)) 0 ∙ ap (λ (k : ℕ). pointLines 0 (take p table) ++ pointLine k (get_or table p (pos 0))) z)) in
+      let e : point_lines 0 (take p table) ++ point_line p (get_or table p (pos 0)) ≡ point_lines 0 (take (p + 1) table) =
+      sym (rw (add-one, take-suc table p (pos 0) lt) (lines_snoc (take p table) (get_or table p (pos 0)) 0 ∙ ap (λ (k : ℕ). point_lines 0 (take p table) ++ point_line k (get_or table p (pos 0))) z)) in
       record { within = omega arith; listed = put_as e (put_then h.listed put) }
 
-  pub listed-ends : {new : List ℕ} {next p : ℕ} → Listed table old place new next p → length table ≤ p → Put (pointLines 0 table) old place new next
-  listed-ends {new} {next} {p} h le = put_as (ap (pointLines 0) (take_all p table le)) h.listed
+  pub listed_ends : {new : List ℕ} {next p : ℕ} → Listed table old place new next p → length table ≤ p → Put (point_lines 0 table) old place new next
+  listed_ends {new} {next} {p} h le = put_as (ap (point_lines 0) (take_all p table le)) h.listed
 
-pub heading-length : (d n count : ℕ) → length (headingOf d n count) ≤ 81
-unfolding headingOf
-heading-length d n count = simp length-append (omega (arith, decimal-length d, decimal-length n, decimal-length count))
+pub heading_length : (d n count : ℕ) → length (heading_of d n count) ≤ 81
+unfolding heading_of
+heading_length d n count = simp length-append (omega (arith, decimal_length d, decimal_length n, decimal_length count))
 
-pub refused-length : (r : Refusal) → length (refusedLine r) ≤ 29
-unfolding refusedLine
-refused-length r = simp length-append (omega (arith, decimal-length (numberOf r)))
+pub refused_length : (r : Refusal) → length (refused_line r) ≤ 29
+unfolding refused_line
+refused_length r = simp length-append (omega (arith, decimal_length (number_of r)))

@@ -13,103 +13,103 @@ use lib.Pow.{ones_lt}
 use lib.Seq.{get_or-append_seam}
 use borrow.Author.Tests.{le-leb, eq-eqb}
 use Rattle.naturals.specs.Test.{all}
-use Rattle.naturals.proofs.Cases.{le-or-lt}
+use Rattle.naturals.proofs.Cases.{le_or_lt}
 use Rattle.naturals.proofs.Tests.{all_from}
-use Rattle.naturals.proofs.FirstFailing.{first-none}
+use Rattle.naturals.proofs.FirstFailing.{first_none}
 use Rattle.refusals.specs.declared.Refusal.TheVariants.{StillSampled}
 use Rattle.refusals.specs.declared.Verdict.TheVariants.{Passed}
-use Rattle.integers.specs.Half.{inLimit, contentAt}
-use Rattle.integers.proofs.Sizes.{rate-size}
+use Rattle.integers.specs.Half.{in_limit, content_at}
+use Rattle.integers.proofs.Sizes.{rate_size}
 use Rattle.numbering.specs.Point.{at}
-use Rattle.hierarchy.specs.Turns.{valueAt}
-use Rattle.hierarchy.specs.Sets.{everyAxis}
-use Rattle.hierarchy.proofs.Values.{value-zero, value-suc, value-past}
-use Rattle.hierarchy.proofs.Bounds.{table-in-limit}
+use Rattle.hierarchy.specs.Turns.{value_at}
+use Rattle.hierarchy.specs.Sets.{every_axis}
+use Rattle.hierarchy.proofs.Values.{value_zero, value_suc, value_past}
+use Rattle.hierarchy.proofs.Bounds.{table_in_limit}
 use Rattle.shapes.specs.declared.Shape.{Shape}
-use Rattle.shapes.specs.Shapes.{pointsOf}
-use Rattle.shapes.proofs.Checked.{InRange, passed-in-range}
-use Rattle.grids.specs.Grids.{levelOn, indexOn, neighbour}
-use Rattle.grids.proofs.Points.{index_below, index-past}
-use Rattle.surfaces.specs.Weights.{unit, isCoordinate, coordinate}
-use Rattle.surfaces.specs.Surface.{coordinatesIn, coordinatesOf, estimateAt}
-use Rattle.surfaces.proofs.Interpolates.{estimate-through}
+use Rattle.shapes.specs.Shapes.{points_of}
+use Rattle.shapes.proofs.Checked.{InRange, passed_in_range}
+use Rattle.grids.specs.Grids.{level_on, index_on, neighbour}
+use Rattle.grids.proofs.Points.{index_below, index_past}
+use Rattle.surfaces.specs.Weights.{unit, is_coordinate, coordinate}
+use Rattle.surfaces.specs.Surface.{coordinates_in, coordinates_of, estimate_at}
+use Rattle.surfaces.proofs.Interpolates.{estimate_through}
 use Rattle.states.specs.declared.Answer.TheVariants.{Done}
-use Rattle.states.specs.States.{checkState}
-use Rattle.states.proofs.Bits.{all-bits-in}
-use Rattle.states.proofs.Checked.{state-passes, axes-pass}
+use Rattle.states.specs.States.{check_state}
+use Rattle.states.proofs.Bits.{all_bits_in}
+use Rattle.states.proofs.Checked.{state_passes, axes_pass}
 use Rattle.tables.specs.Tables.{times, adopted, adopt}
-use Rattle.tables.proofs.Checking.{table-passes}
-use Rattle.tables.proofs.Answering.{adopt-done}
+use Rattle.tables.proofs.Checking.{table_passes}
+use Rattle.tables.proofs.Answering.{adopt_done}
 use Rattle.whole.specs.Accepted.{Accepted}
-use Rattle.whole.specs.Whole.{coefficientsOf}
-use Rattle.whole.proofs.Inverse.{coefficients-length}
-use Rattle.whole.proofs.AnswersDown.{coefficient-at}
+use Rattle.whole.specs.Whole.{coefficients_of}
+use Rattle.whole.proofs.Inverse.{coefficients_length}
+use Rattle.whole.proofs.AnswersDown.{coefficient_at}
 use Rattle.estimates.specs.declared.Estimated.TheVariants.{Value}
-use Rattle.estimates.specs.Estimates.{checkForward, insideAt, firstOutside, checkCoordinates, estimate}
+use Rattle.estimates.specs.Estimates.{check_forward, inside_at, first_outside, check_coordinates, estimate}
 use Rattle.estimates.proofs.Answering.{estimated}
-use Rattle.through_rates.specs.Coordinates.{firstValues, coordinateList}
+use Rattle.through_rates.specs.Coordinates.{first_values, coordinate_list}
 
 -- ---- the list of coordinates
 
-first-length : (k : ℕ) (f : ℕ → ℕ) → length (firstValues k f) ≡ k
-unfolding firstValues
-first-length zero f = refl
-first-length (suc k) f = omega (arith, length-append (firstValues k f) (f k ∷ []), first-length k f)
+first_length : (k : ℕ) (f : ℕ → ℕ) → length (first_values k f) ≡ k
+unfolding first_values
+first_length zero f = refl
+first_length (suc k) f = omega (arith, length-append (first_values k f) (f k ∷ []), first_length k f)
 
-first-at : (k : ℕ) (f : ℕ → ℕ) (t : ℕ) → t < k → at (firstValues k f) t ≡ f t
-unfolding firstValues
-first-at zero f t h = absurd (omega arith)
-first-at (suc k) f t h =
-    le-or-lt k t
+first_at_lem : (k : ℕ) (f : ℕ → ℕ) (t : ℕ) → t < k → at (first_values k f) t ≡ f t
+unfolding first_values
+first_at_lem zero f t h = absurd (omega arith)
+first_at_lem (suc k) f t h =
+    le_or_lt k t
     (λ le.
-    let end : t ≡ length (firstValues k f) = omega (arith, first-length k f) in
+    let end : t ≡ length (first_values k f) = omega (arith, first_length k f) in
     let last : t ≡ k = omega arith in
-    ap (λ (m : ℕ). get_or (firstValues k f ++ (f k ∷ [])) m 0) end
-    ∙ get_or-append_seam (firstValues k f) (f k) [] 0
+    ap (λ (m : ℕ). get_or (first_values k f ++ (f k ∷ [])) m 0) end
+    ∙ get_or-append_seam (first_values k f) (f k) [] 0
     ∙ ap f (sym last))
-    (λ lt. get_or-append (firstValues k f) (f k ∷ []) 0 t (omega (arith, first-length k f)) ∙ first-at k f t lt)
+    (λ lt. get_or-append (first_values k f) (f k ∷ []) 0 t (omega (arith, first_length k f)) ∙ first_at_lem k f t lt)
 
 module _ (s : Shape) (q : ℕ) where
-  list_length : length (coordinateList s q) ≡ s.axes
-  unfolding coordinateList
-  list_length = first-length s.axes (coordinatesOf s q)
+  list_length : length (coordinate_list s q) ≡ s.axes
+  unfolding coordinate_list
+  list_length = first_length s.axes (coordinates_of s q)
 
   -- Past the last axis a point's level and index are 0, and so is what a list holds there.
-  none-past : (t : ℕ) → s.axes ≤ t → coordinatesOf s q t ≡ 0
-  unfolding coordinatesIn coordinate
-  none-past t past =
-      rw (index-past s q t past, zero-mul unit) (zero-div (2 ^ suc (levelOn s q t)))
+  none_past : (t : ℕ) → s.axes ≤ t → coordinates_of s q t ≡ 0
+  unfolding coordinates_in coordinate
+  none_past t past =
+      rw (index_past s q t past, zero-mul unit) (zero-div (2 ^ suc (level_on s q t)))
 
-  list-holds : at (coordinateList s q) ≡ coordinatesOf s q
-  unfolding coordinateList
-  list-holds =
+  list_holds : at (coordinate_list s q) ≡ coordinates_of s q
+  unfolding coordinate_list
+  list_holds =
       fun_ext λ t.
-      le-or-lt s.axes t
-      (λ past. get_or-eq_default (coordinateList s q) 0 (omega (arith, list_length)) ∙ sym (none-past t past))
-      (λ h. first-at s.axes (coordinatesOf s q) t h)
+      le_or_lt s.axes t
+      (λ past. get_or-eq_default (coordinate_list s q) 0 (omega (arith, list_length)) ∙ sym (none_past t past))
+      (λ h. first_at_lem s.axes (coordinates_of s q) t h)
 
   -- A point's coordinate is at most the unit.
-  coordinate-small : q < pointsOf s → (t : ℕ) → t < s.axes → coordinatesOf s q t ≤ unit
-  unfolding coordinatesIn coordinate
-  coordinate-small h t axis =
-      let l = levelOn s q t in
-      let i = indexOn s q t in
+  coordinate_small : q < points_of s → (t : ℕ) → t < s.axes → coordinates_of s q t ≤ unit
+  unfolding coordinates_in coordinate
+  coordinate_small h t axis =
+      let l = level_on s q t in
+      let i = index_on s q t in
       div-le_of_le-mul (2 ^ suc l) {m = i * unit} {n = unit}
       (mul-le-mul_right unit (omega (arith, index_below s q h t axis)))
 
-  module _ (h : q < pointsOf s) where
-    is-coordinate : (t : ℕ) → t < s.axes → insideAt unit (coordinateList s q) t ≡ true
-    unfolding insideAt isCoordinate
-    is-coordinate t axis =
-        ap (λ (x : ℕ → ℕ). isCoordinate unit (x t)) list-holds
-        ∙ le-leb (coordinatesOf s q t) unit (coordinate-small h t axis)
+  module _ (h : q < points_of s) where
+    is_coordinate_lem : (t : ℕ) → t < s.axes → inside_at unit (coordinate_list s q) t ≡ true
+    unfolding inside_at is_coordinate
+    is_coordinate_lem t axis =
+        ap (λ (x : ℕ → ℕ). is_coordinate unit (x t)) list_holds
+        ∙ le-leb (coordinates_of s q t) unit (coordinate_small h t axis)
 
-    coordinates-pass : checkCoordinates unit s.axes (coordinateList s q) ≡ Passed
-    unfolding checkCoordinates firstOutside
-    coordinates-pass =
+    coordinates_pass : check_coordinates unit s.axes (coordinate_list s q) ≡ Passed
+    unfolding check_coordinates first_outside
+    coordinates_pass =
         rw (
-          eq-eqb (length (coordinateList s q)) s.axes list_length,
-          first-none (insideAt unit (coordinateList s q)) s.axes is-coordinate,
+          eq-eqb (length (coordinate_list s q)) s.axes list_length,
+          first_none (inside_at unit (coordinate_list s q)) s.axes is_coordinate_lem,
           le-leb s.axes s.axes (omega arith),
         )
 
@@ -117,47 +117,47 @@ module _ (s : Shape) (q : ℕ) where
 
 module _ (s : Shape) (rs : List ℤ) (a : Accepted s rs) where
   range : InRange s
-  range = passed-in-range s a.shape
+  range = passed_in_range s a.shape
 
-  adopted-passes : checkState (adopted s) (length (coefficientsOf s rs)) ≡ Passed
-  adopted-passes =
-      state-passes (adopted s) (length (coefficientsOf s rs))
-      (record { range = range; few = ones_lt s.axes; long = coefficients-length s rs })
+  adopted_passes : check_state (adopted s) (length (coefficients_of s rs)) ≡ Passed
+  adopted_passes =
+      state_passes (adopted s) (length (coefficients_of s rs))
+      (record { range = range; few = ones_lt s.axes; long = coefficients_length s rs })
 
-  forward-passes : checkForward (adopted s) ≡ Passed
-  unfolding checkForward
-  forward-passes = axes-pass false StillSampled (adopted s) (all-bits-in s.axes)
+  forward_passes : check_forward (adopted s) ≡ Passed
+  unfolding check_forward
+  forward_passes = axes_pass false StillSampled (adopted s) (all_bits_in s.axes)
 
-  rate-small : (p : ℕ) → nat_abs (valueAt rs p) ≤ 2 ^ 31
-  rate-small zero = rw (value-zero rs) (omega arith)
-  rate-small (suc p) =
-      le-or-lt (pointsOf s) p
-      (λ past. rw (value-past rs (suc p) (omega (arith, a.long))) (omega arith))
-      (λ h. rw (value-suc rs p) (rate-size (get_or rs p (pos 0)) (a.each p h)))
+  rate_small : (p : ℕ) → nat_abs (value_at rs p) ≤ 2 ^ 31
+  rate_small zero = rw (value_zero rs) (omega arith)
+  rate_small (suc p) =
+      le_or_lt (points_of s) p
+      (λ past. rw (value_past rs (suc p) (omega (arith, a.long))) (omega arith))
+      (λ h. rw (value_suc rs p) (rate_size (get_or rs p (pos 0)) (a.each p h)))
 
-  contents-pass : all (contentAt (coefficientsOf s rs)) (length (coefficientsOf s rs)) ≡ true
-  unfolding contentAt valueAt
-  contents-pass =
-      all_from (contentAt (coefficientsOf s rs)) (length (coefficientsOf s rs))
+  contents_pass : all (content_at (coefficients_of s rs)) (length (coefficients_of s rs)) ≡ true
+  unfolding content_at value_at
+  contents_pass =
+      all_from (content_at (coefficients_of s rs)) (length (coefficients_of s rs))
       (λ p h.
-      ap inLimit (coefficient-at s rs p (omega (arith, coefficients-length s rs)))
-      ∙ table-in-limit (neighbour s) everyAxis s.axes (valueAt rs) range.high rate-small (suc p))
+      ap in_limit (coefficient_at s rs p (omega (arith, coefficients_length s rs)))
+      ∙ table_in_limit (neighbour s) every_axis s.axes (value_at rs) range.high rate_small (suc p))
 
   -- The coefficients can be adopted.
-  pub adopted-coefficients : adopt s (coefficientsOf s rs) ≡ Done (adopted s)
-  adopted-coefficients =
-      adopt-done s (coefficientsOf s rs)
-      (table-passes s (coefficientsOf s rs) (record { range = range; long = coefficients-length s rs }))
-      contents-pass
+  pub adopted_coefficients : adopt s (coefficients_of s rs) ≡ Done (adopted s)
+  adopted_coefficients =
+      adopt_done s (coefficients_of s rs)
+      (table_passes s (coefficients_of s rs) (record { range = range; long = coefficients_length s rs }))
+      contents_pass
 
   -- The estimate at a point is the rate there times 2^d.
-  pub estimate-is-rate : (q : ℕ) → q < pointsOf s →
-      estimate (adopted s) (coefficientsOf s rs) (coordinateList s q) ≡ Value (times s.axes (get_or rs q (pos 0)))
+  pub estimate_is_rate : (q : ℕ) → q < points_of s →
+      estimate (adopted s) (coefficients_of s rs) (coordinate_list s q) ≡ Value (times s.axes (get_or rs q (pos 0)))
   unfolding times
-  estimate-is-rate q h =
-      estimated (adopted s) (coefficientsOf s rs) (coordinateList s q) adopted-passes forward-passes (coordinates-pass s q h) contents-pass
+  estimate_is_rate q h =
+      estimated (adopted s) (coefficients_of s rs) (coordinate_list s q) adopted_passes forward_passes (coordinates_pass s q h) contents_pass
       ∙ ap Value
-      (ap (estimateAt s (valueAt (coefficientsOf s rs))) (list-holds s q)
-      ∙ estimate-through s range.low (omega (arith, range)) (valueAt (coefficientsOf s rs)) (valueAt rs) (value-zero rs)
-      (coefficient-at s rs) q h
-      ∙ ap (times s.axes) (value-suc rs q))
+      (ap (estimate_at s (value_at (coefficients_of s rs))) (list_holds s q)
+      ∙ estimate_through s range.low (omega (arith, range)) (value_at (coefficients_of s rs)) (value_at rs) (value_zero rs)
+      (coefficient_at s rs) q h
+      ∙ ap (times s.axes) (value_suc rs q))

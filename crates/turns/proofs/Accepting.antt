@@ -11,85 +11,85 @@ use lib.IntN.{ℤ, nat_abs}
 use lib.ListN.{length}
 use borrow.Author.Tests.{eqb-true}
 use Rattle.naturals.specs.Test.{all}
-use Rattle.naturals.proofs.Cases.{le-or-lt, true-or-false}
-use Rattle.naturals.proofs.Sums.{term-le}
-use Rattle.naturals.proofs.Tests.{and_left, and_right, all-at, all_from}
-use Rattle.integers.specs.Half.{contentAt}
-use Rattle.integers.proofs.Sizes.{limit-size}
-use Rattle.integers.proofs.Steps.{even-odd}
+use Rattle.naturals.proofs.Cases.{le_or_lt, true_or_false}
+use Rattle.naturals.proofs.Sums.{term_le}
+use Rattle.naturals.proofs.Tests.{and_left, and_right, all_at, all_from}
+use Rattle.integers.specs.Half.{content_at}
+use Rattle.integers.proofs.Sizes.{limit_size}
+use Rattle.integers.proofs.Steps.{even_odd}
 use Rattle.numbering.proofs.Succession.{sum_zeros}
-use Rattle.hierarchy.specs.Turns.{valueAt, forward, acceptedAt, accepted}
-use Rattle.hierarchy.proofs.Values.{value-past, values-at}
-use Rattle.shapes.specs.Shapes.{pointsOf}
+use Rattle.hierarchy.specs.Turns.{value_at, forward, accepted_at, accepted}
+use Rattle.hierarchy.proofs.Values.{value_past, values_at}
+use Rattle.shapes.specs.Shapes.{points_of}
 use Rattle.shapes.specs.declared.Shape.{Shape}
 use Rattle.grids.specs.Grids.{neighbour}
-use Rattle.grids.specs.Turned.{turnedTable}
-use Rattle.grids.proofs.Turned.{turned-length}
-use Rattle.lists.specs.Lists.{oddAt, oddSums}
+use Rattle.grids.specs.Turned.{turned_table}
+use Rattle.grids.proofs.Turned.{turned_length}
+use Rattle.lists.specs.Lists.{odd_at, odd_sums}
 use Rattle.lists.specs.Steps.{Within}
-use Rattle.turns.specs.Turns.{isAccepted}
+use Rattle.turns.specs.Turns.{is_accepted}
 
 -- All values of a table are within the content limit.
-abbrev pub inLimits : List ℤ → Bool
-inLimits xs = all (contentAt xs) (length xs)
+abbrev pub in_limits : List ℤ → Bool
+in_limits xs = all (content_at xs) (length xs)
 
-pub contents-within : (xs : List ℤ) → inLimits xs ≡ true → Within (2 ^ 47) xs
-unfolding contentAt valueAt
-contents-within xs e zero = omega arith
-contents-within xs e (suc p) =
-    le-or-lt (length xs) p
-    (λ past. omega (arith, ap nat_abs (value-past xs (suc p) (omega arith))))
-    (λ inside. limit-size (valueAt xs (suc p)) (all-at (contentAt xs) (length xs) e p inside))
+pub contents_within : (xs : List ℤ) → in_limits xs ≡ true → Within (2 ^ 47) xs
+unfolding content_at value_at
+contents_within xs e zero = omega arith
+contents_within xs e (suc p) =
+    le_or_lt (length xs) p
+    (λ past. omega (arith, ap nat_abs (value_past xs (suc p) (omega arith))))
+    (λ inside. limit_size (value_at xs (suc p)) (all_at (content_at xs) (length xs) e p inside))
 
 module _ (s : Shape) (t : ℕ) (xs : List ℤ) where
   -- What an accepted turn tells, and what tells that it is accepted.
   pub record Accepted : Type 0 where
-    pub before : inLimits xs ≡ true
-    pub even : oddSums s t xs (pointsOf s) ≡ 0
-    pub after : inLimits (turnedTable s t xs) ≡ true
+    pub before : in_limits xs ≡ true
+    pub even : odd_sums s t xs (points_of s) ≡ 0
+    pub after : in_limits (turned_table s t xs) ≡ true
 
-  module _ (long : length xs ≡ pointsOf s) where
+  module _ (long : length xs ≡ points_of s) where
     -- The three parts at a point.
-    parts : (p : ℕ) → p < pointsOf s →
-        acceptedAt (neighbour s) t (valueAt xs) p ≡ contentAt xs p && eqb (oddAt s t xs p) 0 && contentAt (turnedTable s t xs) p
-    unfolding acceptedAt oddAt contentAt valueAt turnedTable
-    parts p h = rw (even-odd, values-at (pointsOf s) (forward (neighbour s) t (valueAt xs)) p h)
+    parts : (p : ℕ) → p < points_of s →
+        accepted_at (neighbour s) t (value_at xs) p ≡ content_at xs p && eqb (odd_at s t xs p) 0 && content_at (turned_table s t xs) p
+    unfolding accepted_at odd_at content_at value_at turned_table
+    parts p h = rw (even_odd, values_at (points_of s) (forward (neighbour s) t (value_at xs)) p h)
 
-    accepted-means : isAccepted s t xs ≡ true → Accepted
-    unfolding isAccepted accepted oddSums
-    accepted-means e =
-        let at : (p : ℕ) → p < pointsOf s → contentAt xs p && eqb (oddAt s t xs p) 0 && contentAt (turnedTable s t xs) p ≡ true =
-        λ p h. sym (parts p h) ∙ all-at (acceptedAt (neighbour s) t (valueAt xs)) (pointsOf s) e p h in
+    accepted_means : is_accepted s t xs ≡ true → Accepted
+    unfolding is_accepted accepted odd_sums
+    accepted_means e =
+        let at : (p : ℕ) → p < points_of s → content_at xs p && eqb (odd_at s t xs p) 0 && content_at (turned_table s t xs) p ≡ true =
+        λ p h. sym (parts p h) ∙ all_at (accepted_at (neighbour s) t (value_at xs)) (points_of s) e p h in
         record {
-          before = all_from (contentAt xs) (length xs) (λ p h. and_left _ _ (and_left _ _ (at p (omega arith))));
-          even = sum_zeros (oddAt s t xs) (pointsOf s) (λ p h. eqb-true _ 0 (and_right (contentAt xs p) _ (and_left _ _ (at p h))));
+          before = all_from (content_at xs) (length xs) (λ p h. and_left _ _ (and_left _ _ (at p (omega arith))));
+          even = sum_zeros (odd_at s t xs) (points_of s) (λ p h. eqb-true _ 0 (and_right (content_at xs p) _ (and_left _ _ (at p h))));
           after =
-              all_from (contentAt (turnedTable s t xs)) (length (turnedTable s t xs))
-              (λ p h. and_right (contentAt xs p && eqb (oddAt s t xs p) 0) _ (at p (omega (arith, turned-length s t xs))));
+              all_from (content_at (turned_table s t xs)) (length (turned_table s t xs))
+              (λ p h. and_right (content_at xs p && eqb (odd_at s t xs p) 0) _ (at p (omega (arith, turned_length s t xs))));
         }
 
-    pub accepted-where : Accepted → isAccepted s t xs ≡ true
-    unfolding isAccepted accepted oddSums
-    accepted-where a =
-        all_from (acceptedAt (neighbour s) t (valueAt xs)) (pointsOf s)
+    pub accepted_where : Accepted → is_accepted s t xs ≡ true
+    unfolding is_accepted accepted odd_sums
+    accepted_where a =
+        all_from (accepted_at (neighbour s) t (value_at xs)) (points_of s)
         (λ p h.
-        let even : oddAt s t xs p ≡ 0 = omega (arith, term-le (oddAt s t xs) (pointsOf s) p h, a.even) in
+        let even : odd_at s t xs p ≡ 0 = omega (arith, term_le (odd_at s t xs) (points_of s) p h, a.even) in
         parts p h
         ∙ rw (
-          all-at (contentAt xs) (length xs) a.before p (omega arith),
+          all_at (content_at xs) (length xs) a.before p (omega arith),
           even,
-          all-at (contentAt (turnedTable s t xs)) (length (turnedTable s t xs)) a.after p (omega (arith, turned-length s t xs)),
+          all_at (content_at (turned_table s t xs)) (length (turned_table s t xs)) a.after p (omega (arith, turned_length s t xs)),
         ))
 
     -- One part that fails decides.
-    refused : (Accepted → ⊥) → isAccepted s t xs ≡ false
-    refused none = true-or-false (isAccepted s t xs) (λ yes. absurd (none (accepted-means yes))) (λ no. no)
+    refused : (Accepted → ⊥) → is_accepted s t xs ≡ false
+    refused none = true_or_false (is_accepted s t xs) (λ yes. absurd (none (accepted_means yes))) (λ no. no)
 
-    pub before-refuses : inLimits xs ≡ false → isAccepted s t xs ≡ false
-    before-refuses e = refused (λ a. false≢true (sym e ∙ a.before))
+    pub before_refuses : in_limits xs ≡ false → is_accepted s t xs ≡ false
+    before_refuses e = refused (λ a. false≢true (sym e ∙ a.before))
 
-    pub odd-refuses : (oddSums s t xs (pointsOf s) ≡ 0 → ⊥) → isAccepted s t xs ≡ false
-    odd-refuses some = refused (λ a. some a.even)
+    pub odd_refuses : (odd_sums s t xs (points_of s) ≡ 0 → ⊥) → is_accepted s t xs ≡ false
+    odd_refuses some = refused (λ a. some a.even)
 
-    pub after-refuses : inLimits (turnedTable s t xs) ≡ false → isAccepted s t xs ≡ false
-    after-refuses e = refused (λ a. false≢true (sym e ∙ a.after))
+    pub after_refuses : in_limits (turned_table s t xs) ≡ false → is_accepted s t xs ≡ false
+    after_refuses e = refused (λ a. false≢true (sym e ∙ a.after))

@@ -11,58 +11,58 @@ use native.Mathlib.Omega.{arith}
 use lib.IntN.{ℤ}
 use lib.ListN.{length}
 use borrow.Author.Tests.{not-true}
-use Rattle.naturals.proofs.Cases.{true-or-false}
+use Rattle.naturals.proofs.Cases.{true_or_false}
 use Rattle.refusals.specs.declared.Refusal.TheVariants.{Contents, AlreadyForward, NotForward}
 use Rattle.refusals.specs.declared.Verdict.{Verdict}
 use Rattle.refusals.specs.declared.Verdict.TheVariants as verdict
-use Rattle.refusals.specs.Checks.{unless, ◌andThen◌, answer}
-use Rattle.refusals.proofs.Passing.{first-passed, next-passed, test-passed}
+use Rattle.refusals.specs.Checks.{unless, ◌and_then◌, answer}
+use Rattle.refusals.proofs.Passing.{first_passed, next_passed, test_passed}
 use Rattle.states.specs.declared.State.{State}
 use Rattle.states.specs.States.{has, marked, cleared}
-use Rattle.states.proofs.Bits.{has-marked-same, has-cleared-same, marked-small, cleared-small, bit_le}
+use Rattle.states.proofs.Bits.{has_marked_same, has_cleared_same, marked_small, cleared_small, bit_le}
 use Rattle.states.specs.declared.Answer.TheVariants.{Done, Refused}
 use Rattle.states.specs.After.{After, after, kept}
-use Rattle.grids.specs.Turned.{turnedTable, formerTable}
-use Rattle.grids.proofs.Turned.{turned-length, former-length}
-use Rattle.turns.specs.Turns.{isAccepted, checkTurn, forwardTurn, backTurn}
-use Rattle.turns.proofs.Checking.{MayTurn, place_of, turn-passed, may-turn}
-use Rattle.turns.proofs.Undoing.{turned-of-former, former-of-turned, LeadsTo, only-former, leads-former, none-leads, refused-where-none}
-use Rattle.turns.proofs.Answering.{back_done, back-refused}
+use Rattle.grids.specs.Turned.{turned_table, former_table}
+use Rattle.grids.proofs.Turned.{turned_length, former_length}
+use Rattle.turns.specs.Turns.{is_accepted, check_turn, forward_turn, back_turn}
+use Rattle.turns.proofs.Checking.{MayTurn, place_of, turn_passed, may_turn}
+use Rattle.turns.proofs.Undoing.{turned_of_former, former_of_turned, LeadsTo, only_former, leads_former, none_leads, refused_where_none}
+use Rattle.turns.proofs.Answering.{back_done, back_refused}
 
 -- A call that was done passed its checks, and left what its definition says.
-done-passed : (v : Verdict) (xs ys : List ℤ) (next given : State) (zs : List ℤ) →
+done_passed : (v : Verdict) (xs ys : List ℤ) (next given : State) (zs : List ℤ) →
     answer (kept xs) v (after (Done given) zs) ≡ after (Done next) ys → (v ≡ verdict.Passed) × (given ≡ next) × (zs ≡ ys)
-done-passed verdict.Passed xs ys next given zs e =
-    (refl, done-state given next (ap (λ (a : After). a.answer) e), ap (λ (a : After). a.table) e)
+done_passed verdict.Passed xs ys next given zs e =
+    (refl, done_state given next (ap (λ (a : After). a.answer) e), ap (λ (a : After). a.table) e)
   where
-    done-state : (a b : State) → Done a ≡ Done b → a ≡ b
-    done-state a b f = cc
-done-passed (verdict.Refused r) xs ys next given zs e = absurd (refused-done (ap (λ (a : After). a.answer) e))
+    done_state : (a b : State) → Done a ≡ Done b → a ≡ b
+    done_state a b f = cc
+done_passed (verdict.Refused r) xs ys next given zs e = absurd (refused_done (ap (λ (a : After). a.answer) e))
   where
-    refused-done : Refused r ≡ Done next → ⊥
-    refused-done f = let z : ◌≡◌ {A = ℕ} 0 1 = cc in omega arith
+    refused_done : Refused r ≡ Done next → ⊥
+    refused_done f = let z : ◌≡◌ {A = ℕ} 0 1 = cc in omega arith
 
 -- What a forward turn that was done tells.
 pub record WentForward (s : State) (xs : List ℤ) (axis : ℕ) : Type 0 where
   pub may : MayTurn s (length xs) axis
   pub clear : has s.forward (axis - 1) ≡ false
-  pub accepted : isAccepted s.shape (axis - 1) xs ≡ true
+  pub accepted : is_accepted s.shape (axis - 1) xs ≡ true
 
-pub went-forward : (s next : State) (xs ys : List ℤ) (axis : ℕ) → forwardTurn s xs axis ≡ after (Done next) ys →
-    WentForward s xs axis × (marked s (axis - 1) ≡ next) × (turnedTable s.shape (axis - 1) xs ≡ ys)
-unfolding forwardTurn
-went-forward s next xs ys axis e =
-    let turn = checkTurn s (length xs) axis in
+pub went_forward : (s next : State) (xs ys : List ℤ) (axis : ℕ) → forward_turn s xs axis ≡ after (Done next) ys →
+    WentForward s xs axis × (marked s (axis - 1) ≡ next) × (turned_table s.shape (axis - 1) xs ≡ ys)
+unfolding forward_turn
+went_forward s next xs ys axis e =
+    let turn = check_turn s (length xs) axis in
     let fresh = unless (not (has s.forward (axis - 1))) (AlreadyForward axis) in
-    let good = unless (isAccepted s.shape (axis - 1) xs) Contents in
-    let d = done-passed (turn andThen fresh andThen good) xs ys next (marked s (axis - 1)) (turnedTable s.shape (axis - 1) xs) e in
-    let rest = next-passed turn (fresh andThen good) d.0 in (
+    let good = unless (is_accepted s.shape (axis - 1) xs) Contents in
+    let d = done_passed (turn and_then fresh and_then good) xs ys next (marked s (axis - 1)) (turned_table s.shape (axis - 1) xs) e in
+    let rest = next_passed turn (fresh and_then good) d.0 in (
       record {
-        may = turn-passed s (length xs) axis (first-passed turn (fresh andThen good) d.0);
+        may = turn_passed s (length xs) axis (first_passed turn (fresh and_then good) d.0);
         clear =
             not-true (has s.forward (axis - 1))
-            (test-passed (not (has s.forward (axis - 1))) (AlreadyForward axis) (first-passed fresh good rest));
-        accepted = test-passed (isAccepted s.shape (axis - 1) xs) Contents (next-passed fresh good rest);
+            (test_passed (not (has s.forward (axis - 1))) (AlreadyForward axis) (first_passed fresh good rest));
+        accepted = test_passed (is_accepted s.shape (axis - 1) xs) Contents (next_passed fresh good rest);
       },
       d.1,
       d.2,
@@ -72,97 +72,97 @@ went-forward s next xs ys axis e =
 pub record WentBack (s : State) (xs : List ℤ) (axis : ℕ) : Type 0 where
   pub may : MayTurn s (length xs) axis
   pub marked : has s.forward (axis - 1) ≡ true
-  pub accepted : isAccepted s.shape (axis - 1) (formerTable s.shape (axis - 1) xs) ≡ true
+  pub accepted : is_accepted s.shape (axis - 1) (former_table s.shape (axis - 1) xs) ≡ true
 
-pub went_back : (s next : State) (xs ys : List ℤ) (axis : ℕ) → backTurn s xs axis ≡ after (Done next) ys →
-    WentBack s xs axis × (cleared s (axis - 1) ≡ next) × (formerTable s.shape (axis - 1) xs ≡ ys)
-unfolding backTurn
+pub went_back : (s next : State) (xs ys : List ℤ) (axis : ℕ) → back_turn s xs axis ≡ after (Done next) ys →
+    WentBack s xs axis × (cleared s (axis - 1) ≡ next) × (former_table s.shape (axis - 1) xs ≡ ys)
+unfolding back_turn
 went_back s next xs ys axis e =
-    let turn = checkTurn s (length xs) axis in
+    let turn = check_turn s (length xs) axis in
     let there = unless (has s.forward (axis - 1)) (NotForward axis) in
-    let good = unless (isAccepted s.shape (axis - 1) (formerTable s.shape (axis - 1) xs)) Contents in
-    let d = done-passed (turn andThen there andThen good) xs ys next (cleared s (axis - 1)) (formerTable s.shape (axis - 1) xs) e in
-    let rest = next-passed turn (there andThen good) d.0 in (
+    let good = unless (is_accepted s.shape (axis - 1) (former_table s.shape (axis - 1) xs)) Contents in
+    let d = done_passed (turn and_then there and_then good) xs ys next (cleared s (axis - 1)) (former_table s.shape (axis - 1) xs) e in
+    let rest = next_passed turn (there and_then good) d.0 in (
       record {
-        may = turn-passed s (length xs) axis (first-passed turn (there andThen good) d.0);
-        marked = test-passed (has s.forward (axis - 1)) (NotForward axis) (first-passed there good rest);
+        may = turn_passed s (length xs) axis (first_passed turn (there and_then good) d.0);
+        marked = test_passed (has s.forward (axis - 1)) (NotForward axis) (first_passed there good rest);
         accepted =
-            test-passed (isAccepted s.shape (axis - 1) (formerTable s.shape (axis - 1) xs)) Contents (next-passed there good rest);
+            test_passed (is_accepted s.shape (axis - 1) (former_table s.shape (axis - 1) xs)) Contents (next_passed there good rest);
       },
       d.1,
       d.2,
     )
 
 -- Forward, then back.
-pub forward-then-back : (s next : State) (xs ys : List ℤ) (axis : ℕ) → forwardTurn s xs axis ≡ after (Done next) ys →
-    backTurn next ys axis ≡ after (Done s) xs
-unfolding backTurn
-forward-then-back s next xs ys axis e =
-    let w = went-forward s next xs ys axis e in
+pub forward_then_back : (s next : State) (xs ys : List ℤ) (axis : ℕ) → forward_turn s xs axis ≡ after (Done next) ys →
+    back_turn next ys axis ≡ after (Done s) xs
+unfolding back_turn
+forward_then_back s next xs ys axis e =
+    let w = went_forward s next xs ys axis e in
     let t = axis - 1 in
     let m = w.0.may in
-    let again : formerTable s.shape t (turnedTable s.shape t xs) ≡ xs = former-of-turned s.shape t xs m.long in
+    let again : former_table s.shape t (turned_table s.shape t xs) ≡ xs = former_of_turned s.shape t xs m.long in
     rw (← w.1, ← w.2)
     (rw (
-      may-turn (marked s t) (length (turnedTable s.shape t xs)) axis
+      may_turn (marked s t) (length (turned_table s.shape t xs)) axis
           (record {
             range = m.range;
-            few = marked-small s.forward t s.shape.axes m.few (place_of m) w.0.clear;
-            long = turned-length s.shape t xs;
+            few = marked_small s.forward t s.shape.axes m.few (place_of m) w.0.clear;
+            long = turned_length s.shape t xs;
             first = m.first;
             last = m.last;
           }),
-      has-marked-same s.forward t w.0.clear,
+      has_marked_same s.forward t w.0.clear,
       again,
       w.0.accepted,
       add-sub_cancel s.forward (2 ^ t),
     ))
 
 -- Back, then forward.
-pub back-then-forward : (s next : State) (xs ys : List ℤ) (axis : ℕ) → backTurn s xs axis ≡ after (Done next) ys →
-    forwardTurn next ys axis ≡ after (Done s) xs
-unfolding forwardTurn
-back-then-forward s next xs ys axis e =
+pub back_then_forward : (s next : State) (xs ys : List ℤ) (axis : ℕ) → back_turn s xs axis ≡ after (Done next) ys →
+    forward_turn next ys axis ≡ after (Done s) xs
+unfolding forward_turn
+back_then_forward s next xs ys axis e =
     let w = went_back s next xs ys axis e in
     let t = axis - 1 in
     let m = w.0.may in
     rw (← w.1, ← w.2)
     (rw (
-      may-turn (cleared s t) (length (formerTable s.shape t xs)) axis
+      may_turn (cleared s t) (length (former_table s.shape t xs)) axis
           (record {
             range = m.range;
-            few = cleared-small s.forward t s.shape.axes m.few;
-            long = former-length s.shape t xs;
+            few = cleared_small s.forward t s.shape.axes m.few;
+            long = former_length s.shape t xs;
             first = m.first;
             last = m.last;
           }),
-      has-cleared-same s.forward t w.0.marked,
+      has_cleared_same s.forward t w.0.marked,
       w.0.accepted,
-      turned-of-former s.shape t xs m.long,
+      turned_of_former s.shape t xs m.long,
       sub-add_cancel (bit_le s.forward t w.0.marked),
     ))
 
 -- Refusal 10 on back, as the call answers it: where the checks before it pass, if and only if no table with an accepted forward turn leads to the present one.
-pub refused-none-leads : (s : State) (xs : List ℤ) (axis : ℕ) → checkTurn s (length xs) axis ≡ verdict.Passed → has s.forward (axis - 1) ≡ true →
-    backTurn s xs axis ≡ kept xs Contents → (ys : List ℤ) → LeadsTo s.shape (axis - 1) ys xs → ⊥
-refused-none-leads s xs axis passed there e =
-    none-leads s.shape (axis - 1) xs
-    (true-or-false (isAccepted s.shape (axis - 1) (formerTable s.shape (axis - 1) xs))
-    (λ good. absurd (refused-done (cleared s (axis - 1)) (ap (λ (a : After). a.answer) (sym e ∙ back_done s xs axis passed there good))))
+pub refused_none_leads : (s : State) (xs : List ℤ) (axis : ℕ) → check_turn s (length xs) axis ≡ verdict.Passed → has s.forward (axis - 1) ≡ true →
+    back_turn s xs axis ≡ kept xs Contents → (ys : List ℤ) → LeadsTo s.shape (axis - 1) ys xs → ⊥
+refused_none_leads s xs axis passed there e =
+    none_leads s.shape (axis - 1) xs
+    (true_or_false (is_accepted s.shape (axis - 1) (former_table s.shape (axis - 1) xs))
+    (λ good. absurd (refused_done (cleared s (axis - 1)) (ap (λ (a : After). a.answer) (sym e ∙ back_done s xs axis passed there good))))
     (λ bad. bad))
   where
-    refused-done : (next : State) → Refused Contents ≡ Done next → ⊥
-    refused-done next f = let z : ◌≡◌ {A = ℕ} 0 1 = cc in omega arith
+    refused_done : (next : State) → Refused Contents ≡ Done next → ⊥
+    refused_done next f = let z : ◌≡◌ {A = ℕ} 0 1 = cc in omega arith
 
-pub none-leads-refused : (s : State) (xs : List ℤ) (axis : ℕ) → checkTurn s (length xs) axis ≡ verdict.Passed → has s.forward (axis - 1) ≡ true →
-    ((ys : List ℤ) → LeadsTo s.shape (axis - 1) ys xs → ⊥) → backTurn s xs axis ≡ kept xs Contents
-none-leads-refused s xs axis passed there none =
-    back-refused s xs axis passed there
-    (refused-where-none s.shape (axis - 1) xs (turn-passed s (length xs) axis passed).long none)
+pub none_leads_refused : (s : State) (xs : List ℤ) (axis : ℕ) → check_turn s (length xs) axis ≡ verdict.Passed → has s.forward (axis - 1) ≡ true →
+    ((ys : List ℤ) → LeadsTo s.shape (axis - 1) ys xs → ⊥) → back_turn s xs axis ≡ kept xs Contents
+none_leads_refused s xs axis passed there none =
+    back_refused s xs axis passed there
+    (refused_where_none s.shape (axis - 1) xs (turn_passed s (length xs) axis passed).long none)
 
 -- Where there is such a table, back leaves it, with the axis cleared.
-pub back-gives : (s : State) (xs ys : List ℤ) (axis : ℕ) → checkTurn s (length xs) axis ≡ verdict.Passed → has s.forward (axis - 1) ≡ true →
-    LeadsTo s.shape (axis - 1) ys xs → backTurn s xs axis ≡ after (Done (cleared s (axis - 1))) ys
-back-gives s xs ys axis passed there l =
-    back_done s xs axis passed there (leads-former s.shape (axis - 1) ys xs l)
-    ∙ ap (after (Done (cleared s (axis - 1)))) (sym (only-former s.shape (axis - 1) ys xs l))
+pub back_gives : (s : State) (xs ys : List ℤ) (axis : ℕ) → check_turn s (length xs) axis ≡ verdict.Passed → has s.forward (axis - 1) ≡ true →
+    LeadsTo s.shape (axis - 1) ys xs → back_turn s xs axis ≡ after (Done (cleared s (axis - 1))) ys
+back_gives s xs ys axis passed there l =
+    back_done s xs axis passed there (leads_former s.shape (axis - 1) ys xs l)
+    ∙ ap (after (Done (cleared s (axis - 1)))) (sym (only_former s.shape (axis - 1) ys xs l))

@@ -6,18 +6,18 @@ use Prim.Native.Nat.{ℕ, ◌-◌, ◌^◌, ◌≤◌, ◌<◌}
 use native.Mathlib.Omega.{arith}
 use borrow.Author.Tests.{le-leb}
 use Rattle.refusals.specs.declared.Verdict.TheVariants.{Passed}
-use Rattle.refusals.proofs.Passing.{first-passed, next-passed}
-use Rattle.shapes.specs.Shapes.{checkAxis, pointsOf}
-use Rattle.shapes.proofs.Checked.{InRange, axis-in-range}
+use Rattle.refusals.proofs.Passing.{first_passed, next_passed}
+use Rattle.shapes.specs.Shapes.{check_axis, points_of}
+use Rattle.shapes.proofs.Checked.{InRange, axis_in_range}
 use Rattle.states.specs.declared.State.{State}
-use Rattle.states.specs.States.{checkState}
-use Rattle.states.proofs.Checked.{state-passed, state-passes}
-use Rattle.turns.specs.Turns.{checkTurn}
+use Rattle.states.specs.States.{check_state}
+use Rattle.states.proofs.Checked.{state_passed, state_passes}
+use Rattle.turns.specs.Turns.{check_turn}
 
 pub record MayTurn (s : State) (places axis : ℕ) : Type 0 where
   pub range : InRange s.shape
   pub few : s.forward < 2 ^ s.shape.axes
-  pub long : places ≡ pointsOf s.shape
+  pub long : places ≡ points_of s.shape
   pub first : 1 ≤ axis
   pub last : axis ≤ s.shape.axes
 
@@ -25,11 +25,11 @@ pub record MayTurn (s : State) (places axis : ℕ) : Type 0 where
 pub place_of : {s : State} {places axis : ℕ} → MayTurn s places axis → axis - 1 < s.shape.axes
 place_of m = omega (arith, m.first, m.last)
 
-pub turn-passed : (s : State) (places axis : ℕ) → checkTurn s places axis ≡ Passed → MayTurn s places axis
-unfolding checkTurn
-turn-passed s places axis e =
-    let stands = state-passed s places (first-passed (checkState s places) (checkAxis s.shape axis) e) in
-    let one = axis-in-range s.shape axis (next-passed (checkState s places) (checkAxis s.shape axis) e) in
+pub turn_passed : (s : State) (places axis : ℕ) → check_turn s places axis ≡ Passed → MayTurn s places axis
+unfolding check_turn
+turn_passed s places axis e =
+    let stands = state_passed s places (first_passed (check_state s places) (check_axis s.shape axis) e) in
+    let one = axis_in_range s.shape axis (next_passed (check_state s places) (check_axis s.shape axis) e) in
     record {
       range = stands.range;
       few = stands.few;
@@ -38,11 +38,11 @@ turn-passed s places axis e =
       last = one.1;
     }
 
-pub may-turn : (s : State) (places axis : ℕ) → MayTurn s places axis → checkTurn s places axis ≡ Passed
-unfolding checkTurn checkAxis
-may-turn s places axis m =
+pub may_turn : (s : State) (places axis : ℕ) → MayTurn s places axis → check_turn s places axis ≡ Passed
+unfolding check_turn check_axis
+may_turn s places axis m =
     rw (
-      state-passes s places (record { range = m.range; few = m.few; long = m.long }),
+      state_passes s places (record { range = m.range; few = m.few; long = m.long }),
       le-leb 1 axis m.first,
       le-leb axis s.shape.axes m.last,
     )

@@ -2,8 +2,8 @@
 -- Assumes nothing.
 use Rattle.std.specs.Prelude.{Bool, true, false, List, ℕ, ℤ, if◌then◌else◌}
 use Rattle.shapes.specs.declared.Shape.{Shape}
-use Rattle.grids.specs.Turned.{turnedTable, formerTable}
-use Rattle.turns.specs.Turns.{isAccepted}
+use Rattle.grids.specs.Turned.{turned_table, former_table}
+use Rattle.turns.specs.Turns.{is_accepted}
 
 -- Whether it was carried out, and the table that it left.
 pub record Tried : Type 0 where
@@ -13,9 +13,9 @@ pub record Tried : Type 0 where
 abbrev pub tried : Bool → List ℤ → Tried
 tried done xs = record { done = done; table = xs }
 
-unfoldable pub forwardTried : Shape → ℕ → List ℤ → Tried
-forwardTried s t xs = if isAccepted s t xs then tried true (turnedTable s t xs) else tried false xs
+unfoldable pub forward_tried : Shape → ℕ → List ℤ → Tried
+forward_tried s t xs = if is_accepted s t xs then tried true (turned_table s t xs) else tried false xs
 
-unfoldable pub backTried : Shape → ℕ → List ℤ → Tried
-backTried s t xs =
-    if isAccepted s t (formerTable s t xs) then tried true (formerTable s t xs) else tried false xs
+unfoldable pub back_tried : Shape → ℕ → List ℤ → Tried
+back_tried s t xs =
+    if is_accepted s t (former_table s t xs) then tried true (former_table s t xs) else tried false xs

@@ -3,39 +3,39 @@
 use Rattle.std.specs.Prelude.{Bool, not, List, ℕ, ◌-◌, ℤ, length}
 use Rattle.refusals.specs.declared.Refusal.TheVariants.{Contents, AlreadyForward, NotForward}
 use Rattle.refusals.specs.declared.Verdict.{Verdict}
-use Rattle.refusals.specs.Checks.{unless, ◌andThen◌, answer}
-use Rattle.hierarchy.specs.Turns.{valueAt, accepted}
-use Rattle.shapes.specs.Shapes.{pointsOf, checkAxis}
+use Rattle.refusals.specs.Checks.{unless, ◌and_then◌, answer}
+use Rattle.hierarchy.specs.Turns.{value_at, accepted}
+use Rattle.shapes.specs.Shapes.{points_of, check_axis}
 use Rattle.shapes.specs.declared.Shape.{Shape}
 use Rattle.grids.specs.Grids.{neighbour}
-use Rattle.grids.specs.Turned.{turnedTable, formerTable}
+use Rattle.grids.specs.Turned.{turned_table, former_table}
 use Rattle.states.specs.declared.State.{State}
 use Rattle.states.specs.declared.Answer.TheVariants.{Done}
 use Rattle.states.specs.After.{After, after, kept}
-use Rattle.states.specs.States.{has, marked, cleared, checkState}
+use Rattle.states.specs.States.{has, marked, cleared, check_state}
 
 -- The forward turn on place t is accepted: every sum is even, and all values before and after are within the content limit.
-unfoldable pub isAccepted : Shape → ℕ → List ℤ → Bool
-isAccepted s t xs = accepted (neighbour s) (pointsOf s) t (valueAt xs)
+unfoldable pub is_accepted : Shape → ℕ → List ℤ → Bool
+is_accepted s t xs = accepted (neighbour s) (points_of s) t (value_at xs)
 
 -- A state, a table of that many places and an axis: refused with 1, 2, 14, 3 or 5.
-unfoldable pub checkTurn : State → ℕ → ℕ → Verdict
-checkTurn s places axis = checkState s places andThen checkAxis s.shape axis
+unfoldable pub check_turn : State → ℕ → ℕ → Verdict
+check_turn s places axis = check_state s places and_then check_axis s.shape axis
 
 -- Forward on an axis: then 15 where it is forward already, and 10 where the turn is not accepted.
-unfoldable pub forwardTurn : State → List ℤ → ℕ → After
-forwardTurn s xs axis =
+unfoldable pub forward_turn : State → List ℤ → ℕ → After
+forward_turn s xs axis =
     answer (kept xs)
-    (checkTurn s (length xs) axis
-    andThen unless (not (has s.forward (axis - 1))) (AlreadyForward axis)
-    andThen unless (isAccepted s.shape (axis - 1) xs) Contents)
-    (after (Done (marked s (axis - 1))) (turnedTable s.shape (axis - 1) xs))
+    (check_turn s (length xs) axis
+    and_then unless (not (has s.forward (axis - 1))) (AlreadyForward axis)
+    and_then unless (is_accepted s.shape (axis - 1) xs) Contents)
+    (after (Done (marked s (axis - 1))) (turned_table s.shape (axis - 1) xs))
 
 -- Back on an axis: then 16 where it is not forward, and 10 where no accepted forward turn leads to the table.
-unfoldable pub backTurn : State → List ℤ → ℕ → After
-backTurn s xs axis =
+unfoldable pub back_turn : State → List ℤ → ℕ → After
+back_turn s xs axis =
     answer (kept xs)
-    (checkTurn s (length xs) axis
-    andThen unless (has s.forward (axis - 1)) (NotForward axis)
-    andThen unless (isAccepted s.shape (axis - 1) (formerTable s.shape (axis - 1) xs)) Contents)
-    (after (Done (cleared s (axis - 1))) (formerTable s.shape (axis - 1) xs))
+    (check_turn s (length xs) axis
+    and_then unless (has s.forward (axis - 1)) (NotForward axis)
+    and_then unless (is_accepted s.shape (axis - 1) (former_table s.shape (axis - 1) xs)) Contents)
+    (after (Done (cleared s (axis - 1))) (former_table s.shape (axis - 1) xs))

@@ -13,29 +13,29 @@ use lib.ListN.{length, replicate, set, length-set}
 use lib.Seq.{get_or-set_same, get_or-set_other}
 use mir.Syntax.{w32}
 use mir.Val.{Fits}
-use Rattle.naturals.specs.Sum.{sumTo}
-use Rattle.naturals.proofs.Cases.{eq-or-not}
-use Rattle.naturals.proofs.Sums.{sumTo-suc, term-le}
+use Rattle.naturals.specs.Sum.{sum_to}
+use Rattle.naturals.proofs.Cases.{eq_or_not}
+use Rattle.naturals.proofs.Sums.{sum_to_suc, term_le}
 use Rattle.numbering.specs.Count.{vectors, start}
 use Rattle.numbering.specs.Point.{at}
-use Rattle.numbering.specs.Number.{rank, firstOf}
-use Rattle.numbering.proofs.Numbering.{start-suc}
-use Rattle.numbering.proofs.Subspaces.{first-is}
-use Rattle.numbering.proofs.Succession.{NextLevels, next-sum, next-rank, sum_first, rank-first, rank-last}
-use Rattle.vectors.specs.Steps.{VectorIn, NextVector, vectorsBefore}
+use Rattle.numbering.specs.Number.{rank, first_of}
+use Rattle.numbering.proofs.Numbering.{start_suc}
+use Rattle.numbering.proofs.Subspaces.{first_is}
+use Rattle.numbering.proofs.Succession.{NextLevels, next_sum, next_rank, sum_first, rank_first, rank_last}
+use Rattle.vectors.specs.Steps.{VectorIn, NextVector, vectors_before}
 
 -- The first level vector of the sum v.
 abbrev pub first : ℕ → List ℕ
 first v = v ∷ 0 ∷ 0 ∷ 0 ∷ 0 ∷ 0 ∷ 0 ∷ 0 ∷ []
 
-zeros-at : (k t : ℕ) → at (replicate k 0) t ≡ 0
-zeros-at zero t = refl
-zeros-at (suc k) zero = refl
-zeros-at (suc k) (suc t) = zeros-at k t
+zeros_at : (k t : ℕ) → at (replicate k 0) t ≡ 0
+zeros_at zero t = refl
+zeros_at (suc k) zero = refl
+zeros_at (suc k) (suc t) = zeros_at k t
 
-pub first-zeros : (v t : ℕ) → 0 < t → at (first v) t ≡ 0
-first-zeros v zero h = omega arith
-first-zeros v (suc t) h = zeros-at 7 t
+pub first_zeros : (v t : ℕ) → 0 < t → at (first v) t ≡ 0
+first_zeros v zero h = omega arith
+first_zeros v (suc t) h = zeros_at 7 t
 
 -- ---- the walk
 
@@ -50,92 +50,92 @@ cleared ls k = set (set ls k 0) 0 (at ls k - 1)
 abbrev pub stepped : List ℕ → ℕ → List ℕ
 stepped ls k = set (cleared ls k) (suc k) (at (cleared ls k) (suc k) + 1)
 
-before-is : (d : ℕ) (l : ℕ → ℕ) → vectorsBefore d l ≡ sumTo (vectors d) (sumTo l d) + rank l d
-unfolding vectorsBefore
-before-is d l = refl
+before_is : (d : ℕ) (l : ℕ → ℕ) → vectors_before d l ≡ sum_to (vectors d) (sum_to l d) + rank l d
+unfolding vectors_before
+before_is d l = refl
 
 module _ {d sum : ℕ} {ls : List ℕ} (here : VectorIn d sum ls) where
-  pub here-first : firstOf d (at ls) ≡ start d sum + 2 ^ sum * rank (at ls) d
-  here-first = first-is d (at ls) ∙ ap (λ (s : ℕ). start d s + 2 ^ s * rank (at ls) d) here.total
+  pub here_first : first_of d (at ls) ≡ start d sum + 2 ^ sum * rank (at ls) d
+  here_first = first_is d (at ls) ∙ ap (λ (s : ℕ). start d s + 2 ^ s * rank (at ls) d) here.total
 
-  here-before : vectorsBefore d (at ls) ≡ sumTo (vectors d) sum + rank (at ls) d
-  here-before = before-is d (at ls) ∙ ap (λ (s : ℕ). sumTo (vectors d) s + rank (at ls) d) here.total
+  here_before : vectors_before d (at ls) ≡ sum_to (vectors d) sum + rank (at ls) d
+  here_before = before_is d (at ls) ∙ ap (λ (s : ℕ). sum_to (vectors d) s + rank (at ls) d) here.total
 
 -- ---- the next of the same sum
 
 module _ {d sum : ℕ} {ls : List ℕ} {k : ℕ} (fits : d ≤ 8) (here : VectorIn d sum ls) (bare : Bare d ls k) where
-  cleared-long : length (cleared ls k) ≡ 8
-  cleared-long = simp length-set here.long
+  cleared_long : length (cleared ls k) ≡ 8
+  cleared_long = simp length-set here.long
 
-  cleared-first : at (cleared ls k) 0 ≡ at ls k - 1
-  cleared-first = get_or-set_same (set ls k 0) 0 (at ls k - 1) 0 (simp length-set (omega (arith, here.long)))
+  cleared_first : at (cleared ls k) 0 ≡ at ls k - 1
+  cleared_first = get_or-set_same (set ls k 0) 0 (at ls k - 1) 0 (simp length-set (omega (arith, here.long)))
 
-  cleared-here : 0 < k → at (cleared ls k) k ≡ 0
-  cleared-here pos =
+  cleared_here : 0 < k → at (cleared ls k) k ≡ 0
+  cleared_here pos =
       get_or-set_other (set ls k 0) 0 k (at ls k - 1) 0 (λ e. omega arith)
       ∙ get_or-set_same ls k 0 0 (omega (arith, bare.place, here.long))
 
   -- Whatever is put on axes k and 1, the others keep their levels.
-  others-kept : (a b t : ℕ) → 0 < t → (t ≡ k → ⊥) → at (set (set ls k a) 0 b) t ≡ at ls t
-  others-kept a b t pos ne =
+  others_kept : (a b t : ℕ) → 0 < t → (t ≡ k → ⊥) → at (set (set ls k a) 0 b) t ≡ at ls t
+  others_kept a b t pos ne =
       get_or-set_other (set ls k a) 0 t b 0 (λ e. omega arith) ∙ get_or-set_other ls k t a 0 ne
 
-  cleared-other : (t : ℕ) → 0 < t → (t ≡ k → ⊥) → at (cleared ls k) t ≡ at ls t
-  cleared-other t pos ne = others-kept 0 (at ls k - 1) t pos ne
+  cleared_other : (t : ℕ) → 0 < t → (t ≡ k → ⊥) → at (cleared ls k) t ≡ at ls t
+  cleared_other t pos ne = others_kept 0 (at ls k - 1) t pos ne
 
   -- So the code's sum is small.
-  pub raised-fits : (a b v : ℕ) → v ≤ 8 → suc k < d → sum ≤ 8 → Fits w32 (at (set (set ls k a) 0 b) (suc k) + v)
-  raised-fits a b v small h low =
+  pub raised_fits : (a b v : ℕ) → v ≤ 8 → suc k < d → sum ≤ 8 → Fits w32 (at (set (set ls k a) 0 b) (suc k) + v)
+  raised_fits a b v small h low =
       omega (
         arith,
-        others-kept a b (suc k) (omega arith) (λ e. omega arith),
-        term-le (at ls) d (suc k) h,
+        others_kept a b (suc k) (omega arith) (λ e. omega arith),
+        term_le (at ls) d (suc k) h,
         here.total,
       )
 
-  stepped-other : (t : ℕ) → (t ≡ suc k → ⊥) → at (stepped ls k) t ≡ at (cleared ls k) t
-  stepped-other t ne = get_or-set_other (cleared ls k) (suc k) t (at (cleared ls k) (suc k) + 1) 0 ne
+  stepped_other : (t : ℕ) → (t ≡ suc k → ⊥) → at (stepped ls k) t ≡ at (cleared ls k) t
+  stepped_other t ne = get_or-set_other (cleared ls k) (suc k) t (at (cleared ls k) (suc k) + 1) 0 ne
 
   module _ (h : suc k < d) (pos : 0 < at ls k) where
-    next-levels : NextLevels d k (at ls) (at (stepped ls k))
-    next-levels =
+    next_levels : NextLevels d k (at ls) (at (stepped ls k))
+    next_levels =
         record {
           axis = h;
           zeros = bare.zeros;
-          first = omega (arith, stepped-other 0 (λ e. omega arith), cleared-first);
+          first = omega (arith, stepped_other 0 (λ e. omega arith), cleared_first);
           cleared =
               λ t above lt.
-              stepped-other t (λ e. omega arith)
-              ∙ eq-or-not t k
-              (λ e. rw e (cleared-here (omega arith)))
-              (λ ne. cleared-other t above ne ∙ bare.zeros t (omega arith));
+              stepped_other t (λ e. omega arith)
+              ∙ eq_or_not t k
+              (λ e. rw e (cleared_here (omega arith)))
+              (λ ne. cleared_other t above ne ∙ bare.zeros t (omega arith));
           raised =
               omega (
                 arith,
-                get_or-set_same (cleared ls k) (suc k) (at (cleared ls k) (suc k) + 1) 0 (omega (arith, cleared-long)),
-                cleared-other (suc k) (omega arith) (λ e. omega arith),
+                get_or-set_same (cleared ls k) (suc k) (at (cleared ls k) (suc k) + 1) 0 (omega (arith, cleared_long)),
+                cleared_other (suc k) (omega arith) (λ e. omega arith),
               );
-          kept = λ t above lt. stepped-other t (λ e. omega arith) ∙ cleared-other t (omega arith) (λ e. omega arith);
+          kept = λ t above lt. stepped_other t (λ e. omega arith) ∙ cleared_other t (omega arith) (λ e. omega arith);
         }
 
-    pub next-of-sum : NextVector d sum ls sum (stepped ls k)
-    next-of-sum =
+    pub next_of_sum : NextVector d sum ls sum (stepped ls k)
+    next_of_sum =
         let vector : VectorIn d sum (stepped ls k) = record {
           long = simp length-set here.long;
-          total = next-sum next-levels ∙ here.total;
-          rest = λ t le. stepped-other t (λ e. omega arith) ∙ cleared-other t (omega arith) (λ e. omega arith) ∙ here.rest t le;
+          total = next_sum next_levels ∙ here.total;
+          rest = λ t le. stepped_other t (λ e. omega arith) ∙ cleared_other t (omega arith) (λ e. omega arith) ∙ here.rest t le;
         } in
         record {
           vector = vector;
           first =
               omega (
                 arith,
-                here-first here,
-                here-first vector,
-                ap (λ (r : ℕ). 2 ^ sum * r) (next-rank next-levels),
+                here_first here,
+                here_first vector,
+                ap (λ (r : ℕ). 2 ^ sum * r) (next_rank next_levels),
                 mul-suc (2 ^ sum) (rank (at ls) d),
               );
-          count = omega (arith, here-before here, here-before vector, next-rank next-levels);
+          count = omega (arith, here_before here, here_before vector, next_rank next_levels);
         }
 
 -- ---- the first of the next sum
@@ -145,42 +145,42 @@ module _ {d sum : ℕ} {ls : List ℕ} {k : ℕ} (here : VectorIn d sum ls) (bar
   last : suc (rank (at ls) d) ≡ vectors d sum
   last =
       let all : suc k ≡ d = omega (arith, bare.place) in
-      rw all at (rank-last (at ls) k bare.zeros) ∙ ap (vectors d) here.total
+      rw all at (rank_last (at ls) k bare.zeros) ∙ ap (vectors d) here.total
 
-  first-vector : VectorIn d (sum + 1) (first (sum + 1))
-  first-vector =
+  first_vector : VectorIn d (sum + 1) (first (sum + 1))
+  first_vector =
       record {
         long = refl;
         total =
-            ap (sumTo (at (first (sum + 1)))) (omega (arith, bare.place))
-            ∙ sum_first (at (first (sum + 1))) k (λ t pos h. first-zeros (sum + 1) t pos);
-        rest = λ t h. first-zeros (sum + 1) t (omega (arith, bare.place));
+            ap (sum_to (at (first (sum + 1)))) (omega (arith, bare.place))
+            ∙ sum_first (at (first (sum + 1))) k (λ t pos h. first_zeros (sum + 1) t pos);
+        rest = λ t h. first_zeros (sum + 1) t (omega (arith, bare.place));
       }
 
-  pub first-of-next : NextVector d sum ls (sum + 1) (first (sum + 1))
-  first-of-next =
-      let low : rank (at (first (sum + 1))) d ≡ 0 = rank-first (at (first (sum + 1))) d (λ t pos h. first-zeros (sum + 1) t pos) in
+  pub first_of_next : NextVector d sum ls (sum + 1) (first (sum + 1))
+  first_of_next =
+      let low : rank (at (first (sum + 1))) d ≡ 0 = rank_first (at (first (sum + 1))) d (λ t pos h. first_zeros (sum + 1) t pos) in
       record {
-        vector = first-vector;
+        vector = first_vector;
         first =
             omega (
               arith,
-              here-first here,
-              here-first first-vector,
+              here_first here,
+              here_first first_vector,
               ap (start d) (add-one sum),
               ap (λ (r : ℕ). 2 ^ (sum + 1) * r) low,
               mul-zero (2 ^ (sum + 1)),
-              start-suc d sum,
+              start_suc d sum,
               ap (λ (r : ℕ). 2 ^ sum * r) last,
               mul-suc (2 ^ sum) (rank (at ls) d),
             );
         count =
             omega (
               arith,
-              here-before here,
-              here-before first-vector,
-              ap (sumTo (vectors d)) (add-one sum),
-              sumTo-suc (vectors d) sum,
+              here_before here,
+              here_before first_vector,
+              ap (sum_to (vectors d)) (add-one sum),
+              sum_to_suc (vectors d) sum,
               low,
               last,
             );

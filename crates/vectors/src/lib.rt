@@ -2,11 +2,11 @@
 #![tactic(auto)]
 
 ghost use Rattle.std.specs.Prelude.{◌≡◌, ◌≤◌, ◌<◌};
-ghost use Rattle.naturals.specs.Sum.{sumTo};
+ghost use Rattle.naturals.specs.Sum.{sum_to};
 ghost use Rattle.numbering.specs.declared.Order.TheVariants.{Same};
 ghost use Rattle.numbering.specs.Point.{at};
-ghost use Rattle.numbering.specs.Number.{firstOf};
-ghost use Rattle.numbering.specs.Order.{orderOfLevels};
+ghost use Rattle.numbering.specs.Number.{first_of};
+ghost use Rattle.numbering.specs.Order.{order_of_levels};
 ghost use Rattle.vectors.specs.Steps.{VectorIn, NextVector, PreviousVector};
 
 use numbering::Order;
@@ -20,8 +20,8 @@ pub struct Vector {
 
 // The sum of the first levels.
 pub fn level_sum(axes: usize, levels: &[u32; 8]) -> u32
-    requires { (axes ≤ 8) × (sumTo (at levels.now) axes ≤ 8) }
-    ensures { result ≡ sumTo (at levels.now) axes }
+    requires { (axes ≤ 8) × (sum_to (at levels.now) axes ≤ 8) }
+    ensures { result ≡ sum_to (at levels.now) axes }
 {
     let mut sum: u32 = 0;
     let mut t: usize = 0;
@@ -36,7 +36,7 @@ pub fn level_sum(axes: usize, levels: &[u32; 8]) -> u32
 
 // The sum of eight levels, whatever they are.
 fn total(levels: [u32; 8]) -> u64
-    ensures { result ≡ sumTo (at levels) 8 }
+    ensures { result ≡ sum_to (at levels) 8 }
 {
     let mut sum: u64 = 0;
     let mut t: usize = 0;
@@ -49,7 +49,7 @@ fn total(levels: [u32; 8]) -> u64
 
 // Two level vectors in document 01's order: the smaller level sum first, then the smaller level on the last axis at which they differ.
 pub fn compare_levels(a: [u32; 8], b: [u32; 8]) -> Order
-    ensures { result ≡ orderOfLevels 8 (at a) (at b) Same }
+    ensures { result ≡ order_of_levels 8 (at a) (at b) Same }
 {
     let x = total(a);
     let y = total(b);
@@ -111,7 +111,7 @@ pub fn next_vector(axes: usize, sum: u32, levels: [u32; 8]) -> Vector
 
 // The level vector before another, in place; answers its sum: of the same sum or, before the first of a sum, the last of the sum below.
 pub fn to_previous(axes: usize, sum: u32, levels: &mut [u32; 8]) -> u32
-    requires { (1 ≤ axes) × (axes ≤ 8) × (sum ≤ 8) × VectorIn axes sum levels.old × (0 < firstOf axes (at levels.old)) }
+    requires { (1 ≤ axes) × (axes ≤ 8) × (sum ≤ 8) × VectorIn axes sum levels.old × (0 < first_of axes (at levels.old)) }
     ensures { PreviousVector axes sum levels.old result levels.new }
 {
     let mut k: usize = 1;

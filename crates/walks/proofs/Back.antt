@@ -8,23 +8,23 @@ use native.Mathlib.Omega.{arith}
 use lib.Dec.{leb}
 use lib.ListN.{length, length-reverse}
 use Rattle.std.specs.Prelude.{if◌then◌else◌}
-use Rattle.naturals.specs.Sum.{sumTo}
+use Rattle.naturals.specs.Sum.{sum_to}
 use Rattle.numbering.specs.Count.{vectors}
-use Rattle.walks.specs.Walks.{Levels, walkUp, walkDown, met, NeverFalls, NeverRises}
-use Rattle.walks.proofs.Once.{met-append, met-once-down}
-use Rattle.walks.proofs.Sums.{sums-down}
-use Rattle.walks.proofs.Count.{walk-length-down}
-use Rattle.walks.proofs.Reversed.{up-is-down-reversed}
+use Rattle.walks.specs.Walks.{Levels, walk_up, walk_down, met, NeverFalls, NeverRises}
+use Rattle.walks.proofs.Once.{met_append, met_once_down}
+use Rattle.walks.proofs.Sums.{sums_down}
+use Rattle.walks.proofs.Count.{walk_length_down}
+use Rattle.walks.proofs.Reversed.{up_is_down_reversed}
 
 -- Reversed, a walk meets a level list as often.
-met-reverse : (d : ℕ) (l : Levels) (ms : List Levels) → met d l (reverse ms) ≡ met d l ms
+met_reverse : (d : ℕ) (l : Levels) (ms : List Levels) → met d l (reverse ms) ≡ met d l ms
 unfolding met
-met-reverse d l [] = refl
-met-reverse d l (m ∷ ms) =
-    omega (arith, ap (met d l) (reverse-cons m ms), met-append d l (reverse ms) (m ∷ []), met-reverse d l ms)
+met_reverse d l [] = refl
+met_reverse d l (m ∷ ms) =
+    omega (arith, ap (met d l) (reverse-cons m ms), met_append d l (reverse ms) (m ∷ []), met_reverse d l ms)
 
-pub met-once : (d n : ℕ) (l : Levels) → met d l (walkUp d n) ≡ (if leb (sumTo l d) n then 1 else 0)
-met-once d n l = ap (met d l) (up-is-down-reversed d n) ∙ met-reverse d l (walkDown d n) ∙ met-once-down d n l
+pub met_once : (d n : ℕ) (l : Levels) → met d l (walk_up d n) ≡ (if leb (sum_to l d) n then 1 else 0)
+met_once d n l = ap (met d l) (up_is_down_reversed d n) ∙ met_reverse d l (walk_down d n) ∙ met_once_down d n l
 
 -- A walk that never rises, reversed, never falls: where it goes on from l without rising, and from l back to its start without falling, the way back
 -- from its end is without falling.
@@ -32,12 +32,12 @@ turned : (d : ℕ) (l : Levels) (ls back : List Levels) → NeverRises d (l ∷ 
 turned d l [] back on home = home
 turned d l (m ∷ ms) back on home = turned d m ms (l ∷ back) on.1 (on.0, home)
 
-never-falls : (d : ℕ) (ls : List Levels) → NeverRises d ls → NeverFalls d (reverse ls)
-never-falls d [] on = tt
-never-falls d (l ∷ ls) on = turned d l ls [] on tt
+never_falls : (d : ℕ) (ls : List Levels) → NeverRises d ls → NeverFalls d (reverse ls)
+never_falls d [] on = tt
+never_falls d (l ∷ ls) on = turned d l ls [] on tt
 
-pub sums-up : (d n : ℕ) → NeverFalls d (walkUp d n)
-sums-up d n = rw (up-is-down-reversed d n) (never-falls d (walkDown d n) (sums-down d n))
+pub sums_up : (d n : ℕ) → NeverFalls d (walk_up d n)
+sums_up d n = rw (up_is_down_reversed d n) (never_falls d (walk_down d n) (sums_down d n))
 
-pub walk-length : (d n : ℕ) → length (walkUp d n) ≡ sumTo (vectors d) (suc n)
-walk-length d n = ap length (up-is-down-reversed d n) ∙ length-reverse (walkDown d n) ∙ walk-length-down d n
+pub walk_length : (d n : ℕ) → length (walk_up d n) ≡ sum_to (vectors d) (suc n)
+walk_length d n = ap length (up_is_down_reversed d n) ∙ length-reverse (walk_down d n) ∙ walk_length_down d n

@@ -5,39 +5,39 @@ use mathlib.Core.Path.{◌≡◌, refl, ap}
 use Prim.Native.Nat.{ℕ, zero, suc, ◌+◌}
 use native.Mathlib.Omega.{arith}
 use lib.ListN.{length, length-append}
-use Rattle.naturals.specs.Sum.{sumTo}
-use Rattle.naturals.proofs.Sums.{sumTo-zero, sumTo-suc}
+use Rattle.naturals.specs.Sum.{sum_to}
+use Rattle.naturals.proofs.Sums.{sum_to_zero, sum_to_suc}
 use Rattle.numbering.specs.Binomial.{choose}
 use Rattle.numbering.specs.Count.{vectors}
-use Rattle.numbering.proofs.Vectors.{vectors-zero, pascal}
-use Rattle.walks.specs.Walks.{falling, fallingSums, walkDown}
+use Rattle.numbering.proofs.Vectors.{vectors_zero, pascal}
+use Rattle.walks.specs.Walks.{falling, falling_sums, walk_down}
 
-length-falling : (d s r : ℕ) → length (falling d s r) ≡ r
+length_falling : (d s r : ℕ) → length (falling d s r) ≡ r
 unfolding falling
-length-falling d s zero = refl
-length-falling d s (suc r) = ap suc (length-falling d s r)
+length_falling d s zero = refl
+length_falling d s (suc r) = ap suc (length_falling d s r)
 
-length-fallingSums : (d s : ℕ) → length (fallingSums d s) ≡ sumTo (vectors d) s
-unfolding fallingSums
-length-fallingSums d zero = omega (arith, sumTo-zero (vectors d))
-length-fallingSums d (suc s) =
+length_falling_sums : (d s : ℕ) → length (falling_sums d s) ≡ sum_to (vectors d) s
+unfolding falling_sums
+length_falling_sums d zero = omega (arith, sum_to_zero (vectors d))
+length_falling_sums d (suc s) =
     omega (
       arith,
-      length-append (falling d s (vectors d s)) (fallingSums d s),
-      length-falling d s (vectors d s),
-      length-fallingSums d s,
-      sumTo-suc (vectors d) s,
+      length-append (falling d s (vectors d s)) (falling_sums d s),
+      length_falling d s (vectors d s),
+      length_falling_sums d s,
+      sum_to_suc (vectors d) s,
     )
 
-pub walk-length-down : (d n : ℕ) → length (walkDown d n) ≡ sumTo (vectors d) (suc n)
-unfolding walkDown
-walk-length-down d n = length-fallingSums d (suc n)
+pub walk_length_down : (d n : ℕ) → length (walk_down d n) ≡ sum_to (vectors d) (suc n)
+unfolding walk_down
+walk_length_down d n = length_falling_sums d (suc n)
 
 -- The counts of the sums up to n add up to the count of the sum n for one axis more.
-counts-add-up : (d n : ℕ) → sumTo (vectors d) (suc n) ≡ vectors (suc d) n
-counts-add-up d zero = omega (arith, sumTo-suc (vectors d) 0, sumTo-zero (vectors d), vectors-zero d, vectors-zero (suc d))
-counts-add-up d (suc n) = omega (arith, sumTo-suc (vectors d) (suc n), counts-add-up d n, pascal d n)
+counts_add_up : (d n : ℕ) → sum_to (vectors d) (suc n) ≡ vectors (suc d) n
+counts_add_up d zero = omega (arith, sum_to_suc (vectors d) 0, sum_to_zero (vectors d), vectors_zero d, vectors_zero (suc d))
+counts_add_up d (suc n) = omega (arith, sum_to_suc (vectors d) (suc n), counts_add_up d n, pascal d n)
 
-pub level-lists : (d n : ℕ) → sumTo (vectors d) (suc n) ≡ choose (d + n) n
+pub level_lists : (d n : ℕ) → sum_to (vectors d) (suc n) ≡ choose (d + n) n
 unfolding vectors
-level-lists d n = counts-add-up d n
+level_lists d n = counts_add_up d n

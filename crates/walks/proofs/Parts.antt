@@ -4,46 +4,46 @@ use mathlib.Core.Path.{◌≡◌, refl}
 use mathlib.Core.List.{[], ◌∷◌, ◌++◌}
 use Prim.Native.Nat.{ℕ, suc}
 use Rattle.numbering.specs.Count.{vectors}
-use Rattle.numbering.specs.Inverse.{levelOf}
-use Rattle.walks.specs.Walks.{rising, risingSums, walkUp, falling, fallingSums, walkDown}
+use Rattle.numbering.specs.Inverse.{level_of}
+use Rattle.walks.specs.Walks.{rising, rising_sums, walk_up, falling, falling_sums, walk_down}
 
 module _ (d : ℕ) where
-  pub rising-zero : (s r : ℕ) → rising d s r 0 ≡ []
+  pub rising_zero : (s r : ℕ) → rising d s r 0 ≡ []
   unfolding rising
-  rising-zero s r = refl
+  rising_zero s r = refl
 
-  pub rising-suc : (s r m : ℕ) → rising d s r (suc m) ≡ levelOf d s r ∷ rising d s (suc r) m
+  pub rising_suc : (s r m : ℕ) → rising d s r (suc m) ≡ level_of d s r ∷ rising d s (suc r) m
   unfolding rising
-  rising-suc s r m = refl
+  rising_suc s r m = refl
 
-  pub risingSums-zero : (s : ℕ) → risingSums d s 0 ≡ []
-  unfolding risingSums
-  risingSums-zero s = refl
+  pub rising_sums_zero : (s : ℕ) → rising_sums d s 0 ≡ []
+  unfolding rising_sums
+  rising_sums_zero s = refl
 
-  pub risingSums-suc : (s k : ℕ) → risingSums d s (suc k) ≡ rising d s 0 (vectors d s) ++ risingSums d (suc s) k
-  unfolding risingSums
-  risingSums-suc s k = refl
+  pub rising_sums_suc : (s k : ℕ) → rising_sums d s (suc k) ≡ rising d s 0 (vectors d s) ++ rising_sums d (suc s) k
+  unfolding rising_sums
+  rising_sums_suc s k = refl
 
-  pub walkUp-is : (n : ℕ) → walkUp d n ≡ risingSums d 0 (suc n)
-  unfolding walkUp
-  walkUp-is n = refl
+  pub walk_up_is : (n : ℕ) → walk_up d n ≡ rising_sums d 0 (suc n)
+  unfolding walk_up
+  walk_up_is n = refl
 
-  pub falling-zero : (s : ℕ) → falling d s 0 ≡ []
+  pub falling_zero : (s : ℕ) → falling d s 0 ≡ []
   unfolding falling
-  falling-zero s = refl
+  falling_zero s = refl
 
-  pub falling-suc : (s r : ℕ) → falling d s (suc r) ≡ levelOf d s r ∷ falling d s r
+  pub falling_suc : (s r : ℕ) → falling d s (suc r) ≡ level_of d s r ∷ falling d s r
   unfolding falling
-  falling-suc s r = refl
+  falling_suc s r = refl
 
-  pub fallingSums-zero : fallingSums d 0 ≡ []
-  unfolding fallingSums
-  fallingSums-zero = refl
+  pub falling_sums_zero : falling_sums d 0 ≡ []
+  unfolding falling_sums
+  falling_sums_zero = refl
 
-  pub fallingSums-suc : (s : ℕ) → fallingSums d (suc s) ≡ falling d s (vectors d s) ++ fallingSums d s
-  unfolding fallingSums
-  fallingSums-suc s = refl
+  pub falling_sums_suc : (s : ℕ) → falling_sums d (suc s) ≡ falling d s (vectors d s) ++ falling_sums d s
+  unfolding falling_sums
+  falling_sums_suc s = refl
 
-  pub walkDown-is : (n : ℕ) → walkDown d n ≡ fallingSums d (suc n)
-  unfolding walkDown
-  walkDown-is n = refl
+  pub walk_down_is : (n : ℕ) → walk_down d n ≡ falling_sums d (suc n)
+  unfolding walk_down
+  walk_down_is n = refl

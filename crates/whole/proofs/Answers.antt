@@ -10,8 +10,8 @@ use Rattle.states.specs.declared.Answer.TheVariants.{Done, Refused}
 pub never : {A : Type 0} (r : Refusal) (st : State) → Refused r ≡ Done st → A
 never r st e = let z : ◌≡◌ {A = ℕ} 0 1 = cc in absurd (omega arith)
 
-pub same-refusal : (r w : Refusal) → Refused r ≡ Refused w → r ≡ w
-same-refusal r w e = cc
+pub same_refusal : (r w : Refusal) → Refused r ≡ Refused w → r ≡ w
+same_refusal r w e = cc
 
-pub same-state : (x y : State) → Done x ≡ Done y → x ≡ y
-same-state x y e = cc
+pub same_state : (x y : State) → Done x ≡ Done y → x ≡ y
+same_state x y e = cc

@@ -10,151 +10,151 @@ use native.Mathlib.Omega.{arith}
 use lib.IntN.{ℤ}
 use lib.ListN.{length}
 use Rattle.naturals.specs.Test.{all}
-use Rattle.naturals.proofs.Cases.{true-or-false}
-use Rattle.integers.specs.Half.{contentAt}
-use Rattle.hierarchy.specs.Turns.{valueAt, valuesOf, accepted, backward}
-use Rattle.hierarchy.specs.Sets.{scaled, swept, everyAxis}
-use Rattle.hierarchy.proofs.Values.{value-zero, values-of-value}
+use Rattle.naturals.proofs.Cases.{true_or_false}
+use Rattle.integers.specs.Half.{content_at}
+use Rattle.hierarchy.specs.Turns.{value_at, values_of, accepted, backward}
+use Rattle.hierarchy.specs.Sets.{scaled, swept, every_axis}
+use Rattle.hierarchy.proofs.Values.{value_zero, values_of_value}
 use Rattle.shapes.specs.declared.Shape.{Shape}
-use Rattle.shapes.specs.Shapes.{pointsOf}
+use Rattle.shapes.specs.Shapes.{points_of}
 use Rattle.shapes.proofs.Checked.{InRange}
 use Rattle.grids.specs.Grids.{neighbour, height}
-use Rattle.grids.specs.Turned.{formerTable}
-use Rattle.grids.proofs.Turned.{former-length, former-holds}
-use Rattle.turns.specs.Turns.{isAccepted}
-use Rattle.turns.proofs.Accepting.{before-refuses}
-use Rattle.whole.specs.Whole.{backAll, ratesOf, hasRates}
+use Rattle.grids.specs.Turned.{former_table}
+use Rattle.grids.proofs.Turned.{former_length, former_holds}
+use Rattle.turns.specs.Turns.{is_accepted}
+use Rattle.turns.proofs.Accepting.{before_refuses}
+use Rattle.whole.specs.Whole.{back_all, rates_of, has_rates}
 use Rattle.whole.specs.Steps.{InTable, ascent, Gone, gone, descent}
-use Rattle.whole.proofs.AllAxes.{swept-of-back}
-use Rattle.whole.proofs.FirstAxes.{first-accepted}
-use Rattle.whole.proofs.Inverse.{AreRates, back-of-list, has-rates}
-use Rattle.whole.proofs.Loading.{rates-of-list}
+use Rattle.whole.proofs.AllAxes.{swept_of_back}
+use Rattle.whole.proofs.FirstAxes.{first_accepted}
+use Rattle.whole.proofs.Inverse.{AreRates, back_of_list, has_rates_lem}
+use Rattle.whole.proofs.Loading.{rates_of_list}
 use Rattle.whole.proofs.Climbing.{ascends}
 
 module _ (s : Shape) where
-  back-next : (a : ℕ) (f : ℕ → ℤ) → backAll s (suc a) f ≡ backAll s a (backward (neighbour s) (height s) a f)
-  unfolding backAll
-  back-next a f = refl
+  back_next : (a : ℕ) (f : ℕ → ℤ) → back_all s (suc a) f ≡ back_all s a (backward (neighbour s) (height s) a f)
+  unfolding back_all
+  back_next a f = refl
 
-  descent-none : (xs : List ℤ) → descent 0 s xs ≡ gone 0 xs
+  descent_none : (xs : List ℤ) → descent 0 s xs ≡ gone 0 xs
   unfolding descent
-  descent-none xs = refl
+  descent_none xs = refl
 
   module _ (a : ℕ) (xs : List ℤ) where
-    descent-done : isAccepted s a (formerTable s a xs) ≡ true → descent (suc a) s xs ≡ descent a s (formerTable s a xs)
+    descent_done : is_accepted s a (former_table s a xs) ≡ true → descent (suc a) s xs ≡ descent a s (former_table s a xs)
     unfolding descent
-    descent-done e = rw e
+    descent_done e = rw e
 
-    descent-refused : isAccepted s a (formerTable s a xs) ≡ false → descent (suc a) s xs ≡ gone (suc a) xs
+    descent_refused : is_accepted s a (former_table s a xs) ≡ false → descent (suc a) s xs ≡ gone (suc a) xs
     unfolding descent
-    descent-refused e = rw e
+    descent_refused e = rw e
 
   -- What an accepted back turn leaves is within the limit, as the forward turn from there asks just this.
-  pub former-inside : (a : ℕ) (xs : List ℤ) → InTable s xs → isAccepted s a (formerTable s a xs) ≡ true → InTable s (formerTable s a xs)
-  former-inside a xs i e =
-      let ys = formerTable s a xs in
-      let long = former-length s a xs in
+  pub former_inside : (a : ℕ) (xs : List ℤ) → InTable s xs → is_accepted s a (former_table s a xs) ≡ true → InTable s (former_table s a xs)
+  former_inside a xs i e =
+      let ys = former_table s a xs in
+      let long = former_length s a xs in
       record {
         shape = i.shape;
         long = long;
         contents =
-            true-or-false (all (contentAt ys) (length ys))
+            true_or_false (all (content_at ys) (length ys))
             (λ inside. inside)
-            (λ past. absurd (true≢false (sym e ∙ before-refuses s a ys long past)));
+            (λ past. absurd (true≢false (sym e ∙ before_refuses s a ys long past)));
       }
 
   -- As the code counts: from an axis down.
-  pub down-done : (k : ℕ) (xs : List ℤ) → 0 < k → isAccepted s (k - 1) (formerTable s (k - 1) xs) ≡ true →
-      descent (k - 1) s (formerTable s (k - 1) xs) ≡ descent k s xs
-  down-done zero xs h e = absurd (omega arith)
-  down-done (suc k) xs h e =
+  pub down_done : (k : ℕ) (xs : List ℤ) → 0 < k → is_accepted s (k - 1) (former_table s (k - 1) xs) ≡ true →
+      descent (k - 1) s (former_table s (k - 1) xs) ≡ descent k s xs
+  down_done zero xs h e = absurd (omega arith)
+  down_done (suc k) xs h e =
       let same : suc k - 1 ≡ k = omega arith in
-      rw same (sym (descent-done k xs (rw same at e)))
+      rw same (sym (descent_done k xs (rw same at e)))
 
-  pub down-refused : (k : ℕ) (xs : List ℤ) → 0 < k → isAccepted s (k - 1) (formerTable s (k - 1) xs) ≡ false → gone k xs ≡ descent k s xs
-  down-refused zero xs h e = absurd (omega arith)
-  down-refused (suc k) xs h e =
+  pub down_refused : (k : ℕ) (xs : List ℤ) → 0 < k → is_accepted s (k - 1) (former_table s (k - 1) xs) ≡ false → gone k xs ≡ descent k s xs
+  down_refused zero xs h e = absurd (omega arith)
+  down_refused (suc k) xs h e =
       let same : suc k - 1 ≡ k = omega arith in
-      sym (descent-refused k xs (rw same at e))
+      sym (descent_refused k xs (rw same at e))
 
-  pub down-ends : (k : ℕ) (xs : List ℤ) → k ≤ 0 → gone 0 xs ≡ descent k s xs
-  down-ends k xs h =
+  pub down_ends : (k : ℕ) (xs : List ℤ) → k ≤ 0 → gone 0 xs ≡ descent k s xs
+  down_ends k xs h =
       let none : k ≡ 0 = omega arith in
-      rw none (sym (descent-none xs))
+      rw none (sym (descent_none xs))
 
-module _ (s : Shape) (xs₀ : List ℤ) (len : length xs₀ ≡ pointsOf s) where
+module _ (s : Shape) (xs₀ : List ℤ) (len : length xs₀ ≡ points_of s) where
   -- The first a axes are still forward: with these turned back too, the table is the one at the start turned back on all.
   pub record Going (a : ℕ) (xs : List ℤ) : Type 0 where
-    pub long : length xs ≡ pointsOf s
-    pub rest : backAll s a (valueAt xs) ≡ backAll s s.axes (valueAt xs₀)
+    pub long : length xs ≡ points_of s
+    pub rest : back_all s a (value_at xs) ≡ back_all s s.axes (value_at xs₀)
 
   pub starts : Going s.axes xs₀
   starts = record { long = len; rest = refl }
 
   -- One axis fewer.
-  one-down : (a : ℕ) (xs : List ℤ) → Going (suc a) xs → Going a (formerTable s a xs)
-  one-down a xs g =
+  one_down : (a : ℕ) (xs : List ℤ) → Going (suc a) xs → Going a (former_table s a xs)
+  one_down a xs g =
       record {
-        long = former-length s a xs;
-        rest = ap (backAll s a) (former-holds s a xs g.long) ∙ sym (back-next s a (valueAt xs)) ∙ g.rest;
+        long = former_length s a xs;
+        rest = ap (back_all s a) (former_holds s a xs g.long) ∙ sym (back_next s a (value_at xs)) ∙ g.rest;
       }
 
   -- So it is that table swept on the first a axes.
-  still-swept : (a : ℕ) (xs : List ℤ) → Going a xs → valueAt xs ≡ swept (neighbour s) everyAxis a (backAll s s.axes (valueAt xs₀))
-  still-swept a xs g =
-      sym (swept-of-back s a (valueAt xs) (value-zero xs)) ∙ ap (swept (neighbour s) everyAxis a) g.rest
+  still_swept : (a : ℕ) (xs : List ℤ) → Going a xs → value_at xs ≡ swept (neighbour s) every_axis a (back_all s s.axes (value_at xs₀))
+  still_swept a xs g =
+      sym (swept_of_back s a (value_at xs) (value_zero xs)) ∙ ap (swept (neighbour s) every_axis a) g.rest
 
   -- The forward turns of the other axes lead back to the table at the start.
   pub undone : (a : ℕ) (xs : List ℤ) → a ≤ s.axes → Going a xs → ascent (s.axes - a) a s xs ≡ xs₀
   undone a xs h g =
       let all : a + (s.axes - a) ≡ s.axes = omega arith in
-      let back = backAll s s.axes (valueAt xs₀) in
-      ascends s (s.axes - a) a back xs g.long (still-swept a xs g)
-      ∙ ap (λ (n : ℕ). valuesOf (pointsOf s) (swept (neighbour s) everyAxis n back)) all
-      ∙ ap (valuesOf (pointsOf s)) (swept-of-back s s.axes (valueAt xs₀) (value-zero xs₀))
-      ∙ values-of-value (pointsOf s) xs₀ len
+      let back = back_all s s.axes (value_at xs₀) in
+      ascends s (s.axes - a) a back xs g.long (still_swept a xs g)
+      ∙ ap (λ (n : ℕ). values_of (points_of s) (swept (neighbour s) every_axis n back)) all
+      ∙ ap (values_of (points_of s)) (swept_of_back s s.axes (value_at xs₀) (value_zero xs₀))
+      ∙ values_of_value (points_of s) xs₀ len
 
   module _ (range : InRange s) where
     -- Where the table has rates, they are accepted, and what is left is theirs.
-    pub rates-there : hasRates s xs₀ ≡ true → AreRates s (ratesOf s xs₀)
-    rates-there e = (has-rates s xs₀ len e).0
+    pub rates_there : has_rates s xs₀ ≡ true → AreRates s (rates_of s xs₀)
+    rates_there e = (has_rates_lem s xs₀ len e).0
 
-    pub still-theirs : hasRates s xs₀ ≡ true → (a : ℕ) (xs : List ℤ) → Going a xs →
-        valueAt xs ≡ swept (neighbour s) everyAxis a (scaled s.axes (valueAt (ratesOf s xs₀)))
-    still-theirs e a xs g =
-        let rates = has-rates s xs₀ len e in
-        still-swept a xs g
-        ∙ ap (λ (l : List ℤ). swept (neighbour s) everyAxis a (backAll s s.axes (valueAt l))) (sym rates.1)
-        ∙ ap (swept (neighbour s) everyAxis a) (back-of-list s (ratesOf s xs₀) rates.0.long)
+    pub still_theirs : has_rates s xs₀ ≡ true → (a : ℕ) (xs : List ℤ) → Going a xs →
+        value_at xs ≡ swept (neighbour s) every_axis a (scaled s.axes (value_at (rates_of s xs₀)))
+    still_theirs e a xs g =
+        let rates = has_rates_lem s xs₀ len e in
+        still_swept a xs g
+        ∙ ap (λ (l : List ℤ). swept (neighbour s) every_axis a (back_all s s.axes (value_at l))) (sym rates.1)
+        ∙ ap (swept (neighbour s) every_axis a) (back_of_list s (rates_of s xs₀) rates.0.long)
 
     -- So the back turn is accepted.
-    goes-down : hasRates s xs₀ ≡ true → (a : ℕ) (xs : List ℤ) → a < s.axes → Going (suc a) xs → isAccepted s a (formerTable s a xs) ≡ true
-    unfolding isAccepted
-    goes-down e a xs h g =
-        let rates = rates-of-list s (ratesOf s xs₀) (rates-there e) in
-        ap (accepted (neighbour s) (pointsOf s) a) (still-theirs e a (formerTable s a xs) (one-down a xs g))
-        ∙ first-accepted s a (valueAt (ratesOf s xs₀)) h range.high rates.small
+    goes_down : has_rates s xs₀ ≡ true → (a : ℕ) (xs : List ℤ) → a < s.axes → Going (suc a) xs → is_accepted s a (former_table s a xs) ≡ true
+    unfolding is_accepted
+    goes_down e a xs h g =
+        let rates = rates_of_list s (rates_of s xs₀) (rates_there e) in
+        ap (accepted (neighbour s) (points_of s) a) (still_theirs e a (former_table s a xs) (one_down a xs g))
+        ∙ first_accepted s a (value_at (rates_of s xs₀)) h range.high rates.small
 
-    stopped : (a : ℕ) (xs : List ℤ) → a < s.axes → Going (suc a) xs → isAccepted s a (formerTable s a xs) ≡ false → hasRates s xs₀ ≡ false
+    stopped : (a : ℕ) (xs : List ℤ) → a < s.axes → Going (suc a) xs → is_accepted s a (former_table s a xs) ≡ false → has_rates s xs₀ ≡ false
     stopped a xs h g e =
-        true-or-false (hasRates s xs₀) (λ yes. absurd (true≢false (sym (goes-down yes a xs h g) ∙ e))) (λ none. none)
+        true_or_false (has_rates s xs₀) (λ yes. absurd (true≢false (sym (goes_down yes a xs h g) ∙ e))) (λ none. none)
 
     -- Where the back turns end.
     pub record Ended (g : Gone) : Type 0 where
       pub few : g.forward ≤ s.axes
       pub going : Going g.forward g.table
       pub inside : InTable s g.table
-      pub stops : 0 < g.forward → hasRates s xs₀ ≡ false
+      pub stops : 0 < g.forward → has_rates s xs₀ ≡ false
 
     pub descends : (a : ℕ) (xs : List ℤ) → a ≤ s.axes → Going a xs → InTable s xs → Ended (descent a s xs)
     descends zero xs h g i =
-        rw (descent-none s xs)
+        rw (descent_none s xs)
         record { few = h; going = g; inside = i; stops = λ more. absurd (omega arith) }
     descends (suc a) xs h g i =
-        true-or-false (isAccepted s a (formerTable s a xs))
+        true_or_false (is_accepted s a (former_table s a xs))
         (λ yes.
-        rw (descent-done s a xs yes)
-        (descends a (formerTable s a xs) (omega arith) (one-down a xs g) (former-inside s a xs i yes)))
+        rw (descent_done s a xs yes)
+        (descends a (former_table s a xs) (omega arith) (one_down a xs g) (former_inside s a xs i yes)))
         (λ e.
-        rw (descent-refused s a xs e)
+        rw (descent_refused s a xs e)
         record { few = h; going = g; inside = i; stops = λ more. stopped a xs h g e })

@@ -11,160 +11,160 @@ use lib.ListN.{length}
 use lib.Pow.{pow_pos}
 use borrow.Author.Tests.{eqb-true, eq-eqb}
 use Rattle.naturals.specs.Test.{all}
-use Rattle.naturals.proofs.Cases.{le-or-lt, true-or-false}
-use Rattle.naturals.proofs.Tests.{and_left, and_right, all-at, all_from}
+use Rattle.naturals.proofs.Cases.{le_or_lt, true_or_false}
+use Rattle.naturals.proofs.Tests.{and_left, and_right, all_at, all_from}
 use Rattle.refusals.specs.declared.Refusal.TheVariants.{Contents, StillForward}
 use Rattle.refusals.specs.declared.Verdict.TheVariants.{Passed}
 use Rattle.refusals.specs.Checks.{unless}
-use Rattle.integers.specs.Half.{isRate}
-use Rattle.hierarchy.specs.Turns.{valueAt, valuesOf}
-use Rattle.hierarchy.specs.Sets.{scaled, swept, tableOf, everyAxis}
-use Rattle.hierarchy.proofs.Values.{value-zero, value-suc, value-past, values-of-value}
+use Rattle.integers.specs.Half.{is_rate}
+use Rattle.hierarchy.specs.Turns.{value_at, values_of}
+use Rattle.hierarchy.specs.Sets.{scaled, swept, table_of, every_axis}
+use Rattle.hierarchy.proofs.Values.{value_zero, value_suc, value_past, values_of_value}
 use Rattle.shapes.specs.declared.Shape.{Shape}
-use Rattle.shapes.specs.Shapes.{pointsOf}
+use Rattle.shapes.specs.Shapes.{points_of}
 use Rattle.shapes.proofs.Checked.{InRange}
 use Rattle.grids.specs.Grids.{neighbour}
-use Rattle.states.specs.After.{leftBy}
+use Rattle.states.specs.After.{left_by}
 use Rattle.states.proofs.Bits.{no_bits}
-use Rattle.states.proofs.Checked.{state-passes, axes-pass}
-use Rattle.tables.specs.Tables.{rateAt, times, quotient, isScaled, scaledAt, checkSampled, unload}
-use Rattle.tables.proofs.Quotients.{quotient-times, times-quotient, times-divisible}
-use Rattle.runs.proofs.Calls.{stateOf}
-use Rattle.whole.specs.Whole.{coefficientsOf, backAll, ratesOf, hasRates}
-use Rattle.whole.proofs.AllAxes.{back-zero, back-past, swept-of-back}
-use Rattle.whole.proofs.Inverse.{AreRates, coefficients-have-rates, rates-length, rates-at}
-use Rattle.whole.proofs.Loading.{times_zero, rate-at}
-use Rattle.whole.proofs.Descending.{Going, rates-there, still-theirs}
+use Rattle.states.proofs.Checked.{state_passes, axes_pass}
+use Rattle.tables.specs.Tables.{rate_at, times, quotient, is_scaled, scaled_at, check_sampled, unload}
+use Rattle.tables.proofs.Quotients.{quotient_times, times_quotient, times_divisible}
+use Rattle.runs.proofs.Calls.{state_of}
+use Rattle.whole.specs.Whole.{coefficients_of, back_all, rates_of, has_rates}
+use Rattle.whole.proofs.AllAxes.{back_zero, back_past, swept_of_back}
+use Rattle.whole.proofs.Inverse.{AreRates, coefficients_have_rates, rates_length, rates_at}
+use Rattle.whole.proofs.Loading.{times_zero, rate_at_lem}
+use Rattle.whole.proofs.Descending.{Going, rates_there, still_theirs}
 
-rate-means : (xs : List ℤ) (p : ℕ) → rateAt xs p ≡ isRate (valueAt xs (suc p))
-unfolding rateAt
-rate-means xs p = refl
+rate_means : (xs : List ℤ) (p : ℕ) → rate_at xs p ≡ is_rate (value_at xs (suc p))
+unfolding rate_at
+rate_means xs p = refl
 
-scaled-means : (d : ℕ) (xs : List ℤ) (p : ℕ) → scaledAt d xs p ≡ isScaled d (valueAt xs (suc p))
-unfolding scaledAt
-scaled-means d xs p = refl
+scaled_means : (d : ℕ) (xs : List ℤ) (p : ℕ) → scaled_at d xs p ≡ is_scaled d (value_at xs (suc p))
+unfolding scaled_at
+scaled_means d xs p = refl
 
-scaled-is : (d : ℕ) (r : ℕ → ℤ) (p : ℕ) → scaled d r p ≡ times d (r p)
+scaled_is : (d : ℕ) (r : ℕ → ℤ) (p : ℕ) → scaled d r p ≡ times d (r p)
 unfolding scaled times
-scaled-is d r p = refl
+scaled_is d r p = refl
 
 -- A rate times 2^d is one.
-times-scaled : (d : ℕ) (z : ℤ) → isRate z ≡ true → isScaled d (times d z) ≡ true
-unfolding isScaled
-times-scaled d z rate = rw (eq-eqb (nat_abs (times d z) % 2 ^ d) 0 (times-divisible d z), quotient-times d z, rate)
+times_scaled : (d : ℕ) (z : ℤ) → is_rate z ≡ true → is_scaled d (times d z) ≡ true
+unfolding is_scaled
+times_scaled d z rate = rw (eq-eqb (nat_abs (times d z) % 2 ^ d) 0 (times_divisible d z), quotient_times d z, rate)
 
-module _ (s : Shape) (range : InRange s) (xs₀ : List ℤ) (len : length xs₀ ≡ pointsOf s) where
-  coefficients-are : (rs : List ℤ) → coefficientsOf s rs ≡ valuesOf (pointsOf s) (swept (neighbour s) everyAxis s.axes (scaled s.axes (valueAt rs)))
-  unfolding coefficientsOf tableOf
-  coefficients-are rs = refl
+module _ (s : Shape) (range : InRange s) (xs₀ : List ℤ) (len : length xs₀ ≡ points_of s) where
+  coefficients_are : (rs : List ℤ) → coefficients_of s rs ≡ values_of (points_of s) (swept (neighbour s) every_axis s.axes (scaled s.axes (value_at rs)))
+  unfolding coefficients_of table_of
+  coefficients_are rs = refl
 
   -- Once every axis is back, the values decide.
   module _ (xs : List ℤ) (g : Going s xs₀ len 0 xs) where
-    held : valueAt xs ≡ backAll s s.axes (valueAt xs₀)
-    unfolding backAll
+    held : value_at xs ≡ back_all s s.axes (value_at xs₀)
+    unfolding back_all
     held = g.rest
 
-    none-forward : checkSampled (stateOf s 0) ≡ Passed
-    unfolding checkSampled
-    none-forward = axes-pass true StillForward (stateOf s 0) (λ t h. no_bits t)
+    none_forward : check_sampled (state_of s 0) ≡ Passed
+    unfolding check_sampled
+    none_forward = axes_pass true StillForward (state_of s 0) (λ t h. no_bits t)
 
-    pub unload-is : unload (stateOf s 0) xs ≡ leftBy xs (unless (all (scaledAt s.axes xs) (length xs)) Contents) (map (quotient s.axes) xs)
+    pub unload_is : unload (state_of s 0) xs ≡ left_by xs (unless (all (scaled_at s.axes xs) (length xs)) Contents) (map (quotient s.axes) xs)
     unfolding unload
-    unload-is =
+    unload_is =
         rw (
-          state-passes (stateOf s 0) (length xs) (record { range = range; few = pow_pos s.axes; long = g.long }),
-          none-forward,
+          state_passes (state_of s 0) (length xs) (record { range = range; few = pow_pos s.axes; long = g.long }),
+          none_forward,
         )
 
     -- Divided, they are the rates of the table.
-    pub divided : map (quotient s.axes) xs ≡ ratesOf s xs₀
-    unfolding ratesOf
+    pub divided : map (quotient s.axes) xs ≡ rates_of s xs₀
+    unfolding rates_of
     divided =
         ap (map (quotient s.axes))
-        (sym (values-of-value (pointsOf s) xs g.long) ∙ ap (valuesOf (pointsOf s)) held)
+        (sym (values_of_value (points_of s) xs g.long) ∙ ap (values_of (points_of s)) held)
 
-    value-scaled : all (scaledAt s.axes xs) (length xs) ≡ true → (p : ℕ) → p < pointsOf s → isScaled s.axes (valueAt xs (suc p)) ≡ true
-    unfolding scaledAt
-    value-scaled e p h = all-at (scaledAt s.axes xs) (length xs) e p (omega (arith, g.long))
+    value_scaled : all (scaled_at s.axes xs) (length xs) ≡ true → (p : ℕ) → p < points_of s → is_scaled s.axes (value_at xs (suc p)) ≡ true
+    unfolding scaled_at
+    value_scaled e p h = all_at (scaled_at s.axes xs) (length xs) e p (omega (arith, g.long))
 
-    value-divides : (z : ℤ) → isScaled s.axes z ≡ true → (nat_abs z % 2 ^ s.axes ≡ 0) × (isRate (quotient s.axes z) ≡ true)
-    unfolding isScaled
-    value-divides z e = (
-      eqb-true (nat_abs z % 2 ^ s.axes) 0 (and_left (eqb (nat_abs z % 2 ^ s.axes) 0) (isRate (quotient s.axes z)) e),
-      and_right (eqb (nat_abs z % 2 ^ s.axes) 0) (isRate (quotient s.axes z)) e,
+    value_divides : (z : ℤ) → is_scaled s.axes z ≡ true → (nat_abs z % 2 ^ s.axes ≡ 0) × (is_rate (quotient s.axes z) ≡ true)
+    unfolding is_scaled
+    value_divides z e = (
+      eqb-true (nat_abs z % 2 ^ s.axes) 0 (and_left (eqb (nat_abs z % 2 ^ s.axes) 0) (is_rate (quotient s.axes z)) e),
+      and_right (eqb (nat_abs z % 2 ^ s.axes) 0) (is_rate (quotient s.axes z)) e,
     )
 
-    rate-there : (p : ℕ) → p < pointsOf s → valueAt (ratesOf s xs₀) (suc p) ≡ quotient s.axes (valueAt xs (suc p))
-    rate-there p h =
-        value-suc (ratesOf s xs₀) p
-        ∙ rates-at s xs₀ p h
+    rate_there : (p : ℕ) → p < points_of s → value_at (rates_of s xs₀) (suc p) ≡ quotient s.axes (value_at xs (suc p))
+    rate_there p h =
+        value_suc (rates_of s xs₀) p
+        ∙ rates_at s xs₀ p h
         ∙ ap (λ (f : ℕ → ℤ). quotient s.axes (f (suc p))) (sym held)
 
-    module _ (e : all (scaledAt s.axes xs) (length xs) ≡ true) where
-      are-rates : AreRates s (ratesOf s xs₀)
-      are-rates =
+    module _ (e : all (scaled_at s.axes xs) (length xs) ≡ true) where
+      are_rates : AreRates s (rates_of s xs₀)
+      are_rates =
           record {
-            long = rates-length s xs₀;
+            long = rates_length s xs₀;
             each =
-                all_from (rateAt (ratesOf s xs₀)) (pointsOf s)
-                (λ p h. is-rate p h);
+                all_from (rate_at (rates_of s xs₀)) (points_of s)
+                (λ p h. is_rate_lem p h);
           }
         where
-          is-rate : (p : ℕ) → p < pointsOf s → rateAt (ratesOf s xs₀) p ≡ true
-          is-rate p h =
-              rate-means (ratesOf s xs₀) p
-              ∙ ap isRate (rate-there p h)
-              ∙ (value-divides (valueAt xs (suc p)) (value-scaled e p h)).1
+          is_rate_lem : (p : ℕ) → p < points_of s → rate_at (rates_of s xs₀) p ≡ true
+          is_rate_lem p h =
+              rate_means (rates_of s xs₀) p
+              ∙ ap is_rate (rate_there p h)
+              ∙ (value_divides (value_at xs (suc p)) (value_scaled e p h)).1
 
-      scaled-back : (p : ℕ) → scaled s.axes (valueAt (ratesOf s xs₀)) p ≡ backAll s s.axes (valueAt xs₀) p
-      scaled-back zero =
-          scaled-is s.axes (valueAt (ratesOf s xs₀)) 0
-          ∙ ap (times s.axes) (value-zero (ratesOf s xs₀))
+      scaled_back : (p : ℕ) → scaled s.axes (value_at (rates_of s xs₀)) p ≡ back_all s s.axes (value_at xs₀) p
+      scaled_back zero =
+          scaled_is s.axes (value_at (rates_of s xs₀)) 0
+          ∙ ap (times s.axes) (value_zero (rates_of s xs₀))
           ∙ times_zero s.axes
-          ∙ sym (back-zero s s.axes (valueAt xs₀) (value-zero xs₀))
-      scaled-back (suc p) =
-          scaled-is s.axes (valueAt (ratesOf s xs₀)) (suc p)
-          ∙ le-or-lt (pointsOf s) p
+          ∙ sym (back_zero s s.axes (value_at xs₀) (value_zero xs₀))
+      scaled_back (suc p) =
+          scaled_is s.axes (value_at (rates_of s xs₀)) (suc p)
+          ∙ le_or_lt (points_of s) p
           (λ past.
-          ap (times s.axes) (value-past (ratesOf s xs₀) (suc p) (omega (arith, rates-length s xs₀)))
+          ap (times s.axes) (value_past (rates_of s xs₀) (suc p) (omega (arith, rates_length s xs₀)))
           ∙ times_zero s.axes
           ∙ sym
-          (back-past s s.axes (valueAt xs₀) (value-zero xs₀) (suc p) (omega arith)
-          ∙ value-past xs₀ (suc p) (omega arith)))
+          (back_past s s.axes (value_at xs₀) (value_zero xs₀) (suc p) (omega arith)
+          ∙ value_past xs₀ (suc p) (omega arith)))
           (λ h.
-          ap (times s.axes) (rate-there p h)
-          ∙ times-quotient s.axes (valueAt xs (suc p)) (value-divides (valueAt xs (suc p)) (value-scaled e p h)).0
+          ap (times s.axes) (rate_there p h)
+          ∙ times_quotient s.axes (value_at xs (suc p)) (value_divides (value_at xs (suc p)) (value_scaled e p h)).0
           ∙ ap (λ (f : ℕ → ℤ). f (suc p)) held)
 
       -- Unloaded, the table has rates.
-      pub unloaded : hasRates s xs₀ ≡ true
+      pub unloaded : has_rates s xs₀ ≡ true
       unloaded =
-          coefficients-have-rates s (ratesOf s xs₀) xs₀ are-rates
-          (coefficients-are (ratesOf s xs₀)
-          ∙ ap (valuesOf (pointsOf s))
-          (ap (swept (neighbour s) everyAxis s.axes) (fun_ext scaled-back)
-          ∙ swept-of-back s s.axes (valueAt xs₀) (value-zero xs₀))
-          ∙ values-of-value (pointsOf s) xs₀ len)
+          coefficients_have_rates s (rates_of s xs₀) xs₀ are_rates
+          (coefficients_are (rates_of s xs₀)
+          ∙ ap (values_of (points_of s))
+          (ap (swept (neighbour s) every_axis s.axes) (fun_ext scaled_back)
+          ∙ swept_of_back s s.axes (value_at xs₀) (value_zero xs₀))
+          ∙ values_of_value (points_of s) xs₀ len)
 
     -- Where the table has rates, the values are these times 2^d, and unloading succeeds.
-    is-times : hasRates s xs₀ ≡ true → (p : ℕ) → valueAt xs (suc p) ≡ times s.axes (valueAt (ratesOf s xs₀) (suc p))
+    is_times : has_rates s xs₀ ≡ true → (p : ℕ) → value_at xs (suc p) ≡ times s.axes (value_at (rates_of s xs₀) (suc p))
     unfolding swept
-    is-times has-them p =
-        ap (λ (f : ℕ → ℤ). f (suc p)) (still-theirs s xs₀ len range has-them 0 xs g)
-        ∙ scaled-is s.axes (valueAt (ratesOf s xs₀)) (suc p)
+    is_times has_them p =
+        ap (λ (f : ℕ → ℤ). f (suc p)) (still_theirs s xs₀ len range has_them 0 xs g)
+        ∙ scaled_is s.axes (value_at (rates_of s xs₀)) (suc p)
 
-    pub unloads : hasRates s xs₀ ≡ true → all (scaledAt s.axes xs) (length xs) ≡ true
-    unloads has-them =
-        all_from (scaledAt s.axes xs) (length xs)
-        (λ p h. is-scaled p (omega (arith, g.long)))
+    pub unloads : has_rates s xs₀ ≡ true → all (scaled_at s.axes xs) (length xs) ≡ true
+    unloads has_them =
+        all_from (scaled_at s.axes xs) (length xs)
+        (λ p h. is_scaled_lem p (omega (arith, g.long)))
       where
-        is-scaled : (p : ℕ) → p < pointsOf s → scaledAt s.axes xs p ≡ true
-        is-scaled p h =
-            scaled-means s.axes xs p
-            ∙ ap (isScaled s.axes) (is-times has-them p)
-            ∙ times-scaled s.axes (valueAt (ratesOf s xs₀) (suc p))
-            (rate-at (ratesOf s xs₀) (pointsOf s) (rates-there s xs₀ len range has-them).each p h)
+        is_scaled_lem : (p : ℕ) → p < points_of s → scaled_at s.axes xs p ≡ true
+        is_scaled_lem p h =
+            scaled_means s.axes xs p
+            ∙ ap (is_scaled s.axes) (is_times has_them p)
+            ∙ times_scaled s.axes (value_at (rates_of s xs₀) (suc p))
+            (rate_at_lem (rates_of s xs₀) (points_of s) (rates_there s xs₀ len range has_them).each p h)
 
     -- Not unloaded, it has none.
-    pub not-unloaded : all (scaledAt s.axes xs) (length xs) ≡ false → hasRates s xs₀ ≡ false
-    not-unloaded e = true-or-false (hasRates s xs₀) (λ has-them. absurd (true≢false (sym (unloads has-them) ∙ e))) (λ none. none)
+    pub not_unloaded : all (scaled_at s.axes xs) (length xs) ≡ false → has_rates s xs₀ ≡ false
+    not_unloaded e = true_or_false (has_rates s xs₀) (λ has_them. absurd (true≢false (sym (unloads has_them) ∙ e))) (λ none. none)

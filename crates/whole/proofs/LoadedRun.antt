@@ -11,90 +11,90 @@ use lib.ListN.{length}
 use borrow.Author.Tests.{lt-ltb, eq-eqb}
 use Rattle.refusals.specs.declared.Verdict.TheVariants as verdict
 use Rattle.hierarchy.specs.declared.Turn.{Turn}
-use Rattle.hierarchy.specs.Turns.{valueAt}
-use Rattle.hierarchy.specs.Sets.{noAxis}
+use Rattle.hierarchy.specs.Turns.{value_at}
+use Rattle.hierarchy.specs.Sets.{no_axis}
 use Rattle.hierarchy.proofs.Values.{values_length}
 use Rattle.shapes.specs.declared.Shape.{Shape}
-use Rattle.shapes.specs.Shapes.{pointsOf, checkLength}
-use Rattle.shapes.proofs.Checked.{InRange, in-range-passed}
+use Rattle.shapes.specs.Shapes.{points_of, check_length}
+use Rattle.shapes.proofs.Checked.{InRange, in_range_passed}
 use Rattle.states.specs.declared.State.{State}
 use Rattle.states.specs.declared.Answer.TheVariants.{Done}
 use Rattle.states.specs.After.{after}
-use Rattle.states.specs.States.{has, checkBits, checkState}
+use Rattle.states.specs.States.{has, check_bits, check_state}
 use Rattle.tables.specs.Tables.{times, load}
-use Rattle.runs.specs.Model.{modelAnswers}
+use Rattle.runs.specs.Model.{model_answers}
 use Rattle.runs.specs.Runs.{Ran, run}
-use Rattle.runs.specs.Calls.{callsOf, numberIn, placeIn, Report, runCalls}
+use Rattle.runs.specs.Calls.{calls_of, number_in, place_in, Report, run_calls}
 use Rattle.runs.specs.LastCall.{answered, LastForward}
-use Rattle.runs.proofs.Demand3.{AsModel, run-from}
-use Rattle.runs.proofs.LastCall.{in-set-last, last-in-set}
-use Rattle.runs.proofs.Appending.{Matched, matched-runs}
+use Rattle.runs.proofs.Demand3.{AsModel, run_from}
+use Rattle.runs.proofs.LastCall.{in_set_last, last_in_set}
+use Rattle.runs.proofs.Appending.{Matched, matched_runs}
 use Rattle.whole.proofs.Inverse.{AreRates}
-use Rattle.whole.proofs.Loading.{rates-of-list, loaded-agrees}
-use Rattle.whole.proofs.AnswersUp.{load-done}
+use Rattle.whole.proofs.Loading.{rates_of_list, loaded_agrees}
+use Rattle.whole.proofs.AnswersUp.{load_done}
 
 -- What document 01 says after a load of the rates xs and a list of calls.
 pub record AfterLoad (s : Shape) (xs : List ℤ) (calls : List Turn) (ran : Ran) : Type 0 where
   pub range : InRange s
   pub rates : AreRates s xs
-  pub model : AsModel s range (valueAt xs) (rates-of-list s xs rates) calls noAxis ran
+  pub model : AsModel s range (value_at xs) (rates_of_list s xs rates) calls no_axis ran
 
-pub demand-3-of-load : (s : Shape) (xs ys : List ℤ) (st : State) → load s xs ≡ after (Done st) ys → (calls : List Turn) → AfterLoad s xs calls (run calls st ys)
-demand-3-of-load s xs ys st e calls =
-    let l = load-done s xs ys st (sym e) in
+pub demand_3_of_load : (s : Shape) (xs ys : List ℤ) (st : State) → load s xs ≡ after (Done st) ys → (calls : List Turn) → AfterLoad s xs calls (run calls st ys)
+demand_3_of_load s xs ys st e calls =
+    let l = load_done s xs ys st (sym e) in
     rw (l.state, l.table)
     (record {
       range = l.range;
       rates = l.rates;
       model =
-          run-from s l.range (valueAt xs) (rates-of-list s xs l.rates) calls noAxis 0 (map (times s.axes) xs)
-          (loaded-agrees s l.range xs l.rates);
+          run_from s l.range (value_at xs) (rates_of_list s xs l.rates) calls no_axis 0 (map (times s.axes) xs)
+          (loaded_agrees s l.range xs l.rates);
     })
 
 -- The axes forward are those whose last unrefused call went forward, by the answers of the calls themselves.
-pub forward-means : (s : Shape) (xs ys : List ℤ) (st : State) → load s xs ≡ after (Done st) ys → (calls : List Turn) (axis : ℕ) → 1 ≤ axis →
+pub forward_means : (s : Shape) (xs ys : List ℤ) (st : State) → load s xs ≡ after (Done st) ys → (calls : List Turn) (axis : ℕ) → 1 ≤ axis →
     let ran = run calls st ys in
     has ran.state.forward (axis - 1) ≡ true → LastForward axis (answered calls ran.answers)
-forward-means s xs ys st e calls axis low there =
-    let model = (demand-3-of-load s xs ys st e calls).model in
-    rw model.answers (in-set-last s.axes axis calls low (sym (model.bits (axis - 1)) ∙ there))
+forward_means s xs ys st e calls axis low there =
+    let model = (demand_3_of_load s xs ys st e calls).model in
+    rw model.answers (in_set_last s.axes axis calls low (sym (model.bits (axis - 1)) ∙ there))
 
-pub forward-where : (s : Shape) (xs ys : List ℤ) (st : State) → load s xs ≡ after (Done st) ys → (calls : List Turn) (axis : ℕ) →
+pub forward_where : (s : Shape) (xs ys : List ℤ) (st : State) → load s xs ≡ after (Done st) ys → (calls : List Turn) (axis : ℕ) →
     let ran = run calls st ys in
     LastForward axis (answered calls ran.answers) → has ran.state.forward (axis - 1) ≡ true
-forward-where s xs ys st e calls axis l =
-    let model = (demand-3-of-load s xs ys st e calls).model in
-    model.bits (axis - 1) ∙ last-in-set s.axes axis calls (rw model.answers at l)
+forward_where s xs ys st e calls axis l =
+    let model = (demand_3_of_load s xs ys st e calls).model in
+    model.bits (axis - 1) ∙ last_in_set s.axes axis calls (rw model.answers at l)
 
 -- A loaded state and table pass the checks of every call.
-loaded-passes : (s : Shape) (xs ys : List ℤ) (st : State) → load s xs ≡ after (Done st) ys → checkState st (length ys) ≡ verdict.Passed
-unfolding checkState checkBits checkLength run
-loaded-passes s xs ys st e =
-    let here = demand-3-of-load s xs ys st e [] in
+loaded_passes : (s : Shape) (xs ys : List ℤ) (st : State) → load s xs ≡ after (Done st) ys → check_state st (length ys) ≡ verdict.Passed
+unfolding check_state check_bits check_length run
+loaded_passes s xs ys st e =
+    let here = demand_3_of_load s xs ys st e [] in
     let m = here.model in
     rw (
       m.shape,
-      in-range-passed s here.range,
+      in_range_passed s here.range,
       lt-ltb st.forward (2 ^ s.axes) m.few,
-      eq-eqb (length ys) (pointsOf s) (ap length m.table ∙ values_length (pointsOf s) _),
+      eq-eqb (length ys) (points_of s) (ap length m.table ∙ values_length (points_of s) _),
     )
 
 -- The call that runs a list reports exactly the model's answers.
 pub record Reported (s : Shape) (calls : List Turn) (r : Report) (ran : Ran) : Type 0 where
   pub answer : r.answer ≡ Done ran.state
   pub table : r.table ≡ ran.table
-  pub numbers : r.numbers ≡ map numberIn (modelAnswers s.axes noAxis calls)
-  pub places : r.places ≡ map placeIn (modelAnswers s.axes noAxis calls)
+  pub numbers : r.numbers ≡ map number_in (model_answers s.axes no_axis calls)
+  pub places : r.places ≡ map place_in (model_answers s.axes no_axis calls)
 
-pub demand-3-of-run : (s : Shape) (xs ys : List ℤ) (st : State) → load s xs ≡ after (Done st) ys →
+pub demand_3_of_run : (s : Shape) (xs ys : List ℤ) (st : State) → load s xs ≡ after (Done st) ys →
     (directions axes ns ps : List ℕ) → Matched directions axes ns ps →
-    Reported s (callsOf directions axes) (runCalls st ys directions axes ns ps) (run (callsOf directions axes) st ys)
-demand-3-of-run s xs ys st e directions axes ns ps m =
-    let same = matched-runs st ys directions axes ns ps (loaded-passes s xs ys st e) m in
-    let model = (demand-3-of-load s xs ys st e (callsOf directions axes)).model in
+    Reported s (calls_of directions axes) (run_calls st ys directions axes ns ps) (run (calls_of directions axes) st ys)
+demand_3_of_run s xs ys st e directions axes ns ps m =
+    let same = matched_runs st ys directions axes ns ps (loaded_passes s xs ys st e) m in
+    let model = (demand_3_of_load s xs ys st e (calls_of directions axes)).model in
     record {
       answer = ap (λ (r : Report). r.answer) same;
       table = ap (λ (r : Report). r.table) same;
-      numbers = ap (λ (r : Report). r.numbers) same ∙ ap (map numberIn) model.answers;
-      places = ap (λ (r : Report). r.places) same ∙ ap (map placeIn) model.answers;
+      numbers = ap (λ (r : Report). r.numbers) same ∙ ap (map number_in) model.answers;
+      places = ap (λ (r : Report). r.places) same ∙ ap (map place_in) model.answers;
     }

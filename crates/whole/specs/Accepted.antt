@@ -2,15 +2,15 @@
 -- Assumes nothing.
 use Rattle.std.specs.Prelude.{true, List, [], ◌∷◌, ◌≡◌, ℕ, ◌<◌, ℤ, pos, ◌+ℤ◌, length, get_or}
 use Rattle.refusals.specs.declared.Verdict.TheVariants.{Passed}
-use Rattle.integers.specs.Half.{isRate}
+use Rattle.integers.specs.Half.{is_rate}
 use Rattle.shapes.specs.declared.Shape.{Shape}
-use Rattle.shapes.specs.Shapes.{pointsOf, checkShape}
+use Rattle.shapes.specs.Shapes.{points_of, check_shape}
 
 -- Rates are accepted where the shape is not refused and there are N numbers, each a rate.
 pub record Accepted (s : Shape) (rs : List ℤ) : Type 0 where
-  pub shape : checkShape s ≡ Passed
-  pub long : length rs ≡ pointsOf s
-  pub each : (p : ℕ) → p < pointsOf s → isRate (get_or rs p (pos 0)) ≡ true
+  pub shape : check_shape s ≡ Passed
+  pub long : length rs ≡ points_of s
+  pub each : (p : ℕ) → p < points_of s → is_rate (get_or rs p (pos 0)) ≡ true
 
 -- Two tables of one length, added place by place.
 unfoldable pub sums : List ℤ → List ℤ → List ℤ

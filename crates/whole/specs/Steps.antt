@@ -3,22 +3,22 @@
 use Rattle.std.specs.Prelude.{true, List, ◌≡◌, ℕ, zero, suc, ℤ, length, if◌then◌else◌}
 use Rattle.naturals.specs.Test.{all}
 use Rattle.refusals.specs.declared.Verdict.TheVariants.{Passed}
-use Rattle.integers.specs.Half.{contentAt}
+use Rattle.integers.specs.Half.{content_at}
 use Rattle.shapes.specs.declared.Shape.{Shape}
-use Rattle.shapes.specs.Shapes.{pointsOf, checkShape}
-use Rattle.grids.specs.Turned.{turnedTable, formerTable}
-use Rattle.turns.specs.Turns.{isAccepted}
+use Rattle.shapes.specs.Shapes.{points_of, check_shape}
+use Rattle.grids.specs.Turned.{turned_table, former_table}
+use Rattle.turns.specs.Turns.{is_accepted}
 
 -- A table of a shape that the check passes, all values within the content limit.
 pub record InTable (s : Shape) (xs : List ℤ) : Type 0 where
-  pub shape : checkShape s ≡ Passed
-  pub long : length xs ≡ pointsOf s
-  pub contents : all (contentAt xs) (length xs) ≡ true
+  pub shape : check_shape s ≡ Passed
+  pub long : length xs ≡ points_of s
+  pub contents : all (content_at xs) (length xs) ≡ true
 
 -- The table after m forward turns, on places k, k + 1, .. (axes k + 1, k + 2, ..).
 unfoldable pub ascent : ℕ → ℕ → Shape → List ℤ → List ℤ
 ascent zero k s xs = xs
-ascent (suc m) k s xs = ascent m (suc k) s (turnedTable s k xs)
+ascent (suc m) k s xs = ascent m (suc k) s (turned_table s k xs)
 
 -- Where the turns back stopped: how many axes are still forward, and the table there.
 pub record Gone : Type 0 where
@@ -32,4 +32,4 @@ gone k xs = record { forward = k; table = xs }
 unfoldable pub descent : ℕ → Shape → List ℤ → Gone
 descent zero s xs = gone 0 xs
 descent (suc k) s xs =
-    if isAccepted s k (formerTable s k xs) then descent k s (formerTable s k xs) else gone (suc k) xs
+    if is_accepted s k (former_table s k xs) then descent k s (former_table s k xs) else gone (suc k) xs

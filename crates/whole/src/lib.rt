@@ -3,7 +3,7 @@
 
 ghost use Rattle.std.specs.Prelude.{◌≡◌, ◌-◌};
 ghost use Rattle.states.specs.After.{left};
-ghost use Rattle.whole.specs.Whole.{ratesToCoefficients, coefficientsToRates};
+ghost use Rattle.whole.specs.Whole.{rates_to_coefficients, coefficients_to_rates};
 ghost use Rattle.whole.specs.Steps.{InTable, ascent, gone, descent};
 
 use neighbours::Line;
@@ -32,7 +32,7 @@ fn climb(shape: Shape, from: u32, table: &mut [i64])
 
 // Rates to coefficients: each rate times 2^d, then forward on every axis. Of a loaded table no turn is refused.
 pub fn rates_to_coefficients(shape: Shape, table: &mut [i64]) -> Verdict
-    ensures { left result table.new ≡ ratesToCoefficients shape table.old }
+    ensures { left result table.new ≡ rates_to_coefficients shape table.old }
 {
     match tables::load(shape, table) {
         Answer::Refused(r) => Verdict::Refused(r),
@@ -67,7 +67,7 @@ fn descend(shape: Shape, table: &mut [i64]) -> u32
 
 // Coefficients to rates: back on every axis, then each value divided by 2^d. Where that cannot be, the axes turned back go forward again.
 pub fn coefficients_to_rates(shape: Shape, table: &mut [i64]) -> Verdict
-    ensures { left result table.new ≡ coefficientsToRates shape table.old }
+    ensures { left result table.new ≡ coefficients_to_rates shape table.old }
 {
     match tables::adopt(shape, table) {
         Answer::Refused(r) => Verdict::Refused(r),

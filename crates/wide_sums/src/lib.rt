@@ -2,7 +2,7 @@
 #![tactic(auto)]
 
 ghost use Rattle.std.specs.Prelude.{true, ◌≡◌, ◌+◌, ◌*◌, ◌/◌, ◌^◌, ◌≤◌, ◌<◌, pos, nat_abs, ◌+ℤ◌, ◌*ℤ◌};
-ghost use Rattle.integers.specs.Half.{inLimit};
+ghost use Rattle.integers.specs.Half.{in_limit};
 ghost use Rattle.integers.specs.Floor.{floor, remainder};
 ghost use Rattle.surfaces.specs.Weights.{unit};
 ghost use Rattle.surfaces.specs.Surface.{rounded};
@@ -14,7 +14,7 @@ const HALF: u64 = 1 << (BITS - 1);
 
 // A coefficient is its high part times the unit, plus its low part. The sums of the parts times weights fit 64 bits each.
 pub fn add_high(high: i64, c: i64, joint: u64) -> i64
-    requires { (nat_abs high ≤ 2 ^ 62) × (inLimit c ≡ true) × (joint ≤ unit) }
+    requires { (nat_abs high ≤ 2 ^ 62) × (in_limit c ≡ true) × (joint ≤ unit) }
     ensures { result ≡ high +ℤ floor unit c *ℤ pos joint }
 {
     high + (c >> BITS) * joint as i64

@@ -2,38 +2,38 @@
 -- Assumes nothing.
 use mathlib.Core.Path.{refl}
 use lib.Count.{count_trailing_zeros}
-use Rattle.naturals.specs.Sum.{sumTo}
+use Rattle.naturals.specs.Sum.{sum_to}
 use Rattle.naturals.specs.Test.{all}
-use Rattle.naturals.specs.FirstFailing.{firstFailing}
-use Rattle.integers.specs.Half.{half, isRate, inLimit, contentAt}
-use Rattle.integers.specs.Nearest.{nearestUp, nearest}
+use Rattle.naturals.specs.FirstFailing.{first_failing}
+use Rattle.integers.specs.Half.{half, is_rate, in_limit, content_at}
+use Rattle.integers.specs.Nearest.{nearest_up, nearest}
 use Rattle.integers.specs.Total.{total}
 use Rattle.numbering.specs.Binomial.{choose}
 use Rattle.numbering.specs.Count.{vectors, shell, start, points}
-use Rattle.numbering.specs.Point.{isIndex, indexed, isPoint}
-use Rattle.numbering.specs.Number.{ending, rank, digit, position, firstOf, number}
-use Rattle.numbering.specs.Inverse.{block, lastLevel, levelOf, sumAt, within, levelAt, indexOf, indexAt}
-use Rattle.numbering.specs.Parent.{isBorder, twos, parentLevel, parentIndex, update, parent}
-use Rattle.hierarchy.specs.Turns.{valueAt, valuesOf, sumOn, forward}
-use Rattle.hierarchy.specs.Sets.{scaled, swept, tableOf}
-use Rattle.zero_border.specs.ZeroBorder.{codeOf}
-use Rattle.zero_border.specs.ZeroBorder as zero-border
-use Rattle.shapes.specs.Shapes.{checkShape, pointsOf, checkLength, counted}
-use Rattle.grids.specs.Grids.{numberOf, levelOn, indexOn, neighbour}
-use Rattle.interpolation.specs.Weighted.{weighted, weightedSum}
-use Rattle.surfaces.specs.Weights.{unit, isCoordinate, distance, weight, joint}
-use Rattle.surfaces.specs.Surface.{weightIn, jointIn, jointSumIn, rounded, estimateIn}
-use Rattle.points.specs.Points.{checkLists, checkPoint}
-use Rattle.numbers.specs.Numbers.{numberOfPoint}
-use Rattle.states.specs.States.{has, isOther, firstAxis, checkAxes, checkBits, checkState}
-use Rattle.tables.specs.Tables.{checkTable, rateAt, checkRates, adopt}
-use Rattle.whole.specs.Whole.{coefficientsOf, ratesToCoefficients}
-use Rattle.estimates.specs.Estimates.{checkForward, insideAt, firstOutside, checkCoordinates, checkEstimate, estimateInUnit}
+use Rattle.numbering.specs.Point.{is_index, indexed, is_point}
+use Rattle.numbering.specs.Number.{ending, rank, digit, position, first_of, number}
+use Rattle.numbering.specs.Inverse.{block, last_level, level_of, sum_at, within, level_at, index_of, index_at}
+use Rattle.numbering.specs.Parent.{is_border, twos, parent_level, parent_index, update, parent}
+use Rattle.hierarchy.specs.Turns.{value_at, values_of, sum_on, forward}
+use Rattle.hierarchy.specs.Sets.{scaled, swept, table_of}
+use Rattle.zero_border.specs.ZeroBorder.{code_of}
+use Rattle.zero_border.specs.ZeroBorder as zero_border
+use Rattle.shapes.specs.Shapes.{check_shape, points_of, check_length, counted}
+use Rattle.grids.specs.Grids.{number_of, level_on, index_on, neighbour}
+use Rattle.interpolation.specs.Weighted.{weighted, weighted_sum}
+use Rattle.surfaces.specs.Weights.{unit, is_coordinate, distance, weight, joint}
+use Rattle.surfaces.specs.Surface.{weight_in, joint_in, joint_sum_in, rounded, estimate_in}
+use Rattle.points.specs.Points.{check_lists, check_point}
+use Rattle.numbers.specs.Numbers.{number_of_point}
+use Rattle.states.specs.States.{has, is_other, first_axis, check_axes, check_bits, check_state}
+use Rattle.tables.specs.Tables.{check_table, rate_at, check_rates, adopt}
+use Rattle.whole.specs.Whole.{coefficients_of, rates_to_coefficients}
+use Rattle.estimates.specs.Estimates.{check_forward, inside_at, first_outside, check_coordinates, check_estimate, estimate_in_unit}
 use Rattle.worked_values.specs.Worked.{AllHold, examples}
 
-pub worked-values : AllHold examples
-unfolding sumTo all choose vectors shell start points isIndex indexed isPoint ending rank digit position firstOf number checkShape pointsOf checkLength counted numberOf levelOn indexOn checkLists checkPoint numberOfPoint half isRate block lastLevel levelOf sumAt within levelAt indexOf indexAt isBorder twos parentLevel parentIndex update parent count_trailing_zeros valueAt valuesOf sumOn forward scaled swept tableOf codeOf zero-border.neighbour neighbour firstFailing checkTable rateAt checkRates coefficientsOf ratesToCoefficients total nearestUp nearest inLimit weighted weightedSum unit isCoordinate distance weight weightIn joint jointIn jointSumIn rounded estimateIn has isOther firstAxis checkAxes checkBits checkState contentAt adopt checkForward insideAt firstOutside checkCoordinates checkEstimate estimateInUnit
-worked-values = (
+pub worked_values : AllHold examples
+unfolding sum_to all choose vectors shell start points is_index indexed is_point ending rank digit position first_of number check_shape points_of check_length counted number_of level_on index_on check_lists check_point number_of_point half is_rate block last_level level_of sum_at within level_at index_of index_at is_border twos parent_level parent_index update parent count_trailing_zeros value_at values_of sum_on forward scaled swept table_of code_of zero_border.neighbour neighbour first_failing check_table rate_at check_rates coefficients_of rates_to_coefficients total nearest_up nearest in_limit weighted weighted_sum unit is_coordinate distance weight weight_in joint joint_in joint_sum_in rounded estimate_in has is_other first_axis check_axes check_bits check_state content_at adopt check_forward inside_at first_outside check_coordinates check_estimate estimate_in_unit
+worked_values = (
   refl,
   (refl, (refl, (refl, (refl, (refl, (refl, (refl, ((refl, refl), ((refl, refl), ((refl, refl), ((refl, refl), ((refl, refl), ((refl, refl), ((refl, refl), tt)))))))))))))),
 )

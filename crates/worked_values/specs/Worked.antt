@@ -7,13 +7,13 @@ use Rattle.shapes.specs.declared.Shape.{Shape}
 use Rattle.shapes.specs.declared.Counted.TheVariants.{Points}
 use Rattle.shapes.specs.Shapes.{sparse, counted}
 use Rattle.numbers.specs.declared.Numbered.TheVariants.{At}
-use Rattle.numbers.specs.Numbers.{numberOfPoint}
+use Rattle.numbers.specs.Numbers.{number_of_point}
 use Rattle.states.specs.declared.Answer.TheVariants.{Done}
 use Rattle.states.specs.After.{left}
 use Rattle.tables.specs.Tables.{adopted, adopt}
-use Rattle.whole.specs.Whole.{ratesToCoefficients}
+use Rattle.whole.specs.Whole.{rates_to_coefficients}
 use Rattle.estimates.specs.declared.Estimated.TheVariants.{Value}
-use Rattle.estimates.specs.Estimates.{estimate as estimateOf}
+use Rattle.estimates.specs.Estimates.{estimate as estimate_of}
 
 pub data Example : Type 0 where
   -- a shape has this many points
@@ -28,9 +28,9 @@ pub data Example : Type 0 where
 -- What an example says: the call's definition gives the value.
 abbrev pub Holds : Example → Type 0
 Holds (count s n) = counted s ≡ Points n
-Holds (number s ls is k) = numberOfPoint s ls is ≡ At k
-Holds (coefficients s rates xs) = ratesToCoefficients s rates ≡ left Passed xs
-Holds (estimate s xs x v) = (adopt s xs ≡ Done (adopted s)) × (estimateOf (adopted s) xs x ≡ Value v)
+Holds (number s ls is k) = number_of_point s ls is ≡ At k
+Holds (coefficients s rates xs) = rates_to_coefficients s rates ≡ left Passed xs
+Holds (estimate s xs x v) = (adopt s xs ≡ Done (adopted s)) × (estimate_of (adopted s) xs x ≡ Value v)
 
 -- All examples of a list hold.
 abbrev pub AllHold : List Example → Type 0

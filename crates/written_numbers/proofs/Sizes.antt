@@ -10,9 +10,9 @@ use lib.ListN.{length}
 use borrow.Author.Tests.{le-leb, lt-leb}
 use mir.Val.{bool_byte}
 use Rattle.std.specs.Prelude.{if◌then◌else◌}
-use Rattle.naturals.proofs.Cases.{le-or-lt}
+use Rattle.naturals.proofs.Cases.{le_or_lt}
 use Rattle.house_file.specs.Written.{fewest, written}
-use Rattle.house_file.proofs.Undone.{last-group, more-groups}
+use Rattle.house_file.proofs.Undone.{last_group, more_groups}
 use Rattle.written_numbers.specs.Steps.{reached}
 
 -- A test, as the code counts it.
@@ -24,43 +24,43 @@ counted n bound = go (leb bound n)
     go true = refl
     go false = refl
 
-reached-so : (n bound : ℕ) → bound ≤ n → reached n bound ≡ 1
+reached_so : (n bound : ℕ) → bound ≤ n → reached n bound ≡ 1
 unfolding reached
-reached-so n bound h = rw (le-leb bound n h)
+reached_so n bound h = rw (le-leb bound n h)
 
-reached-not : (n bound : ℕ) → n < bound → reached n bound ≡ 0
+reached_not : (n bound : ℕ) → n < bound → reached n bound ≡ 0
 unfolding reached
-reached-not n bound h = rw (lt-leb bound n h)
+reached_not n bound h = rw (lt-leb bound n h)
 
-pub reached-most : (n bound : ℕ) → reached n bound ≤ 1
-reached-most n bound =
-    le-or-lt bound n (λ h. omega (arith, reached-so n bound h)) (λ h. omega (arith, reached-not n bound h))
+pub reached_most : (n bound : ℕ) → reached n bound ≤ 1
+reached_most n bound =
+    le_or_lt bound n (λ h. omega (arith, reached_so n bound h)) (λ h. omega (arith, reached_not n bound h))
 
 length_last : (k n : ℕ) → n < 128 → length (fewest (suc k) n) ≡ 1
-length_last k n h = ap length (last-group k n h)
+length_last k n h = ap length (last_group k n h)
 
 length_more : (k n : ℕ) → 128 ≤ n → length (fewest (suc k) n) ≡ suc (length (fewest k (n / 128)))
-length_more k n h = ap length (more-groups k n h)
+length_more k n h = ap length (more_groups k n h)
 
 -- The bounds that a number reaches are the groups after its first.
 pub size_is : (n : ℕ) → n < 4294967296 →
     1 + reached n 128 + reached n 16384 + reached n 2097152 + reached n 268435456 ≡ length (written n)
 unfolding written
 size_is n small =
-    le-or-lt 128 n
+    le_or_lt 128 n
     (λ two.
-    le-or-lt 16384 n
+    le_or_lt 16384 n
     (λ three.
-    le-or-lt 2097152 n
+    le_or_lt 2097152 n
     (λ four.
-    le-or-lt 268435456 n
+    le_or_lt 268435456 n
     (λ five.
     omega (
       arith,
-      reached-so n 128 two,
-      reached-so n 16384 three,
-      reached-so n 2097152 four,
-      reached-so n 268435456 five,
+      reached_so n 128 two,
+      reached_so n 16384 three,
+      reached_so n 2097152 four,
+      reached_so n 268435456 five,
       length_more 4 n two,
       length_more 3 (n / 128) (omega arith),
       length_more 2 (n / 128 / 128) (omega arith),
@@ -70,10 +70,10 @@ size_is n small =
     (λ below.
     omega (
       arith,
-      reached-so n 128 two,
-      reached-so n 16384 three,
-      reached-so n 2097152 four,
-      reached-not n 268435456 below,
+      reached_so n 128 two,
+      reached_so n 16384 three,
+      reached_so n 2097152 four,
+      reached_not n 268435456 below,
       length_more 4 n two,
       length_more 3 (n / 128) (omega arith),
       length_more 2 (n / 128 / 128) (omega arith),
@@ -82,10 +82,10 @@ size_is n small =
     (λ below.
     omega (
       arith,
-      reached-so n 128 two,
-      reached-so n 16384 three,
-      reached-not n 2097152 below,
-      reached-not n 268435456 (omega arith),
+      reached_so n 128 two,
+      reached_so n 16384 three,
+      reached_not n 2097152 below,
+      reached_not n 268435456 (omega arith),
       length_more 4 n two,
       length_more 3 (n / 128) (omega arith),
       length_last 2 (n / 128 / 128) (omega arith),
@@ -93,19 +93,19 @@ size_is n small =
     (λ below.
     omega (
       arith,
-      reached-so n 128 two,
-      reached-not n 16384 below,
-      reached-not n 2097152 (omega arith),
-      reached-not n 268435456 (omega arith),
+      reached_so n 128 two,
+      reached_not n 16384 below,
+      reached_not n 2097152 (omega arith),
+      reached_not n 268435456 (omega arith),
       length_more 4 n two,
       length_last 3 (n / 128) (omega arith),
     )))
     (λ below.
     omega (
       arith,
-      reached-not n 128 below,
-      reached-not n 16384 (omega arith),
-      reached-not n 2097152 (omega arith),
-      reached-not n 268435456 (omega arith),
+      reached_not n 128 below,
+      reached_not n 16384 (omega arith),
+      reached_not n 2097152 (omega arith),
+      reached_not n 268435456 (omega arith),
       length_last 4 n below,
     ))

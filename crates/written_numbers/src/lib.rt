@@ -2,7 +2,7 @@
 #![tactic(auto)]
 
 ghost use Rattle.std.specs.Prelude.{true, ◌≡◌, ◌+◌, ◌≤◌, length};
-ghost use Rattle.integers.specs.Half.{isRate};
+ghost use Rattle.integers.specs.Half.{is_rate};
 ghost use Rattle.buffers.specs.Put.{Put};
 ghost use Rattle.house_numbers.specs.Numbers.{filed};
 ghost use Rattle.house_file.specs.Written.{written};
@@ -10,7 +10,7 @@ ghost use Rattle.written_numbers.specs.Steps.{reached};
 
 // The filed form of a rate, formed in 64 bits.
 pub fn filed_of(rate: i64) -> u32
-    requires { isRate rate ≡ true }
+    requires { is_rate rate ≡ true }
     ensures { result ≡ filed rate }
 {
     if rate < 0 {

@@ -2,7 +2,7 @@
 -- Assumes nothing.
 use Rattle.std.specs.Prelude.{false, ◌≡◌, ℕ, suc, ◌%◌, ◌^◌, ◌<◌}
 use Rattle.numbering.specs.declared.Side.{Side}
-use Rattle.numbering.specs.Parent.{numerator, isBorder, parentLevel, parentIndex, update}
+use Rattle.numbering.specs.Parent.{numerator, is_border, parent_level, parent_index, update}
 
 -- How many axes and points there are, the number of the point of levels l and indices i, and the level and the index of a point number on an axis.
 pub record Numbered : Type 0 where
@@ -19,11 +19,11 @@ pub record Numbering (g : Numbered) (Point : (ℕ → ℕ) → (ℕ → ℕ) →
   pub point_at : (p : ℕ) → p < g.count → Point (g.level p) (g.index p)
   pub number_at : (p : ℕ) → p < g.count → g.number (g.level p) (g.index p) ≡ p
   pub number_lt : {l i : ℕ → ℕ} → Point l i → g.number l i < g.count
-  pub levels-again : {l i : ℕ → ℕ} → Point l i → g.level (g.number l i) ≡ l
-  pub indices-again : {l i : ℕ → ℕ} → Point l i → g.index (g.number l i) ≡ i
+  pub levels_again : {l i : ℕ → ℕ} → Point l i → g.level (g.number l i) ≡ l
+  pub indices_again : {l i : ℕ → ℕ} → Point l i → g.index (g.number l i) ≡ i
   pub one_number : {l i m j : ℕ → ℕ} → Point l i → Point m j →
       ((t : ℕ) → t < g.axes → l t ≡ m t) → ((t : ℕ) → t < g.axes → i t ≡ j t) → g.number l i ≡ g.number m j
   pub odd : {l i : ℕ → ℕ} → Point l i → (t : ℕ) → t < g.axes → i t % 2 ≡ 1
   pub below : {l i : ℕ → ℕ} → Point l i → (t : ℕ) → t < g.axes → i t < 2 ^ suc (l t)
-  pub parent-there : {l i : ℕ → ℕ} → Point l i → (t : ℕ) (b : Side) → t < g.axes → isBorder (l t) (numerator b (i t)) ≡ false →
-      Point (update l t (parentLevel (l t) (numerator b (i t)))) (update i t (parentIndex (numerator b (i t))))
+  pub parent_there : {l i : ℕ → ℕ} → Point l i → (t : ℕ) (b : Side) → t < g.axes → is_border (l t) (numerator b (i t)) ≡ false →
+      Point (update l t (parent_level (l t) (numerator b (i t)))) (update i t (parent_index (numerator b (i t))))

@@ -6,16 +6,16 @@ use Rattle.numbering.specs.Parent.{Neighbour, border, inner, parent}
 use Rattle.zero_border.specs.Numbered.{Numbered}
 
 -- The code of what lies beside a point.
-unfoldable pub codeOf : Numbered → Neighbour → ℕ
-codeOf g border = 0
-codeOf g (inner l i) = suc (g.number l i)
+unfoldable pub code_of : Numbered → Neighbour → ℕ
+code_of g border = 0
+code_of g (inner l i) = suc (g.number l i)
 
 -- The neighbour of a code on axis t (from 0), on either side: that of the border, of a number past the last point and on an axis that there is not is the
 -- border.
 unfoldable pub neighbour : Numbered → ℕ → Side → ℕ → ℕ
 neighbour g t side zero = 0
 neighbour g t side (suc p) =
-    if ltb p g.count && ltb t g.axes then codeOf g (parent t side (g.level p) (g.index p)) else 0
+    if ltb p g.count && ltb t g.axes then code_of g (parent t side (g.level p) (g.index p)) else 0
 
 -- How deep a code lies on an axis: its level there.
 unfoldable pub depth : Numbered → ℕ → ℕ → ℕ

@@ -5,8 +5,8 @@ use Prim.Native.Nat.{suc, ◌*◌, ◌^◌}
 use native.Mathlib.Omega.{arith}
 use Rattle.surfaces.specs.Weights.{unit, distance}
 use Rattle.surfaces.proofs.Cells.{weight_is}
-use Rattle.surfaces.proofs.Unit.{unit-is}
-use Rattle.axis_weights.proofs.Weighing.{here-shifted, centre-shifted}
+use Rattle.surfaces.proofs.Unit.{unit_is}
+use Rattle.axis_weights.proofs.Weighing.{here_shifted, centre_shifted}
 use Rattle.axis_weights.proofs.weight.Goals.{After-distance-apart}
 use Rattle.axis_weights.proofs.weight.Goals as goal
 
@@ -15,11 +15,11 @@ apart : (c : After-distance-apart) → let a = c.args in c.distance-apart.result
 apart c =
     let a = c.args in
     c.distance-apart.ensures
-    ∙ ap₂ distance (here-shifted a.x a.level c.requires.0 c.requires.1)
-    (centre-shifted a.level a.index c.requires.1 c.requires.2)
+    ∙ ap₂ distance (here_shifted a.x a.level c.requires.0 c.requires.1)
+    (centre_shifted a.level a.index c.requires.1 c.requires.2)
 
 pub returns-then-apart : goal.returns-then-apart
-returns-then-apart c = let a = c.args in omega (arith, weight_is unit a.x a.level a.index, apart (goal.at.returns-then-apart c).After-distance-apart, unit-is)
+returns-then-apart c = let a = c.args in omega (arith, weight_is unit a.x a.level a.index, apart (goal.at.returns-then-apart c).After-distance-apart, unit_is)
 
 pub returns : goal.returns
-returns c = let a = c.args in omega (arith, weight_is unit a.x a.level a.index, apart (goal.at.returns c).After-distance-apart, unit-is)
+returns c = let a = c.args in omega (arith, weight_is unit a.x a.level a.index, apart (goal.at.returns c).After-distance-apart, unit_is)

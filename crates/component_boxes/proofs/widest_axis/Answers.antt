@@ -1,16 +1,16 @@
 use native.Mathlib.Omega.{arith}
-use Rattle.component_boxes.proofs.Seeking.{widest-starts, widest-inside, widest-wider, widest-same, widest-ends}
+use Rattle.component_boxes.proofs.Seeking.{widest_starts, widest_inside, widest_wider, widest_same, widest_ends}
 use Rattle.component_boxes.proofs.widest_axis.Goals as goal
 use Rattle.component_boxes.proofs.widest_axis.Goals.{then-levels-most, else-levels-most}
 
 pub loop-t-init : goal.loop-t-init
-loop-t-init c = widest-starts _ _ c.requires.0
+loop-t-init c = widest_starts _ _ c.requires.0
 
 pub offset_bounds-levels-most : goal.offset_bounds-levels-most
 offset_bounds-levels-most c =
     omega (
       arith,
-      widest-inside c.args.axes c.args.levels c.loop-t.t c.loop-t.most c.loop-t.invariant c.loop-t-test.true,
+      widest_inside c.args.axes c.args.levels c.loop-t.t c.loop-t.most c.loop-t.invariant c.loop-t-test.true,
       c.requires.1,
     )
 
@@ -18,7 +18,7 @@ pub bounds-levels-most : goal.bounds-levels-most
 bounds-levels-most c =
     omega (
       arith,
-      widest-inside c.args.axes c.args.levels c.loop-t.t c.loop-t.most c.loop-t.invariant c.loop-t-test.true,
+      widest_inside c.args.axes c.args.levels c.loop-t.t c.loop-t.most c.loop-t.invariant c.loop-t-test.true,
       c.requires.1,
     )
 
@@ -29,9 +29,9 @@ loop-t-preserved c =
     let inv = c.loop-t.invariant in
     let taken = c.loop-t-test.true in
     elim c.if-levels-most.branch [
-      | then-levels-most w ↦ rw w.most-is (widest-wider c.args.axes c.args.levels t most inv taken w.if-levels-most.true)
-      | else-levels-most w ↦ rw w.most-is (widest-same c.args.axes c.args.levels t most inv taken w.if-levels-most.false)
+      | then-levels-most w ↦ rw w.most-is (widest_wider c.args.axes c.args.levels t most inv taken w.if-levels-most.true)
+      | else-levels-most w ↦ rw w.most-is (widest_same c.args.axes c.args.levels t most inv taken w.if-levels-most.false)
     ]
 
 pub returns : goal.returns
-returns c = widest-ends _ _ _ _ c.loop-t.invariant c.loop-t-test.false
+returns c = widest_ends _ _ _ _ c.loop-t.invariant c.loop-t-test.false

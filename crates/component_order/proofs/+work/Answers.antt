@@ -1,40 +1,40 @@
 use native.Mathlib.Omega.{arith}
 use Rattle.numbering.specs.Point.{at}
 use Rattle.component_order.proofs.Calls.{
-  more-points,
-  nothing-due,
-  middle-falls,
-  half-falls,
-  first-call,
+  more_points,
+  nothing_due,
+  middle_falls,
+  half_falls,
+  first_call,
   second_call,
-  third-call,
-  fourth-call,
-  calls-end,
+  third_call,
+  fourth_call,
+  calls_end,
 }
 use Rattle.component_order.proofs.+work.Goals as goal
 
 pub returns-then-from-to : goal.returns-then-from-to
-returns-then-from-to t c = nothing-due _ _ _ _ _ _ _ c.requires.1 c.if-from-to.true
+returns-then-from-to t c = nothing_due _ _ _ _ _ _ _ c.requires.1 c.if-from-to.true
 
 pub parts_of-parts-requires : goal.parts_of-parts-requires
 parts_of-parts-requires t c =
-    (c.requires.0, c.requires.1.fits, more-points (at c.args.levels) c.args.layout.axes (omega arith))
+    (c.requires.0, c.requires.1.fits, more_points (at c.args.levels) c.args.layout.axes (omega arith))
 
 pub work-requires : goal.work-requires
 work-requires t c =
-    let more = more-points (at c.args.levels) c.args.layout.axes (omega arith) in
-    let fewer = middle-falls _ _ _ _ _ _ c.requires.0 c.requires.1 more _ c.parts_of-parts.ensures in (
+    let more = more_points (at c.args.levels) c.args.layout.axes (omega arith) in
+    let fewer = middle_falls _ _ _ _ _ _ c.requires.0 c.requires.1 more _ c.parts_of-parts.ensures in (
       omega (arith, c.decreases),
       (
         c.requires.0,
-        first-call _ _ _ _ _ _ c.requires.0 c.requires.1 more _ c.parts_of-parts.ensures,
+        first_call _ _ _ _ _ _ c.requires.0 c.requires.1 more _ c.parts_of-parts.ensures,
       ),
     )
 
 pub work-requires-2 : goal.work-requires-2
 work-requires-2 t c =
-    let more = more-points (at c.args.levels) c.args.layout.axes (omega arith) in
-    let fewer = half-falls _ _ _ _ _ _ c.requires.0 c.requires.1 more _ c.parts_of-parts.ensures in (
+    let more = more_points (at c.args.levels) c.args.layout.axes (omega arith) in
+    let fewer = half_falls _ _ _ _ _ _ c.requires.0 c.requires.1 more _ c.parts_of-parts.ensures in (
       omega (arith, c.decreases),
       (
         c.requires.0,
@@ -44,28 +44,28 @@ work-requires-2 t c =
 
 pub work-requires-3 : goal.work-requires-3
 work-requires-3 t c =
-    let more = more-points (at c.args.levels) c.args.layout.axes (omega arith) in
-    let fewer = half-falls _ _ _ _ _ _ c.requires.0 c.requires.1 more _ c.parts_of-parts.ensures in (
+    let more = more_points (at c.args.levels) c.args.layout.axes (omega arith) in
+    let fewer = half_falls _ _ _ _ _ _ c.requires.0 c.requires.1 more _ c.parts_of-parts.ensures in (
       omega (arith, c.decreases),
       (
         c.requires.0,
-        third-call _ _ _ _ _ _ c.requires.0 c.requires.1 more _ c.parts_of-parts.ensures _ c.work.ensures _ c.work-2.ensures,
+        third_call _ _ _ _ _ _ c.requires.0 c.requires.1 more _ c.parts_of-parts.ensures _ c.work.ensures _ c.work-2.ensures,
       ),
     )
 
 pub work-requires-4 : goal.work-requires-4
 work-requires-4 t c =
-    let more = more-points (at c.args.levels) c.args.layout.axes (omega arith) in
-    let fewer = middle-falls _ _ _ _ _ _ c.requires.0 c.requires.1 more _ c.parts_of-parts.ensures in (
+    let more = more_points (at c.args.levels) c.args.layout.axes (omega arith) in
+    let fewer = middle_falls _ _ _ _ _ _ c.requires.0 c.requires.1 more _ c.parts_of-parts.ensures in (
       omega (arith, c.decreases),
       (
         c.requires.0,
-        fourth-call _ _ _ _ _ _ c.requires.0 c.requires.1 more _ c.parts_of-parts.ensures _ c.work.ensures _ c.work-2.ensures _ c.work-3.ensures,
+        fourth_call _ _ _ _ _ _ c.requires.0 c.requires.1 more _ c.parts_of-parts.ensures _ c.work.ensures _ c.work-2.ensures _ c.work-3.ensures,
       ),
     )
 
 pub returns : goal.returns
 returns t c =
-    let more = more-points (at c.args.levels) c.args.layout.axes (omega arith) in
-    calls-end _ _ _ _ _ _ c.requires.0 c.requires.1 more _ c.parts_of-parts.ensures
+    let more = more_points (at c.args.levels) c.args.layout.axes (omega arith) in
+    calls_end _ _ _ _ _ _ c.requires.0 c.requires.1 more _ c.parts_of-parts.ensures
     _ c.work.ensures _ c.work-2.ensures _ c.work-3.ensures _ c.work-4.ensures

@@ -2,8 +2,8 @@
 -- one find what they ask for, and together they are its order.
 -- Assumes nothing.
 use Rattle.numbering.specs.Point.{at}
-use Rattle.component_grids.specs.Component.{pointsTo}
+use Rattle.component_grids.specs.Component.{points_to}
 use Rattle.component_order.proofs.+work.Given as goal
 
 abbrev pub decreases-work : goal.decreases-work
-decreases-work l = pointsTo (at l.levels) l.layout.axes
+decreases-work l = points_to (at l.levels) l.layout.axes

@@ -2,20 +2,20 @@
 -- Assumes nothing.
 use mathlib.Core.Path.{ap, ◌∙◌}
 use Prim.Native.Nat.{ℕ}
-use Rattle.component_boxes.specs.Order.{orderIn}
-use Rattle.component_sweeps.specs.Steps.{topsOf}
-use Rattle.component_order.specs.InOrder.{workedIn}
-use Rattle.component_order.proofs.Loading.{loaded-mixed, in-order-is}
+use Rattle.component_boxes.specs.Order.{order_in}
+use Rattle.component_sweeps.specs.Steps.{tops_of}
+use Rattle.component_order.specs.InOrder.{worked_in}
+use Rattle.component_order.proofs.Loading.{loaded_mixed, in_order_is}
 use Rattle.component_order.proofs.in_order.Goals as goal
 
 pub work-requires : goal.work-requires
 work-requires c =
-    (c.requires.0, rw c.middle_point.ensures (loaded-mixed _ _ _ c.requires.1))
+    (c.requires.0, rw c.middle_point.ensures (loaded_mixed _ _ _ c.requires.1))
 
 pub returns : goal.returns
 returns c =
     let d = c.args.layout.axes in
-    let tops = topsOf c.args.layout in
+    let tops = tops_of c.args.layout in
     c.work.ensures
-    ∙ ap (λ (p : ℕ). workedIn d tops (orderIn d tops 0 d tops p) c.args.table.now) c.middle_point.ensures
-    ∙ in-order-is d tops c.args.table.now
+    ∙ ap (λ (p : ℕ). worked_in d tops (order_in d tops 0 d tops p) c.args.table.now) c.middle_point.ensures
+    ∙ in_order_is d tops c.args.table.now

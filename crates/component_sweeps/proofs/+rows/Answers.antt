@@ -1,9 +1,9 @@
 use native.Mathlib.Omega.{arith}
-use Rattle.component_sweeps.proofs.Rowing.{axis-few, row_line, line_row, before, falling, u-few, turned_rows, rows-turned, rowing-starts, rowing-ends, next-rows, next_fits, rowing-steps}
+use Rattle.component_sweeps.proofs.Rowing.{axis_few, row_line, line_row, before, falling, u_few, turned_rows, rows_turned, rowing_starts, rowing_ends, next_rows, next_fits, rowing_steps}
 use Rattle.component_sweeps.proofs.+rows.Goals as goal
 
 pub bounds-strides-axis : goal.bounds-strides-axis
-bounds-strides-axis t c = axis-few _ _ _ _ _ _ _ _ _ _ _ _ _ _ _ _ c.requires.of
+bounds-strides-axis t c = axis_few _ _ _ _ _ _ _ _ _ _ _ _ _ _ _ _ c.requires.of
 
 pub line-requires : goal.line-requires
 line-requires t c =
@@ -23,17 +23,17 @@ returns-then-u-axis t c =
     λ g of.
     let more = c.if-j-from.false in
     let same = c.if-u-axis.true in
-    rows-turned _ _ _ _ _ _ _ _ _ _ _ _ _ _ _ _ of more _ (before _ _ _ _ _ _ _ _ _ _ _ _ _ _ _ _ of more) same _ (c.rows.ensures g (turned_rows _ _ _ _ _ _ _ _ _ _ _ _ _ _ _ _ of more _ (before _ _ _ _ _ _ _ _ _ _ _ _ _ _ _ _ of more) same))
+    rows_turned _ _ _ _ _ _ _ _ _ _ _ _ _ _ _ _ of more _ (before _ _ _ _ _ _ _ _ _ _ _ _ _ _ _ _ of more) same _ (c.rows.ensures g (turned_rows _ _ _ _ _ _ _ _ _ _ _ _ _ _ _ _ of more _ (before _ _ _ _ _ _ _ _ _ _ _ _ _ _ _ _ of more) same))
 
 pub bounds-sizes-u : goal.bounds-sizes-u
 bounds-sizes-u t c =
     let of = c.requires.of in
-    u-few _ _ _ _ _ _ _ _ _ _ _ _ _ _ _ _ of c.if-j-from.false _ (before _ _ _ _ _ _ _ _ _ _ _ _ _ _ _ _ of c.if-j-from.false)
+    u_few _ _ _ _ _ _ _ _ _ _ _ _ _ _ _ _ of c.if-j-from.false _ (before _ _ _ _ _ _ _ _ _ _ _ _ _ _ _ _ of c.if-j-from.false)
 
 pub loop-i-init : goal.loop-i-init
 loop-i-init t c =
     λ g of.
-    rowing-starts _ _ _ _ _ _ _ _ _ _ _ _ _ _ _ _ of c.if-j-from.false _ (before _ _ _ _ _ _ _ _ _ _ _ _ _ _ _ _ of c.if-j-from.false) c.if-u-axis.false
+    rowing_starts _ _ _ _ _ _ _ _ _ _ _ _ _ _ _ _ of c.if-j-from.false _ (before _ _ _ _ _ _ _ _ _ _ _ _ _ _ _ _ of c.if-j-from.false) c.if-u-axis.false
 
 pub rows-requires-in-loop-i : goal.rows-requires-in-loop-i
 rows-requires-in-loop-i t c =
@@ -42,7 +42,7 @@ rows-requires-in-loop-i t c =
       falling _ _ _ _ _ _ _ _ _ _ _ _ _ _ _ _ of more t c.decreases,
       record {
         turn = c.requires.turn;
-        of = next-rows _ _ _ _ _ _ _ _ _ _ _ _ _ _ _ _ of more _ (before _ _ _ _ _ _ _ _ _ _ _ _ _ _ _ _ of more) c.if-u-axis.false _ _ _ (c.loop-i.invariant _ of) c.loop-i-test.true;
+        of = next_rows _ _ _ _ _ _ _ _ _ _ _ _ _ _ _ _ of more _ (before _ _ _ _ _ _ _ _ _ _ _ _ _ _ _ _ of more) c.if-u-axis.false _ _ _ (c.loop-i.invariant _ of) c.loop-i-test.true;
       },
     )
 
@@ -58,10 +58,10 @@ loop-i-preserved t c =
     let more = c.if-j-from.false in
     let less = c.loop-i-test.true in
     let s = c.loop-i.invariant g of in
-    rowing-steps _ _ _ _ _ _ _ _ _ _ _ _ _ _ _ _ of more _ (before _ _ _ _ _ _ _ _ _ _ _ _ _ _ _ _ of more) c.if-u-axis.false _ _ _ s less _
-    (c.rows-in-loop-i.ensures g (next-rows _ _ _ _ _ _ _ _ _ _ _ _ _ _ _ _ of more _ (before _ _ _ _ _ _ _ _ _ _ _ _ _ _ _ _ of more) c.if-u-axis.false _ _ _ s less))
+    rowing_steps _ _ _ _ _ _ _ _ _ _ _ _ _ _ _ _ of more _ (before _ _ _ _ _ _ _ _ _ _ _ _ _ _ _ _ of more) c.if-u-axis.false _ _ _ s less _
+    (c.rows-in-loop-i.ensures g (next_rows _ _ _ _ _ _ _ _ _ _ _ _ _ _ _ _ of more _ (before _ _ _ _ _ _ _ _ _ _ _ _ _ _ _ _ of more) c.if-u-axis.false _ _ _ s less))
 
 pub returns : goal.returns
 returns t c =
     λ g of.
-    rowing-ends _ _ _ _ _ _ _ _ _ _ _ _ _ _ _ _ of c.if-j-from.false _ (before _ _ _ _ _ _ _ _ _ _ _ _ _ _ _ _ of c.if-j-from.false) c.if-u-axis.false _ _ _ (c.loop-i.invariant g of) c.loop-i-test.false
+    rowing_ends _ _ _ _ _ _ _ _ _ _ _ _ _ _ _ _ of c.if-j-from.false _ (before _ _ _ _ _ _ _ _ _ _ _ _ _ _ _ _ of c.if-j-from.false) c.if-u-axis.false _ _ _ (c.loop-i.invariant g of) c.loop-i-test.false

@@ -1,5 +1,5 @@
-use Rattle.component_sweeps.proofs.Covering.{covers-none}
+use Rattle.component_sweeps.proofs.Covering.{covers_none}
 use Rattle.component_sweeps.proofs.bands.Goals as goal
 
 pub loop-b-init : goal.loop-b-init
-loop-b-init c = covers-none _ _ _
+loop-b-init c = covers_none _ _ _

@@ -1,16 +1,16 @@
 use native.Mathlib.Omega.{arith}
-use Rattle.component_sweeps.proofs.Cornering.{cornering-starts, product-fits, enough, cornering-steps, cornering-ends}
+use Rattle.component_sweeps.proofs.Cornering.{cornering_starts, product_fits, enough, cornering_steps, cornering_ends}
 use Rattle.component_sweeps.proofs.corner.Goals as goal
 
 pub loop-t-init : goal.loop-t-init
 loop-t-init c =
-    cornering-starts _ _ _ c.requires.0 c.requires.1 _ c.requires.2
+    cornering_starts _ _ _ c.requires.0 c.requires.1 _ c.requires.2
 
 pub overflow_mul-q : goal.overflow_mul-q
 overflow_mul-q c =
     omega (
       arith,
-      product-fits _ _ _ c.requires.0 c.requires.1 _ _ _ c.loop-t.invariant c.loop-t-test.true _ _ c.power-half.ensures
+      product_fits _ _ _ c.requires.0 c.requires.1 _ _ _ c.loop-t.invariant c.loop-t-test.true _ _ c.power-half.ensures
           (c.requires.0.strides _ c.loop-t-test.true),
     )
 
@@ -21,9 +21,9 @@ overflow_sub-q-in-loop-t c =
 
 pub loop-t-preserved : goal.loop-t-preserved
 loop-t-preserved c =
-    cornering-steps _ _ _ c.requires.0 c.requires.1 _ _ _ c.loop-t.invariant c.loop-t-test.true _ _ c.power-half.ensures
+    cornering_steps _ _ _ c.requires.0 c.requires.1 _ _ _ c.loop-t.invariant c.loop-t-test.true _ _ c.power-half.ensures
     (c.requires.0.strides _ c.loop-t-test.true)
 
 pub returns : goal.returns
 returns c =
-    cornering-ends _ _ _ c.requires.0 c.requires.1 _ _ _ c.loop-t.invariant c.loop-t-test.false
+    cornering_ends _ _ _ c.requires.0 c.requires.1 _ _ _ c.loop-t.invariant c.loop-t-test.false

@@ -7,8 +7,8 @@ use lib.IntN.{pos}
 use lib.ListN.{get_or}
 use mir.Syntax.{w64}
 use mir.ValLaws.{to_z-of_z}
-use Rattle.hierarchy.specs.Turns.{valueAt}
-use Rattle.hierarchy.proofs.Values.{value-zero, value-suc}
+use Rattle.hierarchy.specs.Turns.{value_at}
+use Rattle.hierarchy.proofs.Values.{value_zero, value_suc}
 use Rattle.component_sweeps.specs.Steps.{ahead}
 use Rattle.component_sweeps.proofs.value_ahead.Goals as goal
 
@@ -18,10 +18,10 @@ returns-then-some c =
     let p = c.args.p in
     let far = c.args.far in
     to_z-of_z w64 (get_or xs (p + far) (pos 0)) (record { sfits = omega arith })
-    ∙ sym (value-suc xs (p + far))
-    ∙ ap (λ some. valueAt xs (ahead p far some)) (sym c.if-some.true)
+    ∙ sym (value_suc xs (p + far))
+    ∙ ap (λ some. value_at xs (ahead p far some)) (sym c.if-some.true)
 
 pub returns : goal.returns
 returns c =
     let xs = c.args.table.now in
-    sym (value-zero xs) ∙ ap (λ some. valueAt xs (ahead c.args.p c.args.far some)) (sym c.if-some.false)
+    sym (value_zero xs) ∙ ap (λ some. value_at xs (ahead c.args.p c.args.far some)) (sym c.if-some.false)

@@ -3,44 +3,44 @@ use borrow.Author.Count.{below_more}
 use borrow.Author.Rules.{rules}
 use borrow.Author.Tests.{le-leb, lt-leb}
 use lib.ListN.{length}
-use Rattle.naturals.proofs.Tests.{all_from, all-fails}
-use Rattle.components.specs.Components.{topsIn, lowAt, checkLevels}
+use Rattle.naturals.proofs.Tests.{all_from, all_fails}
+use Rattle.components.specs.Components.{tops_in, low_at, check_levels}
 use Rattle.components.proofs.check_levels.Goals as goal
 
 pub returns-then-levels-lt1 : goal.returns-then-levels-lt1
-unfolding checkLevels
+unfolding check_levels
 returns-then-levels-lt1 c = simp (lt-leb 1 (length c.args.levels.now) (omega arith))
 
 pub returns-then-levels-gt8 : goal.returns-then-levels-gt8
-unfolding checkLevels
+unfolding check_levels
 returns-then-levels-gt8 c =
     let ls = c.args.levels.now in
     simp (le-leb 1 (length ls) (omega arith), lt-leb (length ls) 8 (omega arith))
 
 pub returns-then-levels-t-gt8 : goal.returns-then-levels-t-gt8
-unfolding checkLevels lowAt
+unfolding check_levels low_at
 returns-then-levels-t-gt8 c =
     let loop = c.loop-t in
     let ls = c.args.levels.now in
     simp (
       le-leb 1 (length ls) (omega arith),
       le-leb (length ls) 8 (omega arith),
-      all-fails (lowAt ls) (length ls) loop.t (omega arith) (lt-leb (topsIn ls loop.t) 8 (omega (arith, c.if-levels-t-gt8.true))),
+      all_fails (low_at ls) (length ls) loop.t (omega arith) (lt-leb (tops_in ls loop.t) 8 (omega (arith, c.if-levels-t-gt8.true))),
     )
 
 pub loop-t-preserved : goal.loop-t-preserved
-unfolding lowAt
+unfolding low_at
 loop-t-preserved c =
     let loop = c.loop-t in
     let ls = c.args.levels.now in
-    (search rules, below_more _ _ loop.invariant.1 (le-leb (topsIn ls loop.t) 8 (omega (arith, c.if-levels-t-gt8.false))))
+    (search rules, below_more _ _ loop.invariant.1 (le-leb (tops_in ls loop.t) 8 (omega (arith, c.if-levels-t-gt8.false))))
 
 pub returns : goal.returns
-unfolding checkLevels
+unfolding check_levels
 returns c =
     let ls = c.args.levels.now in
     simp (
       le-leb 1 (length ls) (omega arith),
       le-leb (length ls) 8 (omega arith),
-      all_from (lowAt ls) (length ls) (λ t h. c.loop-t.invariant.1 t (omega arith)),
+      all_from (low_at ls) (length ls) (λ t h. c.loop-t.invariant.1 t (omega arith)),
     )

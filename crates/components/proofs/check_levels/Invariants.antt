@@ -4,11 +4,11 @@
 use Prim.Native.Nat.{◌≤◌, ◌-◌}
 use lib.ListN.{length}
 use Rattle.naturals.specs.FirstFailing.{Passes}
-use Rattle.components.specs.Components.{lowAt}
+use Rattle.components.specs.Components.{low_at}
 use Rattle.components.proofs.check_levels.Given as goal
 
 abbrev pub invariant-loop-t : goal.invariant-loop-t
-invariant-loop-t l = (l.t ≤ length l.levels) × Passes (lowAt l.levels) l.t
+invariant-loop-t l = (l.t ≤ length l.levels) × Passes (low_at l.levels) l.t
 
 abbrev pub decreases-loop-t : goal.decreases-loop-t
 decreases-loop-t l = length l.levels - l.t

@@ -6,28 +6,28 @@ use native.Mathlib.Omega.{arith}
 use Rattle.refusals.specs.declared.Verdict.TheVariants.{Passed}
 use Rattle.states.specs.After.{left}
 use Rattle.components.specs.Accepted.{AcceptedOn}
-use Rattle.components.proofs.Checked.{levels-passed, grid-levels}
-use Rattle.components.proofs.Accepting.{passed-accepted, accepted-rates, component-accepted}
-use Rattle.components.proofs.Answering.{component-refused, may-work, work-ends}
+use Rattle.components.proofs.Checked.{levels_passed, grid_levels}
+use Rattle.components.proofs.Accepting.{passed_accepted, accepted_rates, component_accepted}
+use Rattle.components.proofs.Answering.{component_refused, may_work, work_ends}
 use Rattle.components.proofs.component_coefficients.Goals.{In_default}
 use Rattle.components.proofs.component_coefficients.Goals as goal
 
 -- the rates are accepted
 accepted : (c : In_default) →
     let a = c.args in AcceptedOn a.levels.now a.table.now
-accepted c = passed-accepted _ _ (sym c.check_component.ensures ∙ c.in_default.is)
+accepted c = passed_accepted _ _ (sym c.check_component.ensures ∙ c.in_default.is)
 
 pub returns-in-Refused : goal.returns-in-Refused
 returns-in-Refused c =
-    component-refused _ _ c.in-Refused.r (sym c.check_component.ensures ∙ c.in-Refused.is)
+    component_refused _ _ c.in-Refused.r (sym c.check_component.ensures ∙ c.in-Refused.is)
 
 pub overflow_cast-axes : goal.overflow_cast-axes
-overflow_cast-axes c = omega (arith, (levels-passed _ (grid-levels _ (accepted (goal.at.overflow_cast-axes c).In_default).grid)).high)
+overflow_cast-axes c = omega (arith, (levels_passed _ (grid_levels _ (accepted (goal.at.overflow_cast-axes c).In_default).grid)).high)
 
 pub scale-requires : goal.scale-requires
 scale-requires c = (
-  omega (arith, (levels-passed _ (grid-levels _ (accepted (goal.at.scale-requires c).In_default).grid)).high),
-  accepted-rates _ _ (accepted (goal.at.scale-requires c).In_default),
+  omega (arith, (levels_passed _ (grid_levels _ (accepted (goal.at.scale-requires c).In_default).grid)).high),
+  accepted_rates _ _ (accepted (goal.at.scale-requires c).In_default),
 )
 
 pub layout_of-requires : goal.layout_of-requires
@@ -36,11 +36,11 @@ layout_of-requires c = (accepted (goal.at.layout_of-requires c).In_default).grid
 pub in_order-requires : goal.in_order-requires
 in_order-requires c =
     let laid = c.layout_of in
-    (laid.ensures.laid, rw c.scale.ensures (may-work _ _ (accepted (goal.at.in_order-requires c).In_default) laid.result laid.ensures))
+    (laid.ensures.laid, rw c.scale.ensures (may_work _ _ (accepted (goal.at.in_order-requires c).In_default) laid.result laid.ensures))
 
 pub returns : goal.returns
 returns c =
     let laid = c.layout_of in
     let a = accepted (goal.at.returns c).In_default in
-    ap (left Passed) (c.in_order.ensures ∙ rw c.scale.ensures (work-ends _ _ a laid.result laid.ensures))
-    ∙ sym (component-accepted _ _ a)
+    ap (left Passed) (c.in_order.ensures ∙ rw c.scale.ensures (work_ends _ _ a laid.result laid.ensures))
+    ∙ sym (component_accepted _ _ a)

@@ -1,5 +1,5 @@
 use native.Mathlib.Omega.{arith}
-use Rattle.cursors.proofs.Filling.{fills, after-last}
+use Rattle.cursors.proofs.Filling.{fills, after_last}
 use Rattle.cursors.proofs.after_last.Goals as goal
 
 pub loop-j-preserved : goal.loop-j-preserved
@@ -8,5 +8,5 @@ loop-j-preserved c =
     let (on, held, low) = c.requires in (
       omega arith,
       omega arith,
-      fills j _ c.loop-j.invariant.2 (omega arith) (after-last held c.args.sum j low c.loop-j-test.true on),
+      fills j _ c.loop-j.invariant.2 (omega arith) (after_last held c.args.sum j low c.loop-j-test.true on),
     )

@@ -1,5 +1,5 @@
 use native.Mathlib.Omega.{arith}
-use Rattle.cursors.proofs.Filling.{fills, before-first}
+use Rattle.cursors.proofs.Filling.{fills, before_first}
 use Rattle.cursors.proofs.before_first.Goals as goal
 
 pub loop-j-preserved : goal.loop-j-preserved
@@ -8,5 +8,5 @@ loop-j-preserved c =
     let (on, held, low) = c.requires in (
       omega arith,
       omega arith,
-      fills j _ c.loop-j.invariant.2 (omega arith) (before-first held c.args.sum j low c.loop-j-test.true),
+      fills j _ c.loop-j.invariant.2 (omega arith) (before_first held c.args.sum j low c.loop-j-test.true),
     )

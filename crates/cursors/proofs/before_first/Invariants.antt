@@ -1,11 +1,11 @@
 -- `cursors::before_first` meets its contract. The loop's invariant: the cursors before j are filled in. The measure is the cursors that are left.
 -- Assumes nothing.
 use Prim.Native.Nat.{suc, ◌-◌, ◌≤◌}
-use Rattle.cursors.proofs.Filling.{Filled, cursorAt}
+use Rattle.cursors.proofs.Filling.{Filled, cursor_at}
 use Rattle.cursors.proofs.before_first.Given as goal
 
 abbrev pub invariant-loop-j : goal.invariant-loop-j
-invariant-loop-j l = (1 ≤ l.j) × (l.j ≤ suc l.sum) × Filled (cursorAt l.fn.line l.sum 0) 9 1 l.j l.cursors
+invariant-loop-j l = (1 ≤ l.j) × (l.j ≤ suc l.sum) × Filled (cursor_at l.fn.line l.sum 0) 9 1 l.j l.cursors
 
 abbrev pub decreases-loop-j : goal.decreases-loop-j
 decreases-loop-j l = suc l.sum - l.j

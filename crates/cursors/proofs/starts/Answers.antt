@@ -3,14 +3,14 @@ use Prim.Native.Nat.{◌+◌, ◌*◌, ◌%◌, ◌^◌}
 use native.Mathlib.Numerals.{add-one}
 use native.Mathlib.Omega.{arith}
 use Rattle.numbering.specs.Count.{start}
-use Rattle.shapes.proofs.Totals.{start-zero, start_small, turn}
+use Rattle.shapes.proofs.Totals.{start_zero, start_small, turn}
 use Rattle.cursors.proofs.Filling.{fills}
 use Rattle.cursors.proofs.starts.Goals.{After-vector_count}
 use Rattle.cursors.proofs.starts.Goals as goal
 
 pub loop-s-init : goal.loop-s-init
 loop-s-init c =
-    let first : 0 ≡ start c.args.line.axes 0 = sym (start-zero c.args.line.axes) in
+    let first : 0 ≡ start c.args.line.axes 0 = sym (start_zero c.args.line.axes) in
     (omega arith, first, record { size = refl; holds = λ i from to. let same : i ≡ 0 = omega arith in rw same first })
 
 -- the total after a turn of the loop

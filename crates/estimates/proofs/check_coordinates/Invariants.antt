@@ -4,11 +4,11 @@
 use Prim.Native.Nat.{◌≤◌, ◌-◌}
 use Rattle.naturals.specs.FirstFailing.{Passes}
 use Rattle.surfaces.specs.Weights.{unit}
-use Rattle.estimates.specs.Estimates.{insideAt}
+use Rattle.estimates.specs.Estimates.{inside_at}
 use Rattle.estimates.proofs.check_coordinates.Given as goal
 
 abbrev pub invariant-loop-t : goal.invariant-loop-t
-invariant-loop-t l = (l.t ≤ l.axes) × Passes (insideAt unit l.coordinates) l.t
+invariant-loop-t l = (l.t ≤ l.axes) × Passes (inside_at unit l.coordinates) l.t
 
 abbrev pub decreases-loop-t : goal.decreases-loop-t
 decreases-loop-t l = l.axes - l.t

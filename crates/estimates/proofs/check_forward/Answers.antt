@@ -4,18 +4,18 @@ use mathlib.Core.Path.{sym}
 use mathlib.Core.Bool.{false}
 use native.Mathlib.Omega.{arith}
 use Rattle.refusals.specs.declared.Refusal.TheVariants.{StillSampled}
-use Rattle.states.proofs.Checked.{axis-found, none_found}
-use Rattle.estimates.specs.Estimates.{checkForward}
+use Rattle.states.proofs.Checked.{axis_found, none_found}
+use Rattle.estimates.specs.Estimates.{check_forward}
 use Rattle.estimates.proofs.check_forward.Goals as goal
 
 pub returns-then-first-shape : goal.returns-then-first-shape
-unfolding checkForward
+unfolding check_forward
 returns-then-first-shape c =
     let found = c.first_axis-first in
-    sym (axis-found false StillSampled c.args.state found.result found.ensures (omega arith))
+    sym (axis_found false StillSampled c.args.state found.result found.ensures (omega arith))
 
 pub returns : goal.returns
-unfolding checkForward
+unfolding check_forward
 returns c =
     let found = c.first_axis-first in
     sym (none_found false StillSampled c.args.state found.result found.ensures (omega arith))

@@ -5,23 +5,23 @@ use lib.ListN.{length}
 use mir.Syntax.{w64}
 use mir.ValLaws.{to_z-of_z}
 use Rattle.refusals.specs.declared.Verdict.TheVariants.{Passed}
-use Rattle.states.specs.States.{checkState}
+use Rattle.states.specs.States.{check_state}
 use Rattle.estimates.specs.declared.Estimated.TheVariants.{Value}
 use Rattle.surfaces.specs.Weights.{unit}
-use Rattle.estimates.specs.Estimates.{checkForward, checkCoordinates}
-use Rattle.estimates.proofs.Answering.{unchecked, in-range, half-turned, outside, past-limit, evaluable, estimated}
+use Rattle.estimates.specs.Estimates.{check_forward, check_coordinates}
+use Rattle.estimates.proofs.Answering.{unchecked, in_range, half_turned, outside, past_limit, evaluable, estimated}
 use Rattle.estimates.proofs.estimate.Goals.{In_default, In_default-check_coordinates, In_default-check_forward}
 use Rattle.estimates.proofs.estimate.Goals as goal
 
 -- the checks that passed
-checked : (c : In_default) → let a = c.args in checkState a.state (length a.table.now) ≡ Passed
+checked : (c : In_default) → let a = c.args in check_state a.state (length a.table.now) ≡ Passed
 checked c = sym c.check_state.ensures ∙ c.in_default.is
 
-forward : (c : In_default-check_forward) → checkForward c.args.state ≡ Passed
+forward : (c : In_default-check_forward) → check_forward c.args.state ≡ Passed
 forward c = sym c.check_forward.ensures ∙ c.in_default-check_forward.is
 
 listed : (c : In_default-check_coordinates) →
-    let a = c.args in checkCoordinates unit a.state.shape.axes a.coordinates.now ≡ Passed
+    let a = c.args in check_coordinates unit a.state.shape.axes a.coordinates.now ≡ Passed
 listed c = sym c.check_coordinates.ensures ∙ c.in_default-check_coordinates.is
 
 pub returns-in-Refused : goal.returns-in-Refused
@@ -32,13 +32,13 @@ returns-in-Refused c =
     (sym c.check_state.ensures ∙ c.in-Refused.is))
 
 pub check_forward-requires : goal.check_forward-requires
-check_forward-requires c = let a = c.args in (in-range a.state a.table.now a.coordinates.now (checked (goal.at.check_forward-requires c).In_default)).high
+check_forward-requires c = let a = c.args in (in_range a.state a.table.now a.coordinates.now (checked (goal.at.check_forward-requires c).In_default)).high
 
 pub returns-in-Refused-check_forward : goal.returns-in-Refused-check_forward
 returns-in-Refused-check_forward c =
     let a = c.args in
     sym
-    (half-turned a.state a.table.now a.coordinates.now (checked (goal.at.returns-in-Refused-check_forward c).In_default) c.in-Refused-check_forward.r
+    (half_turned a.state a.table.now a.coordinates.now (checked (goal.at.returns-in-Refused-check_forward c).In_default) c.in-Refused-check_forward.r
     (sym c.check_forward.ensures ∙ c.in-Refused-check_forward.is))
 
 pub returns-in-Refused-check_coordinates : goal.returns-in-Refused-check_coordinates
@@ -52,7 +52,7 @@ pub returns-then-not-all_in_limit : goal.returns-then-not-all_in_limit
 returns-then-not-all_in_limit c =
     let a = c.args in
     sym
-    (past-limit a.state a.table.now a.coordinates.now (checked (goal.at.returns-then-not-all_in_limit c).In_default) (forward (goal.at.returns-then-not-all_in_limit c).In_default-check_forward) (listed (goal.at.returns-then-not-all_in_limit c).In_default-check_coordinates)
+    (past_limit a.state a.table.now a.coordinates.now (checked (goal.at.returns-then-not-all_in_limit c).In_default) (forward (goal.at.returns-then-not-all_in_limit c).In_default-check_forward) (listed (goal.at.returns-then-not-all_in_limit c).In_default-check_coordinates)
     (sym c.all_in_limit.ensures ∙ c.if-not-all_in_limit.true))
 
 pub evaluate-requires : goal.evaluate-requires

@@ -3,7 +3,7 @@ use native.Mathlib.Omega.{arith}
 use lib.Pow.{pow_mono}
 use Rattle.numbering.specs.Point.{at}
 use Rattle.surfaces.specs.Weights.{unit}
-use Rattle.axis_weights.specs.Steps.{indexOfCell}
+use Rattle.axis_weights.specs.Steps.{index_of_cell}
 use Rattle.axis_weights.proofs.Weighing.{index_below}
 use Rattle.evaluation.proofs.tabulated.Goals.{After-cell-here, In-loop-t}
 use Rattle.evaluation.proofs.tabulated.Goals as goal
@@ -13,7 +13,7 @@ here : (c : In-loop-t) → at c.args.coordinates.now c.loop-t.t ≤ unit
 here c = c.requires.coordinates c.loop-t.t c.loop-t-test.true
 
 -- the index is one of its level
-index : (c : After-cell-here) → indexOfCell c.cell-here.result < 2 ^ suc c.loop-t.level
+index : (c : After-cell-here) → index_of_cell c.cell-here.result < 2 ^ suc c.loop-t.level
 index c =
     omega (
       arith,
@@ -21,7 +21,7 @@ index c =
       index_below (at c.args.coordinates.now c.loop-t.t) c.loop-t.level,
     )
 
-small : (c : After-cell-here) → indexOfCell c.cell-here.result < 512
+small : (c : After-cell-here) → index_of_cell c.cell-here.result < 512
 small c = omega (arith, index c, pow_mono {i = suc c.loop-t.level} {j = 9} (omega arith))
 
 pub overflow_mul-here : goal.overflow_mul-here

@@ -4,30 +4,30 @@ use mathlib.Core.Path.{◌≡◌, sym, ◌∙◌}
 use native.Mathlib.Omega.{arith}
 use borrow.Author.Tests.{le-leb, lt-leb}
 use Rattle.refusals.specs.declared.Verdict.TheVariants.{Passed}
-use Rattle.shapes.specs.Shapes.{checkShape, pointsOf}
-use Rattle.house_file.specs.Steps.{checkPlaces}
+use Rattle.shapes.specs.Shapes.{check_shape, points_of}
+use Rattle.house_file.specs.Steps.{check_places}
 use Rattle.house_file.proofs.check_places.Goals.{In_default}
 use Rattle.house_file.proofs.check_places.Goals as goal
 
 -- the shape passed
-passed : (c : In_default) → checkShape c.args.shape ≡ Passed
+passed : (c : In_default) → check_shape c.args.shape ≡ Passed
 passed c = sym c.check_shape.ensures ∙ c.in_default.is
 
 pub returns-in-Refused : goal.returns-in-Refused
-unfolding checkPlaces
+unfolding check_places
 returns-in-Refused c = rw (← c.check_shape.ensures, c.in-Refused.is)
 
 pub points_of-requires : goal.points_of-requires
 points_of-requires c = passed (goal.at.points_of-requires c).In_default
 
 pub returns-then-places-points_of : goal.returns-then-places-points_of
-unfolding checkPlaces
+unfolding check_places
 returns-then-places-points_of c =
     let a = c.args in
-    rw (passed (goal.at.returns-then-places-points_of c).In_default, lt-leb (pointsOf a.shape) a.places (omega (arith, c.points_of.ensures)))
+    rw (passed (goal.at.returns-then-places-points_of c).In_default, lt-leb (points_of a.shape) a.places (omega (arith, c.points_of.ensures)))
 
 pub returns : goal.returns
-unfolding checkPlaces
+unfolding check_places
 returns c =
     let a = c.args in
-    rw (passed (goal.at.returns c).In_default, le-leb (pointsOf a.shape) a.places (omega (arith, c.points_of.ensures)))
+    rw (passed (goal.at.returns c).In_default, le-leb (points_of a.shape) a.places (omega (arith, c.points_of.ensures)))

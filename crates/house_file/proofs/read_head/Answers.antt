@@ -2,18 +2,18 @@
 -- Assumes nothing.
 use mathlib.Core.Path.{sym}
 use lib.ListN.{drop}
-use Rattle.house_file.proofs.Answering.{first-refused, second-refused, head-named}
+use Rattle.house_file.proofs.Answering.{first_refused, second_refused, head_named}
 use Rattle.house_file.proofs.read_head.Goals as goal
 
 pub returns-in-Refused : goal.returns-in-Refused
-returns-in-Refused c = sym (first-refused c.args.bytes.now (sym c.in-Refused.ensures))
+returns-in-Refused c = sym (first_refused c.args.bytes.now (sym c.in-Refused.ensures))
 
 pub returns-in-Refused-number_at : goal.returns-in-Refused-number_at
 returns-in-Refused-number_at c =
     let bytes = c.args.bytes.now in
-    sym (second-refused bytes c.in-Got.axes (drop c.in-Got.more bytes) (sym c.in-Got.ensures) (sym c.in-Refused-number_at.ensures))
+    sym (second_refused bytes c.in-Got.axes (drop c.in-Got.more bytes) (sym c.in-Got.ensures) (sym c.in-Refused-number_at.ensures))
 
 pub returns-in-Got-number_at : goal.returns-in-Got-number_at
 returns-in-Got-number_at c =
     let bytes = c.args.bytes.now in
-    sym (head-named bytes c.in-Got.axes (drop c.in-Got.more bytes) (sym c.in-Got.ensures) (sym c.in-Got-number_at.ensures))
+    sym (head_named bytes c.in-Got.axes (drop c.in-Got.more bytes) (sym c.in-Got.ensures) (sym c.in-Got-number_at.ensures))

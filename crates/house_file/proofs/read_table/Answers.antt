@@ -5,25 +5,25 @@ use native.Mathlib.Omega.{arith}
 use lib.ListN.{length, drop}
 use Rattle.refusals.specs.declared.Verdict.TheVariants.{Passed}
 use Rattle.house_file.specs.declared.Opened.TheVariants.{Holds}
-use Rattle.house_file.specs.Files.{afterReading, filledWith}
-use Rattle.house_rates.specs.Steps.{ratesOver}
-use Rattle.house_file.specs.Steps.{checkedRest}
-use Rattle.house_file.proofs.Answering.{table-refused, table_fits, rates-checked, table-opens}
+use Rattle.house_file.specs.Files.{after_reading, filled_with}
+use Rattle.house_rates.specs.Steps.{rates_over}
+use Rattle.house_file.specs.Steps.{checked_rest}
+use Rattle.house_file.proofs.Answering.{table_refused, table_fits, rates_checked, table_opens}
 use Rattle.house_file.proofs.read_table.Goals.{In_default}
 use Rattle.house_file.proofs.read_table.Goals as goal
 
 -- all checks passed
 passed : (c : In_default) →
     let a = c.args in
-    checkedRest (length a.table.now) a.shape (drop a.from a.bytes.now) ≡ Passed
+    checked_rest (length a.table.now) a.shape (drop a.from a.bytes.now) ≡ Passed
 passed c = sym c.check_rest.ensures ∙ c.in_default.is
 
 pub returns-in-Refused : goal.returns-in-Refused
 returns-in-Refused c =
     let a = c.args in
-    ap (filledWith a.table.now)
+    ap (filled_with a.table.now)
     (sym
-    (table-refused (length a.table.now) a.shape (drop a.from a.bytes.now)
+    (table_refused (length a.table.now) a.shape (drop a.from a.bytes.now)
     (sym c.check_rest.ensures ∙ c.in-Refused.is)))
 
 pub points_of-count-requires : goal.points_of-count-requires
@@ -36,14 +36,14 @@ fill-requires c =
     let a = c.args in
     let rest = drop a.from a.bytes.now in
     let count = c.points_of-count.ensures in (
-      rw count (rates-checked (length a.table.now) a.shape rest (passed (goal.at.fill-requires c).In_default)),
+      rw count (rates_checked (length a.table.now) a.shape rest (passed (goal.at.fill-requires c).In_default)),
       omega (arith, count, (table_fits (length a.table.now) a.shape rest (passed (goal.at.fill-requires c).In_default)).room),
     )
 
 pub returns : goal.returns
-unfolding ratesOver
+unfolding rates_over
 returns c =
     let a = c.args in
-    let opens = table-opens (length a.table.now) a.shape (drop a.from a.bytes.now) (passed (goal.at.returns c).In_default) in
-    ap (afterReading (Holds a.shape)) (rw c.points_of-count.ensures at c.fill.ensures)
-    ∙ sym (ap (filledWith a.table.now) opens.is)
+    let opens = table_opens (length a.table.now) a.shape (drop a.from a.bytes.now) (passed (goal.at.returns c).In_default) in
+    ap (after_reading (Holds a.shape)) (rw c.points_of-count.ensures at c.fill.ensures)
+    ∙ sym (ap (filled_with a.table.now) opens.is)

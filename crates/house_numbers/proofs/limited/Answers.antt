@@ -3,13 +3,13 @@
 use native.Mathlib.Omega.{arith}
 use borrow.Author.Tests.{le-leb, lt-leb}
 use Rattle.house_numbers.specs.Numbers.{largest}
-use Rattle.house_numbers.specs.Steps.{limitedNumber}
+use Rattle.house_numbers.specs.Steps.{limited_number}
 use Rattle.house_numbers.proofs.limited.Goals as goal
 
 pub returns-then-value-gt-LARGEST : goal.returns-then-value-gt-LARGEST
-unfolding limitedNumber largest
+unfolding limited_number largest
 returns-then-value-gt-LARGEST c = rw (lt-leb c.args.value 4294967295 (omega arith))
 
 pub returns : goal.returns
-unfolding limitedNumber largest
+unfolding limited_number largest
 returns c = rw (le-leb c.args.value 4294967295 (omega arith))

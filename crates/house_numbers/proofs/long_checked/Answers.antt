@@ -5,28 +5,28 @@ use lib.ListN.{length, get_or, drop}
 use borrow.Author.Rules.{rules}
 use Rattle.house_numbers.specs.Reading.{got}
 use Rattle.house_numbers.specs.Numbers.{largest}
-use Rattle.house_numbers.proofs.Gathering.{gathered-starts, sum_fits, gathered-steps}
-use Rattle.house_numbers.proofs.CheckedNumbers.{byte-there, fifth-last, value-filed, value_read}
+use Rattle.house_numbers.proofs.Gathering.{gathered_starts, sum_fits, gathered_steps}
+use Rattle.house_numbers.proofs.CheckedNumbers.{byte_there, fifth_last, value_filed, value_read}
 use Rattle.house_numbers.proofs.long_checked.Goals.{After-loop-shift, After-placed-2, In-loop-shift}
 use Rattle.house_numbers.proofs.long_checked.Goals as goal
 
 -- a byte follows
 there : (c : In-loop-shift) → c.loop-shift.at < length c.args.bytes.now
-there c = byte-there c.loop-shift.invariant.0 (omega (arith, c.loop-shift.invariant.1)) c.requires
+there c = byte_there c.loop-shift.invariant.0 (omega (arith, c.loop-shift.invariant.1)) c.requires
 
 -- the fifth byte, and it is the last
 past : (c : After-loop-shift) → c.loop-shift.at < length c.args.bytes.now
-past c = byte-there c.loop-shift.invariant.0 (omega (arith, c.loop-shift.invariant.1)) c.requires
+past c = byte_there c.loop-shift.invariant.0 (omega (arith, c.loop-shift.invariant.1)) c.requires
 
 ends : (c : After-loop-shift) →
     get_or c.args.bytes.now c.loop-shift.at 0 < 128
 ends c =
     let loop = c.loop-shift in
-    fifth-last loop.invariant.0 (omega (arith, loop.invariant.1)) c.requires (omega arith)
+    fifth_last loop.invariant.0 (omega (arith, loop.invariant.1)) c.requires (omega arith)
     (omega (arith, c.type_inv.bytes loop.at))
 
 pub loop-shift-init : goal.loop-shift-init
-loop-shift-init c = (gathered-starts _ _, omega arith)
+loop-shift-init c = (gathered_starts _ _, omega arith)
 
 pub bounds-bytes-at : goal.bounds-bytes-at
 bounds-bytes-at c = there (goal.at.bounds-bytes-at c).In-loop-shift
@@ -43,7 +43,7 @@ pub overflow_cast-result : goal.overflow_cast-result
 unfolding largest
 overflow_cast-result c =
     let loop = c.loop-shift in
-    omega (arith, c.placed.ensures, value-filed loop.invariant.0 (omega (arith, loop.invariant.1)) c.requires c.if-byte-lt128.true)
+    omega (arith, c.placed.ensures, value_filed loop.invariant.0 (omega (arith, loop.invariant.1)) c.requires c.if-byte-lt128.true)
 
 pub returns-then-byte-lt128 : goal.returns-then-byte-lt128
 returns-then-byte-lt128 c =
@@ -64,7 +64,7 @@ pub loop-shift-preserved : goal.loop-shift-preserved
 loop-shift-preserved c =
     let loop = c.loop-shift in (
       rw c.placed-value.ensures
-          (gathered-steps loop.invariant.0 (omega (arith, loop.invariant.1)) (there (goal.at.loop-shift-preserved c).In-loop-shift)
+          (gathered_steps loop.invariant.0 (omega (arith, loop.invariant.1)) (there (goal.at.loop-shift-preserved c).In-loop-shift)
           (omega arith) (omega arith)),
       omega (arith, loop.invariant.0.places),
     )
@@ -95,7 +95,7 @@ pub overflow_cast-result-2 : goal.overflow_cast-result-2
 unfolding largest
 overflow_cast-result-2 c =
     let loop = c.loop-shift in
-    omega (arith, whole (goal.at.overflow_cast-result-2 c).After-placed-2, value-filed loop.invariant.0 (omega (arith, loop.invariant.1)) c.requires (ends (goal.at.overflow_cast-result-2 c).After-loop-shift))
+    omega (arith, whole (goal.at.overflow_cast-result-2 c).After-placed-2, value_filed loop.invariant.0 (omega (arith, loop.invariant.1)) c.requires (ends (goal.at.overflow_cast-result-2 c).After-loop-shift))
 
 pub overflow_add-result-3 : goal.overflow_add-result-3
 overflow_add-result-3 c = search (rules, past (goal.at.overflow_add-result-3 c).After-loop-shift)

@@ -2,12 +2,12 @@ use mathlib.Core.Path.{sym, ap, ◌∙◌}
 use Prim.Native.Nat.{ℕ, ◌+◌, ◌-◌}
 use native.Mathlib.Omega.{arith}
 use lib.ListN.{get_or}
-use Rattle.house_numbers.specs.Steps.{numberIn, limitedNumber}
-use Rattle.house_numbers.proofs.Gathering.{gathered-starts, gathered-steps, gathered-ends, too_long, too_short, shift_small, sum_fits}
+use Rattle.house_numbers.specs.Steps.{number_in, limited_number}
+use Rattle.house_numbers.proofs.Gathering.{gathered_starts, gathered_steps, gathered_ends, too_long, too_short, shift_small, sum_fits}
 use Rattle.house_numbers.proofs.long_number.Goals as goal
 
 pub loop-shift-init : goal.loop-shift-init
-loop-shift-init c = gathered-starts _ _
+loop-shift-init c = gathered_starts _ _
 
 pub returns-then-bytes-at : goal.returns-then-bytes-at
 returns-then-bytes-at c = sym (too_short c.loop-shift.invariant (omega arith) (omega arith))
@@ -25,8 +25,8 @@ pub returns-then-byte-lt128 : goal.returns-then-byte-lt128
 returns-then-byte-lt128 c =
     let loop = c.loop-shift in
     let bytes = c.args.bytes.now in
-    ap (numberIn bytes) (c.limited.ensures ∙ ap (λ (v : ℕ). limitedNumber (loop.value + v) (loop.at + 1)) c.placed.ensures)
-    ∙ sym (gathered-ends loop.invariant (omega arith) (omega arith) (omega arith))
+    ap (number_in bytes) (c.limited.ensures ∙ ap (λ (v : ℕ). limited_number (loop.value + v) (loop.at + 1)) c.placed.ensures)
+    ∙ sym (gathered_ends loop.invariant (omega arith) (omega arith) (omega arith))
 
 pub placed-value-requires : goal.placed-value-requires
 placed-value-requires c =
@@ -44,7 +44,7 @@ pub loop-shift-preserved : goal.loop-shift-preserved
 loop-shift-preserved c =
     let loop = c.loop-shift in
     rw c.placed-value.ensures
-    (gathered-steps loop.invariant (omega arith) (omega arith) (omega arith) (omega arith))
+    (gathered_steps loop.invariant (omega arith) (omega arith) (omega arith) (omega arith))
 
 pub returns : goal.returns
 returns c = sym (too_long c.loop-shift.invariant (omega arith))

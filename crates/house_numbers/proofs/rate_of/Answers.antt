@@ -8,7 +8,7 @@ use lib.IntN.{ℤ, negsuc, ◌-ℤ◌}
 use mir.Syntax.{w64}
 use mir.Val.{to_z, of_z}
 use mir.ValLaws.{to_z_pos, to_z-of_z}
-use Rattle.house_numbers.proofs.Filing.{rate-even, rate-odd, one_below}
+use Rattle.house_numbers.proofs.Filing.{rate_even, rate_odd, one_below}
 use Rattle.house_numbers.proofs.rate_of.Goals.{Start}
 use Rattle.house_numbers.proofs.rate_of.Goals as goal
 
@@ -19,7 +19,7 @@ below c = ap (λ (z : ℤ). negsuc 0 -ℤ z) (to_z_pos w64 (c.args.filed / 2) (o
 pub returns-then-filed-eq0 : goal.returns-then-filed-eq0
 returns-then-filed-eq0 c =
     let u = c.args.filed in
-    to_z_pos w64 (u / 2) (omega arith) ∙ sym (rate-even u (sym (and_mask u 1) ∙ c.if-filed-eq0.true))
+    to_z_pos w64 (u / 2) (omega arith) ∙ sym (rate_even u (sym (and_mask u 1) ∙ c.if-filed-eq0.true))
 
 pub overflow_sub-result : goal.overflow_sub-result
 overflow_sub-result c = rw (below (goal.at.overflow_sub-result c).Start) (record { sfits = omega arith })
@@ -28,4 +28,4 @@ pub returns : goal.returns
 returns c =
     let u = c.args.filed in
     ap (λ (z : ℤ). to_z w64 (of_z w64 z)) (below (goal.at.returns c).Start) ∙ to_z-of_z w64 (negsuc (u / 2)) (record { sfits = omega arith })
-    ∙ sym (rate-odd u (λ e. c.if-filed-eq0.false (and_mask u 1 ∙ e)))
+    ∙ sym (rate_odd u (λ e. c.if-filed-eq0.false (and_mask u 1 ∙ e)))

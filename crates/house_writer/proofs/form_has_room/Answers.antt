@@ -6,10 +6,10 @@ use native.Mathlib.Omega.{arith}
 use lib.ListN.{drop}
 use lib.Seq.{get_or-drop}
 use borrow.Author.Tests.{le-leb}
-use Rattle.house_rates.specs.Rates.{readRates}
-use Rattle.house_rates.specs.Steps.{ratesRead}
-use Rattle.house_file.proofs.Lengths.{Bytes, rates-most}
-use Rattle.house_writer.proofs.Forms.{read-many, read-few}
+use Rattle.house_rates.specs.Rates.{read_rates}
+use Rattle.house_rates.specs.Steps.{rates_read}
+use Rattle.house_file.proofs.Lengths.{Bytes, rates_most}
+use Rattle.house_writer.proofs.Forms.{read_many, read_few}
 use Rattle.house_writer.proofs.form_has_room.Goals as goal
 
 pub returns-then-bytes-room : goal.returns-then-bytes-room
@@ -17,7 +17,7 @@ returns-then-bytes-room c =
     let a = c.args in
     let byte : Bytes (drop a.from a.bytes.now) =
     λ (i : ℕ). omega (arith, c.type_inv.bytes (a.from + i), get_or-drop a.from a.bytes.now i 0) in
-    sym (le-leb _ a.room (omega (arith, c.requires.2, read-few a.count (drop a.from a.bytes.now) byte c.requires.0)))
+    sym (le-leb _ a.room (omega (arith, c.requires.2, read_few a.count (drop a.from a.bytes.now) byte c.requires.0)))
 
 pub overflow_add-result : goal.overflow_add-result
 overflow_add-result c =
@@ -26,7 +26,7 @@ overflow_add-result c =
     omega (
       arith,
       c.form_size.ensures,
-      rates-most (ratesRead (readRates a.count rest)),
-      read-many a.count rest c.requires.0,
+      rates_most (rates_read (read_rates a.count rest)),
+      read_many a.count rest c.requires.0,
       c.requires.1,
     )

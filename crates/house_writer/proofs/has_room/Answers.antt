@@ -3,13 +3,13 @@
 use mathlib.Core.Path.{sym}
 use native.Mathlib.Omega.{arith}
 use borrow.Author.Tests.{le-leb}
-use Rattle.house_file.proofs.Lengths.{rates-most}
+use Rattle.house_file.proofs.Lengths.{rates_most}
 use Rattle.house_writer.proofs.has_room.Goals as goal
 
 pub returns-then-rates-room : goal.returns-then-rates-room
 returns-then-rates-room c =
-    let a = c.args in sym (le-leb _ a.room (omega (arith, rates-most a.rates.now)))
+    let a = c.args in sym (le-leb _ a.room (omega (arith, rates_most a.rates.now)))
 
 pub overflow_add-result : goal.overflow_add-result
 overflow_add-result c =
-    omega (arith, c.rates_size.ensures, rates-most c.args.rates.now, c.requires.1)
+    omega (arith, c.rates_size.ensures, rates_most c.args.rates.now, c.requires.1)

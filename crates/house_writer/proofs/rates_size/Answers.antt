@@ -9,10 +9,10 @@ use lib.Seq.{length-take-le}
 use mir.Syntax.{w64}
 use mir.Val.{SFits, to_z, of_z}
 use mir.ValLaws.{to_z-of_z}
-use Rattle.integers.specs.Half.{isRate}
+use Rattle.integers.specs.Half.{is_rate}
 use Rattle.house_numbers.specs.Numbers.{filed}
-use Rattle.house_file.specs.Written.{written, writtenRates}
-use Rattle.house_writer.proofs.Rates.{all-rates, taken_next, size-next, size_fits}
+use Rattle.house_file.specs.Written.{written, written_rates}
+use Rattle.house_writer.proofs.Rates.{all_rates, taken_next, size_next, size_fits}
 use Rattle.house_writer.proofs.rates_size.Goals as goal
 
 -- the bytes that a value takes, which was read as the number that it is
@@ -20,14 +20,14 @@ size : (v : ℤ) (number bytes : ℕ) → SFits w64 v → number ≡ filed (to_z
 size v number bytes fits is long = long ∙ ap (λ (n : ℕ). length (written n)) (is ∙ ap filed (to_z-of_z w64 v fits))
 
 pub loop-p-init : goal.loop-p-init
-unfolding writtenRates
+unfolding written_rates
 loop-p-init c = (omega arith, refl)
 
 pub filed_of-requires : goal.filed_of-requires
 filed_of-requires c =
     let rates = c.args.rates.now in
     let p = c.loop-p.p in
-    ap isRate (to_z-of_z w64 (get_or rates p (pos 0)) (search rules)) ∙ all-rates rates c.requires.0 p c.loop-p-test.true
+    ap is_rate (to_z-of_z w64 (get_or rates p (pos 0)) (search rules)) ∙ all_rates rates c.requires.0 p c.loop-p-test.true
 
 pub overflow_add-total : goal.overflow_add-total
 overflow_add-total c =
@@ -44,6 +44,6 @@ loop-p-preserved c =
     let rate = get_or rates p (pos 0) in
     let long = size rate c.filed_of.result c.size_of-total.result (search rules) c.filed_of.ensures c.size_of-total.ensures in (
       omega arith,
-      size-next (take p rates) c.loop-p.invariant.1 rate c.size_of-total.result long
-          ∙ ap (λ (l : List ℤ). length (writtenRates l)) (taken_next rates p c.loop-p-test.true),
+      size_next (take p rates) c.loop-p.invariant.1 rate c.size_of-total.result long
+          ∙ ap (λ (l : List ℤ). length (written_rates l)) (taken_next rates p c.loop-p-test.true),
     )

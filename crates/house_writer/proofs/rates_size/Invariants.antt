@@ -3,11 +3,11 @@
 use mathlib.Core.Path.{◌≡◌}
 use Prim.Native.Nat.{◌-◌, ◌≤◌}
 use lib.ListN.{length, take}
-use Rattle.house_file.specs.Written.{writtenRates}
+use Rattle.house_file.specs.Written.{written_rates}
 use Rattle.house_writer.proofs.rates_size.Given as goal
 
 abbrev pub invariant-loop-p : goal.invariant-loop-p
-invariant-loop-p l = (l.p ≤ length l.rates) × (l.total ≡ length (writtenRates (take l.p l.rates)))
+invariant-loop-p l = (l.p ≤ length l.rates) × (l.total ≡ length (written_rates (take l.p l.rates)))
 
 abbrev pub decreases-loop-p : goal.decreases-loop-p
 decreases-loop-p l = length l.rates - l.p

@@ -5,11 +5,11 @@ use mathlib.Core.Path.{◌≡◌}
 use mathlib.Core.Bool.{true}
 use Prim.Native.Nat.{ℕ, ◌-◌, ◌≤◌, ◌<◌}
 use lib.ListN.{length}
-use Rattle.integers.specs.Half.{contentAt}
+use Rattle.integers.specs.Half.{content_at}
 use Rattle.integers.proofs.all_in_limit.Given as goal
 
 abbrev pub invariant-loop-p : goal.invariant-loop-p
-invariant-loop-p l = (l.p ≤ length l.table) × ((k : ℕ) → k < l.p → contentAt l.table k ≡ true)
+invariant-loop-p l = (l.p ≤ length l.table) × ((k : ℕ) → k < l.p → content_at l.table k ≡ true)
 
 abbrev pub decreases-loop-p : goal.decreases-loop-p
 decreases-loop-p l = length l.table - l.p

@@ -4,7 +4,7 @@ use lib.IntN.{◌+ℤ◌, ◌-ℤ◌}
 use mir.Syntax.{w64}
 use mir.ValLaws.{to_z-of_z}
 use Rattle.integers.specs.Half.{half}
-use Rattle.integers.proofs.Sizes.{sum_fits, half-fits, less-fits, shift-half}
+use Rattle.integers.proofs.Sizes.{sum_fits, half_fits, less_fits, shift_half}
 use Rattle.integers.proofs.less_half.Goals as goal
 
 pub overflow_add-result : goal.overflow_add-result
@@ -20,10 +20,10 @@ overflow_sub-result c =
       to_z-of_z w64 c.args.a c.ranges.a,
       to_z-of_z w64 c.args.b c.ranges.b,
       to_z-of_z w64 (c.args.a +ℤ c.args.b) (sum_fits c.args.a c.args.b c.requires.1 c.requires.2),
-      shift-half (c.args.a +ℤ c.args.b),
-      to_z-of_z w64 (half (c.args.a +ℤ c.args.b)) (half-fits c.args.a c.args.b c.requires.1 c.requires.2),
+      shift_half (c.args.a +ℤ c.args.b),
+      to_z-of_z w64 (half (c.args.a +ℤ c.args.b)) (half_fits c.args.a c.args.b c.requires.1 c.requires.2),
     )
-    (less-fits c.args.a c.args.b c.requires.1 c.requires.2 c.args.v c.requires.0)
+    (less_fits c.args.a c.args.b c.requires.1 c.requires.2 c.args.v c.requires.0)
 
 pub returns : goal.returns
 returns c =
@@ -32,8 +32,8 @@ returns c =
       to_z-of_z w64 c.args.a c.ranges.a,
       to_z-of_z w64 c.args.b c.ranges.b,
       to_z-of_z w64 (c.args.a +ℤ c.args.b) (sum_fits c.args.a c.args.b c.requires.1 c.requires.2),
-      shift-half (c.args.a +ℤ c.args.b),
-      to_z-of_z w64 (half (c.args.a +ℤ c.args.b)) (half-fits c.args.a c.args.b c.requires.1 c.requires.2),
+      shift_half (c.args.a +ℤ c.args.b),
+      to_z-of_z w64 (half (c.args.a +ℤ c.args.b)) (half_fits c.args.a c.args.b c.requires.1 c.requires.2),
     )
     (to_z-of_z w64 (c.args.v -ℤ half (c.args.a +ℤ c.args.b))
-    (less-fits c.args.a c.args.b c.requires.1 c.requires.2 c.args.v c.requires.0))
+    (less_fits c.args.a c.args.b c.requires.1 c.requires.2 c.args.v c.requires.0))

@@ -5,11 +5,11 @@ use native.Mathlib.Omega.{arith}
 use lib.IntN.{nat_abs}
 use mir.Syntax.{w64}
 use mir.ValLaws.{to_z_pos}
-use Rattle.integers.specs.Half.{oddOf}
-use Rattle.integers.proofs.Steps.{odd_small, lowest-odd}
+use Rattle.integers.specs.Half.{odd_of}
+use Rattle.integers.proofs.Steps.{odd_small, lowest_odd}
 use Rattle.integers.proofs.odd.Goals as goal
 
 pub returns : goal.returns
 returns c =
     let sum = c.args.sum in
-    rw (lowest-odd sum c.ranges.sum) (ap nat_abs (to_z_pos w64 (oddOf sum) (omega (arith, odd_small sum))))
+    rw (lowest_odd sum c.ranges.sum) (ap nat_abs (to_z_pos w64 (odd_of sum) (omega (arith, odd_small sum))))

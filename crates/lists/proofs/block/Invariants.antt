@@ -3,7 +3,7 @@
 -- Assumes nothing.
 use mathlib.Core.Path.{◌≡◌}
 use Prim.Native.Nat.{◌+◌, ◌-◌, ◌*◌, ◌≤◌}
-use Rattle.lists.proofs.Sums.{nearAt}
+use Rattle.lists.proofs.Sums.{near_at}
 use Rattle.lists.proofs.Blocks.{RunsDone}
 use Rattle.lists.proofs.block.Given as goal
 
@@ -12,7 +12,7 @@ invariant-loop-j l =
     RunsDone l.forward l.v l.first (2 * l.j - 1) (l.x + l.width) l.fn.table l.odd l.table
     × (1 ≤ l.j)
     × (l.j ≤ l.pairs)
-    × (l.near ≡ nearAt l.v l.starts l.beyond (l.j - 1))
+    × (l.near ≡ near_at l.v l.starts l.beyond (l.j - 1))
 
 abbrev pub decreases-loop-j : goal.decreases-loop-j
 decreases-loop-j l = l.pairs - l.j

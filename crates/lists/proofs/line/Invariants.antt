@@ -3,8 +3,8 @@
 -- Assumes nothing.
 use mathlib.Core.Path.{◌≡◌}
 use Prim.Native.Nat.{suc, ◌+◌, ◌-◌, ◌*◌, ◌≤◌}
-use Rattle.hierarchy.specs.Turns.{valueAt}
-use Rattle.lists.proofs.Sums.{nearAt}
+use Rattle.hierarchy.specs.Turns.{value_at}
+use Rattle.lists.proofs.Sums.{near_at}
 use Rattle.lists.proofs.Blocks.{RunsDone}
 use Rattle.lists.proofs.line.Given as goal
 
@@ -13,8 +13,8 @@ invariant-loop-j l =
     RunsDone l.forward l.v l.first (2 * l.j - 1) (l.x + 1) l.fn.table l.odd l.table
     × (1 ≤ l.j)
     × (l.j ≤ l.pairs)
-    × (l.near ≡ nearAt l.v l.starts l.beyond (l.j - 1))
-    × (l.beside ≡ valueAt l.fn.table (suc l.near))
+    × (l.near ≡ near_at l.v l.starts l.beyond (l.j - 1))
+    × (l.beside ≡ value_at l.fn.table (suc l.near))
 
 abbrev pub decreases-loop-j : goal.decreases-loop-j
 decreases-loop-j l = l.pairs - l.j

@@ -1,14 +1,14 @@
 use mathlib.Core.Path.{ap, ap₂, ◌∙◌}
 use native.Mathlib.Omega.{arith}
 use lib.IntN.{nat_abs}
-use Rattle.integers.specs.Half.{oddOf, stepped}
-use Rattle.integers.proofs.Steps.{within-fits, odd_small}
-use Rattle.lists.specs.Steps.{valueIn}
-use Rattle.lists.proofs.Running.{stored-is, sum-small, run-starts, run-steps, run-few, behind-read, ahead-read, pair-read}
+use Rattle.integers.specs.Half.{odd_of, stepped}
+use Rattle.integers.proofs.Steps.{within_fits, odd_small}
+use Rattle.lists.specs.Steps.{value_in}
+use Rattle.lists.proofs.Running.{stored_is, sum_small, run_starts, run_steps, run_few, behind_read, ahead_read, pair_read}
 use Rattle.lists.proofs.run_between.Goals as goal
 
 pub loop-i-init : goal.loop-i-init
-loop-i-init c = (run-starts, omega arith)
+loop-i-init c = (run_starts, omega arith)
 
 pub overflow_add-pair-in-loop-i-2 : goal.overflow_add-pair-in-loop-i-2
 overflow_add-pair-in-loop-i-2 c =
@@ -17,14 +17,14 @@ overflow_add-pair-in-loop-i-2 c =
     let a = c.args in
     let run = c.loop-i.invariant.0 in
     let lt = c.loop-i-test.true in
-    within-fits _ (
-    rw (behind-read run a.width a.a pre.0 pre.5 lt, behind-read run a.width a.b pre.1 pre.6 lt)
-    (sum-small (valueIn a.table.now a.a i) (valueIn a.table.now a.b i) (pre.5 i lt) (pre.6 i lt)))
+    within_fits _ (
+    rw (behind_read run a.width a.a pre.0 pre.5 lt, behind_read run a.width a.b pre.1 pre.6 lt)
+    (sum_small (value_in a.table.now a.a i) (value_in a.table.now a.b i) (pre.5 i lt) (pre.6 i lt)))
 
 pub overflow_add-odd : goal.overflow_add-odd
 overflow_add-odd c =
     let pre = c.requires in
-    omega (arith, run-few c.loop-i.invariant.0, c.loop-i-test.true, pre.2, pre.3, c.odd-odd.ensures, odd_small)
+    omega (arith, run_few c.loop-i.invariant.0, c.loop-i-test.true, pre.2, pre.3, c.odd-odd.ensures, odd_small)
 
 pub step-requires : goal.step-requires
 step-requires c =
@@ -33,11 +33,11 @@ step-requires c =
     let a = c.args in
     let run = c.loop-i.invariant.0 in
     let lt = c.loop-i-test.true in (
-      omega (arith, ap nat_abs (ahead-read run a.width pre.4 lt), pre.4 i lt),
+      omega (arith, ap nat_abs (ahead_read run a.width pre.4 lt), pre.4 i lt),
       omega (
         arith,
-        ap nat_abs (pair-read run a.width a.a a.b pre.0 pre.1 pre.5 pre.6 lt),
-        sum-small (valueIn a.table.now a.a i) (valueIn a.table.now a.b i) (pre.5 i lt) (pre.6 i lt),
+        ap nat_abs (pair_read run a.width a.a a.b pre.0 pre.1 pre.5 pre.6 lt),
+        sum_small (value_in a.table.now a.a i) (value_in a.table.now a.b i) (pre.5 i lt) (pre.6 i lt),
       ),
     )
 
@@ -48,9 +48,9 @@ loop-i-preserved c =
     let a = c.args in
     let run = c.loop-i.invariant.0 in
     let lt = c.loop-i-test.true in
-    let sum = pair-read run a.width a.a a.b pre.0 pre.1 pre.5 pre.6 lt in (
-      run-steps run _ _ (omega (arith, pre.2)) (c.odd-odd.ensures ∙ ap oddOf sum)
-          (stored-is _ _ _ _ (pre.4 i lt) (sum-small (valueIn a.table.now a.a i) (valueIn a.table.now a.b i) (pre.5 i lt) (pre.6 i lt))
-          (c.step.ensures ∙ ap₂ (stepped a.forward) (ahead-read run a.width pre.4 lt) sum)),
+    let sum = pair_read run a.width a.a a.b pre.0 pre.1 pre.5 pre.6 lt in (
+      run_steps run _ _ (omega (arith, pre.2)) (c.odd-odd.ensures ∙ ap odd_of sum)
+          (stored_is _ _ _ _ (pre.4 i lt) (sum_small (value_in a.table.now a.a i) (value_in a.table.now a.b i) (pre.5 i lt) (pre.6 i lt))
+          (c.step.ensures ∙ ap₂ (stepped a.forward) (ahead_read run a.width pre.4 lt) sum)),
       omega arith,
     )

@@ -2,12 +2,12 @@
 -- Assumes nothing.
 use Prim.Native.Nat.{◌-◌, ◌≤◌}
 use lib.IntN.{◌+ℤ◌}
-use Rattle.lists.specs.Steps.{valueIn, RunStepped}
+use Rattle.lists.specs.Steps.{value_in, RunStepped}
 use Rattle.lists.proofs.run_between.Given as goal
 
 abbrev pub invariant-loop-i : goal.invariant-loop-i
 invariant-loop-i l =
-    RunStepped l.forward l.x l.i (λ i. valueIn l.initial.table l.a i +ℤ valueIn l.initial.table l.b i) l.initial.table l.odd l.table
+    RunStepped l.forward l.x l.i (λ i. value_in l.initial.table l.a i +ℤ value_in l.initial.table l.b i) l.initial.table l.odd l.table
     × (l.i ≤ l.width)
 
 abbrev pub decreases-loop-i : goal.decreases-loop-i

@@ -1,18 +1,18 @@
 use mathlib.Core.Path.{ap, ap₂, ◌∙◌}
 use native.Mathlib.Omega.{arith}
 use lib.IntN.{nat_abs}
-use Rattle.integers.specs.Half.{oddOf, stepped}
+use Rattle.integers.specs.Half.{odd_of, stepped}
 use Rattle.integers.proofs.Steps.{odd_small}
-use Rattle.lists.proofs.Running.{stored-is, run-starts, run-steps, run-few, behind-read, ahead-read}
+use Rattle.lists.proofs.Running.{stored_is, run_starts, run_steps, run_few, behind_read, ahead_read}
 use Rattle.lists.proofs.run_by_border.Goals as goal
 
 pub loop-i-init : goal.loop-i-init
-loop-i-init c = (run-starts, omega arith)
+loop-i-init c = (run_starts, omega arith)
 
 pub overflow_add-odd : goal.overflow_add-odd
 overflow_add-odd c =
     let pre = c.requires in
-    omega (arith, run-few c.loop-i.invariant.0, c.loop-i-test.true, pre.1, pre.2, c.odd-odd.ensures, odd_small)
+    omega (arith, run_few c.loop-i.invariant.0, c.loop-i-test.true, pre.1, pre.2, c.odd-odd.ensures, odd_small)
 
 pub step-requires : goal.step-requires
 step-requires c =
@@ -20,8 +20,8 @@ step-requires c =
     let i = c.loop-i.i in
     let run = c.loop-i.invariant.0 in
     let lt = c.loop-i-test.true in (
-      omega (arith, ap nat_abs (ahead-read run c.args.width pre.3 lt), pre.3 i lt),
-      omega (arith, ap nat_abs (behind-read run c.args.width c.args.a pre.0 pre.4 lt), pre.4 i lt),
+      omega (arith, ap nat_abs (ahead_read run c.args.width pre.3 lt), pre.3 i lt),
+      omega (arith, ap nat_abs (behind_read run c.args.width c.args.a pre.0 pre.4 lt), pre.4 i lt),
     )
 
 pub loop-i-preserved : goal.loop-i-preserved
@@ -30,9 +30,9 @@ loop-i-preserved c =
     let i = c.loop-i.i in
     let run = c.loop-i.invariant.0 in
     let lt = c.loop-i-test.true in
-    let sum = behind-read run c.args.width c.args.a pre.0 pre.4 lt in (
-      run-steps run _ _ (omega (arith, pre.1)) (c.odd-odd.ensures ∙ ap oddOf sum)
-          (stored-is _ _ _ _ (pre.3 i lt) (omega (arith, pre.4 i lt))
-          (c.step.ensures ∙ ap₂ (stepped c.args.forward) (ahead-read run c.args.width pre.3 lt) sum)),
+    let sum = behind_read run c.args.width c.args.a pre.0 pre.4 lt in (
+      run_steps run _ _ (omega (arith, pre.1)) (c.odd-odd.ensures ∙ ap odd_of sum)
+          (stored_is _ _ _ _ (pre.3 i lt) (omega (arith, pre.4 i lt))
+          (c.step.ensures ∙ ap₂ (stepped c.args.forward) (ahead_read run c.args.width pre.3 lt) sum)),
       omega arith,
     )

@@ -3,8 +3,8 @@
 use Prim.Native.Nat.{◌^◌, ◌<◌}
 use native.Mathlib.Omega.{arith}
 use Rattle.numbering.proofs.Parents.{Inside}
-use Rattle.neighbours.proofs.Beside.{bits, first-small}
-use Rattle.neighbours.proofs.Coding.{one-more, two-more, falls, index-small, computed}
+use Rattle.neighbours.proofs.Beside.{bits, first_small}
+use Rattle.neighbours.proofs.Coding.{one_more, two_more, falls, index_small, computed}
 use Rattle.neighbours.proofs.parent_run.Goals.{Start, After-reduce-up}
 use Rattle.neighbours.proofs.parent_run.Goals as goal
 
@@ -24,7 +24,7 @@ lower c =
 small : (c : After-reduce-up) → c.reduce-up.result.index < 2 ^ 9
 small c =
     let up = c.reduce-up.ensures in
-    index-small c.requires.0 _ _ _ (within c.before) up.0 up.1
+    index_small c.requires.0 _ _ _ (within c.before) up.0 up.1
 
 pub overflow_sub-result : goal.overflow_sub-result
 overflow_sub-result c = omega (arith, lower (goal.at.overflow_sub-result c).After-reduce-up)
@@ -38,8 +38,8 @@ overflow_shl-result c = omega (arith, bits c.requires.0)
 pub overflow_add-result : goal.overflow_add-result
 overflow_add-result c =
     let up = (goal.at.overflow_add-result c).After-reduce-up in
-    one-more _ _ _
-    (first-small c.requires.0 c.requires.1 _ (omega (arith, lower up)) (omega arith))
+    one_more _ _ _
+    (first_small c.requires.0 c.requires.1 _ (omega (arith, lower up)) (omega arith))
     (omega (arith, small up))
     (omega (arith, bits c.requires.0))
 
@@ -52,8 +52,8 @@ overflow_shl-result-2 c = omega (arith, bits c.requires.0, lower (goal.at.overfl
 pub overflow_add-result-3 : goal.overflow_add-result-3
 overflow_add-result-3 c =
     let up = (goal.at.overflow_add-result-3 c).After-reduce-up in
-    two-more _ _ _
-    (first-small c.requires.0 c.requires.1 _ (omega (arith, lower up)) (omega arith))
+    two_more _ _ _
+    (first_small c.requires.0 c.requires.1 _ (omega (arith, lower up)) (omega arith))
     (omega (arith, small up))
     (omega (arith, bits c.requires.0))
     _ _

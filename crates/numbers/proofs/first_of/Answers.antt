@@ -5,19 +5,19 @@ use Prim.Native.Nat.{◌+◌, ◌*◌, ◌%◌, ◌^◌}
 use native.Mathlib.Omega.{arith}
 use borrow.Author.Rules.{rules}
 use Rattle.numbering.specs.Point.{at}
-use Rattle.numbering.specs.Number.{firstOf}
-use Rattle.numbers.proofs.Parts.{first_small, first-of-parts}
+use Rattle.numbering.specs.Number.{first_of}
+use Rattle.numbers.proofs.Parts.{first_small, first_of_parts}
 use Rattle.numbers.proofs.first_of.Goals.{After-start_of}
 use Rattle.numbers.proofs.first_of.Goals as goal
 
 -- the sum that the code forms is the first number
 whole : (c : After-start_of) →
     c.start_of.result + c.vector_rank-rank.result * 2 ^ c.level_sum-sum.result % 2 ^ 64
-    ≡ firstOf
+    ≡ first_of
     c.args.axes
     (at c.args.levels)
 whole c =
-    first-of-parts _ _ (search rules) (search rules) (search rules)
+    first_of_parts _ _ (search rules) (search rules) (search rules)
     c.start_of.ensures
     c.level_sum-sum.ensures
     c.vector_rank-rank.ensures

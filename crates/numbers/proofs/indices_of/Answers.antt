@@ -1,27 +1,27 @@
 use Prim.Native.Nat.{◌≤◌, ◌<◌}
 use native.Mathlib.Omega.{arith}
 use borrow.Author.Rules.{rules}
-use Rattle.naturals.proofs.Sums.{term-le}
+use Rattle.naturals.proofs.Sums.{term_le}
 use Rattle.numbering.specs.Point.{at}
-use Rattle.numbers.proofs.Widths.{digit-small}
-use Rattle.numbers.proofs.Unpacked.{unpacked-starts, unpacked-steps}
+use Rattle.numbers.proofs.Widths.{digit_small}
+use Rattle.numbers.proofs.Unpacked.{unpacked_starts, unpacked_steps}
 use Rattle.numbers.proofs.indices_of.Goals.{After-low_bits-digit, In-loop-t}
 use Rattle.numbers.proofs.indices_of.Goals as goal
 
 pub loop-t-init : goal.loop-t-init
-loop-t-init c = unpacked-starts _ _ _
+loop-t-init c = unpacked_starts _ _ _
 
 -- a level is at most the level sum, and so its digit is small
 few : (c : In-loop-t) → at c.args.levels c.loop-t.t ≤ 8
 few c =
-    omega (arith, term-le (at c.args.levels) c.args.axes c.loop-t.t c.loop-t-test.true)
+    omega (arith, term_le (at c.args.levels) c.args.axes c.loop-t.t c.loop-t-test.true)
 
 small : (c : After-low_bits-digit) → c.low_bits-digit.result < 256
 small c =
     omega (
       arith,
       c.low_bits-digit.ensures,
-      digit-small c.loop-t.rest (at c.args.levels c.loop-t.t) (few c.before),
+      digit_small c.loop-t.rest (at c.args.levels c.loop-t.t) (few c.before),
     )
 
 pub low_bits-digit-requires : goal.low_bits-digit-requires
@@ -40,4 +40,4 @@ pub overflow_shr-rest : goal.overflow_shr-rest
 overflow_shr-rest c = omega (arith, few (goal.at.overflow_shr-rest c).In-loop-t)
 
 pub loop-t-preserved : goal.loop-t-preserved
-loop-t-preserved c = unpacked-steps c.loop-t.invariant c.low_bits-digit.result c.loop-t-test.true (search rules) c.low_bits-digit.ensures
+loop-t-preserved c = unpacked_steps c.loop-t.invariant c.low_bits-digit.result c.loop-t-test.true (search rules) c.low_bits-digit.ensures

@@ -6,7 +6,7 @@ use native.Mathlib.Omega.{arith}
 use borrow.Author.Rules.{rules}
 use Rattle.numbering.specs.Point.{at}
 use Rattle.numbering.specs.Number.{number}
-use Rattle.numbers.proofs.Parts.{number_small, number-of-parts}
+use Rattle.numbers.proofs.Parts.{number_small, number_of_parts}
 use Rattle.numbers.proofs.number_at.Goals.{After-position_at}
 use Rattle.numbers.proofs.number_at.Goals as goal
 
@@ -17,7 +17,7 @@ whole : (c : After-position_at) →
     c.args.axes
     (at c.args.p.levels)
     (at c.args.p.indices)
-whole c = number-of-parts _ _ _ c.first_of.ensures c.position_at.ensures
+whole c = number_of_parts _ _ _ c.first_of.ensures c.position_at.ensures
 
 pub overflow_add-result : goal.overflow_add-result
 overflow_add-result c = omega (arith, whole (goal.at.overflow_add-result c).After-position_at, number_small c.requires.2 (search rules) (search rules))

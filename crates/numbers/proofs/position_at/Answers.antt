@@ -1,13 +1,13 @@
 use Prim.Native.Nat.{◌+◌, ◌≤◌}
 use native.Mathlib.Omega.{arith}
-use Rattle.naturals.proofs.Summed.{summed-fits}
+use Rattle.naturals.proofs.Summed.{summed_fits}
 use Rattle.numbering.specs.Point.{at}
-use Rattle.numbers.proofs.Packed.{packed-starts, packed-fits, packed-steps}
+use Rattle.numbers.proofs.Packed.{packed_starts, packed_fits, packed_steps}
 use Rattle.numbers.proofs.position_at.Goals.{In-loop-t}
 use Rattle.numbers.proofs.position_at.Goals as goal
 
 pub loop-t-init : goal.loop-t-init
-loop-t-init c = packed-starts _ _ _
+loop-t-init c = packed_starts _ _ _
 
 -- the levels so far sum to at most 8
 few : (c : In-loop-t) →
@@ -15,7 +15,7 @@ few : (c : In-loop-t) →
 few c =
     omega (
       arith,
-      summed-fits c.loop-t.invariant.sums c.loop-t-test.true,
+      summed_fits c.loop-t.invariant.sums c.loop-t-test.true,
       c.requires.1.sum,
     )
 
@@ -26,11 +26,11 @@ pub overflow_add-position : goal.overflow_add-position
 overflow_add-position c =
     omega (
       arith,
-      packed-fits c.requires.1 c.loop-t.invariant c.loop-t-test.true,
+      packed_fits c.requires.1 c.loop-t.invariant c.loop-t-test.true,
     )
 
 pub overflow_add-sum : goal.overflow_add-sum
 overflow_add-sum c = omega (arith, few (goal.at.overflow_add-sum c).In-loop-t)
 
 pub loop-t-preserved : goal.loop-t-preserved
-loop-t-preserved c = packed-steps c.requires.1 c.loop-t.invariant c.loop-t-test.true
+loop-t-preserved c = packed_steps c.requires.1 c.loop-t.invariant c.loop-t-test.true

@@ -4,15 +4,15 @@ use mathlib.Core.Path.{sym, ◌∙◌}
 use Prim.Native.Nat.{◌≤◌}
 use native.Mathlib.Omega.{arith}
 use borrow.Author.Rules.{rules}
-use Rattle.numbers.proofs.Searched.{lies-le}
-use Rattle.numbers.proofs.Places.{sum-found}
-use Rattle.numbers.proofs.Read.{rank_below, levels-found, position-found}
+use Rattle.numbers.proofs.Searched.{lies_le}
+use Rattle.numbers.proofs.Places.{sum_found}
+use Rattle.numbers.proofs.Read.{rank_below, levels_found, position_found}
 use Rattle.numbers.proofs.vector_at.Goals.{After-shell_of-place}
 use Rattle.numbers.proofs.vector_at.Goals as goal
 
 -- the level sum is at most the top level
 few : (c : After-shell_of-place) → c.shell_of-place.result.block ≤ 8
-few c = omega (arith, lies-le c.shell_of-place.ensures)
+few c = omega (arith, lies_le c.shell_of-place.ensures)
 
 pub overflow_shr-rest : goal.overflow_shr-rest
 overflow_shr-rest c = omega (arith, few (goal.at.overflow_shr-rest c).After-shell_of-place)
@@ -27,7 +27,7 @@ low_bits-requires c = omega (arith, few (goal.at.low_bits-requires c).After-shel
 pub returns : goal.returns
 returns c =
     let lies = c.shell_of-place.ensures in (
-      sym (sum-found _ _ _ lies),
-      c.levels_of-levels.ensures ∙ levels-found _ _ _ (search rules) lies,
-      c.low_bits.ensures ∙ sym (position-found _ _ _ (search rules) lies),
+      sym (sum_found _ _ _ lies),
+      c.levels_of-levels.ensures ∙ levels_found _ _ _ (search rules) lies,
+      c.low_bits.ensures ∙ sym (position_found _ _ _ (search rules) lies),
     )

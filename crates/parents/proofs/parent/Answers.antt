@@ -1,7 +1,7 @@
 -- `parents::parent` meets its contract: the checks decide the refusal, and of what they pass the point is stepped along the axis.
 -- Assumes nothing.
 use mathlib.Core.Path.{sym, ◌∙◌}
-use Rattle.parents.specs.Parents.{parentOf}
+use Rattle.parents.specs.Parents.{parent_of}
 use Rattle.parents.proofs.Accepted.{Accepted, checks, accepted}
 use Rattle.parents.proofs.parent.Goals.{In-Passed}
 use Rattle.parents.proofs.parent.Goals as goal
@@ -21,7 +21,7 @@ parent_on-requires c =
     (s.place, s.small, s.odd, s.below)
 
 pub returns-in-Refused : goal.returns-in-Refused
-unfolding parentOf
+unfolding parent_of
 returns-in-Refused c =
     rw (
       ← checks _ _ _ _ c.point_from-given.ensures,
@@ -31,7 +31,7 @@ returns-in-Refused c =
     c.nowhere.ensures
 
 pub returns-in-Passed : goal.returns-in-Passed
-unfolding parentOf
+unfolding parent_of
 returns-in-Passed c =
     let p = (known (goal.at.returns-in-Passed c).In-Passed).handed in
     rw (

@@ -6,7 +6,7 @@ use borrow.Author.Rules.{rules}
 use Rattle.numbering.specs.Point.{at}
 use Rattle.numbering.proofs.Parents.{Inside, inside}
 use Rattle.parents.specs.Parents.{located}
-use Rattle.parents.proofs.Stepped.{to-border, to-parent}
+use Rattle.parents.proofs.Stepped.{to_border, to_parent}
 use Rattle.parents.proofs.parent_on.Goals.{Else-is_border}
 use Rattle.parents.proofs.parent_on.Goals as goal
 
@@ -25,7 +25,7 @@ unfolding located
 returns-then-is_border c =
     let a = c.args in
     c.nowhere.ensures
-    ∙ to-border a.t a.side a.p.levels a.p.indices _ c.neighbour-numerator.ensures
+    ∙ to_border a.t a.side a.p.levels a.p.indices _ c.neighbour-numerator.ensures
     (sym c.is_border.ensures ∙ c.if-is_border.true)
 
 pub reduce-up-requires : goal.reduce-up-requires
@@ -37,6 +37,6 @@ pub returns : goal.returns
 returns c =
     let a = c.args in
     let up = c.reduce-up.ensures in
-    to-parent a.t a.side a.p.levels a.p.indices _ c.neighbour-numerator.ensures
+    to_parent a.t a.side a.p.levels a.p.indices _ c.neighbour-numerator.ensures
     (sym c.is_border.ensures ∙ c.if-is_border.false)
     c.requires.0 (search rules) (search rules) _ _ up.0 up.1

@@ -4,19 +4,19 @@ use mathlib.Core.Path.{sym, ◌∙◌}
 use borrow.Author.Tests.{eq-eqb, ne_eqb}
 use mathlib.Core.Bool.{true, false}
 use lib.ListN.{length}
-use Rattle.points.proofs.Passed.{lists-tested}
-use Rattle.points.specs.Points.{checkLists}
+use Rattle.points.proofs.Passed.{lists_tested}
+use Rattle.points.specs.Points.{check_lists}
 use Rattle.points.proofs.check_lists.Goals as goal
 
 pub returns-then-levels-axes : goal.returns-then-levels-axes
-unfolding checkLists
+unfolding check_lists
 returns-then-levels-axes c =
     let shape = c.args.shape in
     let levels = c.args.levels.now in
     sym (simp (ne_eqb (length levels) shape.axes c.if-levels-axes.true))
 
 pub returns-then-indices-axes : goal.returns-then-indices-axes
-unfolding checkLists
+unfolding check_lists
 returns-then-indices-axes c =
     let shape = c.args.shape in
     let levels = c.args.levels.now in
@@ -26,11 +26,11 @@ returns-then-indices-axes c =
 pub returns-then-is_point : goal.returns-then-is_point
 returns-then-is_point c =
     sym
-    (lists-tested _ _ _ c.if-levels-axes.false c.if-indices-axes.false true
+    (lists_tested _ _ _ c.if-levels-axes.false c.if-indices-axes.false true
     (sym c.is_point.ensures ∙ c.if-is_point.true))
 
 pub returns-else-is_point : goal.returns-else-is_point
 returns-else-is_point c =
     sym
-    (lists-tested _ _ _ c.if-levels-axes.false c.if-indices-axes.false false
+    (lists_tested _ _ _ c.if-levels-axes.false c.if-indices-axes.false false
     (sym c.is_point.ensures ∙ c.if-is_point.false))

@@ -1,62 +1,62 @@
--- `refusals::refusal_place` meets its contract: each arm is given its case with the place that it holds, at which `placeOf` computes.
+-- `refusals::refusal_place` meets its contract: each arm is given its case with the place that it holds, at which `place_of` computes.
 -- Assumes nothing.
 use mathlib.Core.Path.{sym, ap, ◌∙◌}
-use Rattle.refusals.specs.Refusals.{placeOf}
+use Rattle.refusals.specs.Refusals.{place_of}
 use Rattle.refusals.proofs.refusal_place.Goals as goal
 
 pub returns-in-Axes : goal.returns-in-Axes
-returns-in-Axes c = sym (ap placeOf c.in-Axes.is)
+returns-in-Axes c = sym (ap place_of c.in-Axes.is)
 
 pub returns-in-Level : goal.returns-in-Level
-returns-in-Level c = sym (ap placeOf c.in-Level.is)
+returns-in-Level c = sym (ap place_of c.in-Level.is)
 
 pub returns-in-TableLength : goal.returns-in-TableLength
-returns-in-TableLength c = sym (ap placeOf c.in-TableLength.is)
+returns-in-TableLength c = sym (ap place_of c.in-TableLength.is)
 
 pub returns-in-Rate : goal.returns-in-Rate
-returns-in-Rate c = sym (ap placeOf c.in-Rate.is)
+returns-in-Rate c = sym (ap place_of c.in-Rate.is)
 
 pub returns-in-Axis : goal.returns-in-Axis
-returns-in-Axis c = c.wide.ensures ∙ sym (ap placeOf c.in-Axis.is)
+returns-in-Axis c = c.wide.ensures ∙ sym (ap place_of c.in-Axis.is)
 
 pub returns-in-PointNumber : goal.returns-in-PointNumber
-returns-in-PointNumber c = sym (ap placeOf c.in-PointNumber.is)
+returns-in-PointNumber c = sym (ap place_of c.in-PointNumber.is)
 
 pub returns-in-ListLength : goal.returns-in-ListLength
-returns-in-ListLength c = sym (ap placeOf c.in-ListLength.is)
+returns-in-ListLength c = sym (ap place_of c.in-ListLength.is)
 
 pub returns-in-Coordinate : goal.returns-in-Coordinate
-returns-in-Coordinate c = c.wide-in-Coordinate.ensures ∙ sym (ap placeOf c.in-Coordinate.is)
+returns-in-Coordinate c = c.wide-in-Coordinate.ensures ∙ sym (ap place_of c.in-Coordinate.is)
 
 pub returns-in-NoPoint : goal.returns-in-NoPoint
-returns-in-NoPoint c = sym (ap placeOf c.in-NoPoint.is)
+returns-in-NoPoint c = sym (ap place_of c.in-NoPoint.is)
 
 pub returns-in-Contents : goal.returns-in-Contents
-returns-in-Contents c = sym (ap placeOf c.in-Contents.is)
+returns-in-Contents c = sym (ap place_of c.in-Contents.is)
 
 pub returns-in-FileEnds : goal.returns-in-FileEnds
-returns-in-FileEnds c = sym (ap placeOf c.in-FileEnds.is)
+returns-in-FileEnds c = sym (ap place_of c.in-FileEnds.is)
 
 pub returns-in-FiledNumber : goal.returns-in-FiledNumber
-returns-in-FiledNumber c = sym (ap placeOf c.in-FiledNumber.is)
+returns-in-FiledNumber c = sym (ap place_of c.in-FiledNumber.is)
 
 pub returns-in-BytesLeft : goal.returns-in-BytesLeft
-returns-in-BytesLeft c = sym (ap placeOf c.in-BytesLeft.is)
+returns-in-BytesLeft c = sym (ap place_of c.in-BytesLeft.is)
 
 pub returns-in-StrayBit : goal.returns-in-StrayBit
-returns-in-StrayBit c = sym (ap placeOf c.in-StrayBit.is)
+returns-in-StrayBit c = sym (ap place_of c.in-StrayBit.is)
 
 pub returns-in-AlreadyForward : goal.returns-in-AlreadyForward
-returns-in-AlreadyForward c = c.wide-in-AlreadyForward.ensures ∙ sym (ap placeOf c.in-AlreadyForward.is)
+returns-in-AlreadyForward c = c.wide-in-AlreadyForward.ensures ∙ sym (ap place_of c.in-AlreadyForward.is)
 
 pub returns-in-NotForward : goal.returns-in-NotForward
-returns-in-NotForward c = c.wide-in-NotForward.ensures ∙ sym (ap placeOf c.in-NotForward.is)
+returns-in-NotForward c = c.wide-in-NotForward.ensures ∙ sym (ap place_of c.in-NotForward.is)
 
 pub returns-in-StillSampled : goal.returns-in-StillSampled
-returns-in-StillSampled c = c.wide-in-StillSampled.ensures ∙ sym (ap placeOf c.in-StillSampled.is)
+returns-in-StillSampled c = c.wide-in-StillSampled.ensures ∙ sym (ap place_of c.in-StillSampled.is)
 
 pub returns-in-StillForward : goal.returns-in-StillForward
-returns-in-StillForward c = c.wide-in-StillForward.ensures ∙ sym (ap placeOf c.in-StillForward.is)
+returns-in-StillForward c = c.wide-in-StillForward.ensures ∙ sym (ap place_of c.in-StillForward.is)
 
 pub returns-in-TooManyPoints : goal.returns-in-TooManyPoints
-returns-in-TooManyPoints c = sym (ap placeOf c.in-TooManyPoints.is)
+returns-in-TooManyPoints c = sym (ap place_of c.in-TooManyPoints.is)

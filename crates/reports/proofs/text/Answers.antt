@@ -3,7 +3,7 @@
 use native.Mathlib.Omega.{arith}
 use Rattle.buffers.proofs.Puts.{put_as}
 use Rattle.texts.proofs.Puts.{put_whole}
-use Rattle.reports.proofs.Accepted.{held-report, refused-report, report-length}
+use Rattle.reports.proofs.Accepted.{held_report, refused_report, report_length}
 use Rattle.reports.proofs.text.Goals as goal
 
 pub returns-in-Refused : goal.returns-in-Refused
@@ -11,8 +11,8 @@ returns-in-Refused c =
     let bytes = c.args.bytes.now in
     let whole =
     put_whole
-    (put_as (refused-report bytes _ (omega arith) c.in-Refused.why c.read.new.table c.in-Refused.ensures) c.put_refused.ensures)
-    (omega (arith, report-length bytes)) in
+    (put_as (refused_report bytes _ (omega arith) c.in-Refused.why c.read.new.table c.in-Refused.ensures) c.put_refused.ensures)
+    (omega (arith, report_length bytes)) in
     record { put = whole.0; out_after = whole.1.0; prefix_len = whole.1.1 }
 
 pub returns-in-Holds : goal.returns-in-Holds
@@ -20,6 +20,6 @@ returns-in-Holds c =
     let bytes = c.args.bytes.now in
     let whole =
     put_whole
-    (put_as (held-report bytes _ (omega arith) c.in-Holds.shape c.read.new.table c.in-Holds.ensures) c.put_table.ensures)
-    (omega (arith, report-length bytes)) in
+    (put_as (held_report bytes _ (omega arith) c.in-Holds.shape c.read.new.table c.in-Holds.ensures) c.put_table.ensures)
+    (omega (arith, report_length bytes)) in
     record { put = whole.0; out_after = whole.1.0; prefix_len = whole.1.1 }

@@ -5,9 +5,9 @@ use Prim.Native.Nat.{◌≤◌}
 use lib.ListN.{length, take}
 use Rattle.house_writer.specs.declared.Filed.{Filed}
 use Rattle.house_writer.specs.declared.Filed.TheVariants.{Length}
-use Rattle.house_writer.specs.Writing.{AfterWriting, afterWriting}
-use Rattle.house_writer.specs.Rewriting.{rewriteFile}
-use Rattle.house_writer.proofs.OneForm.{form-within}
+use Rattle.house_writer.specs.Writing.{AfterWriting, after_writing}
+use Rattle.house_writer.specs.Rewriting.{rewrite_file}
+use Rattle.house_writer.proofs.OneForm.{form_within}
 use Rattle.rewrite.proofs.main.Goals.{In-Length}
 use Rattle.rewrite.proofs.main.Goals as goal
 
@@ -19,9 +19,9 @@ within : (c : In-Length) →
 within c =
     let size = c.in-Length.size in
     let called = c.rewrite in
-    let left : afterWriting (Length size) called.new.out ≡ rewriteFile 32768 _ _ =
-    ap (λ (a : Filed). afterWriting a called.new.out) (sym c.in-Length.is) ∙ called.ensures in
-    rw (ap (λ (a : AfterWriting). a.out) left) (form-within 32768 _ _ size (sym (ap (λ (a : AfterWriting). a.answer) left)))
+    let left : after_writing (Length size) called.new.out ≡ rewrite_file 32768 _ _ =
+    ap (λ (a : Filed). after_writing a called.new.out) (sym c.in-Length.is) ∙ called.ensures in
+    rw (ap (λ (a : AfterWriting). a.out) left) (form_within 32768 _ _ size (sym (ap (λ (a : AfterWriting). a.answer) left)))
 
 pub slice_bounds-out-end : goal.slice_bounds-out-end
 slice_bounds-out-end c = (within (goal.at.slice_bounds-out-end c).In-Length).0

@@ -2,18 +2,18 @@
 -- Assumes nothing.
 use mathlib.Core.Path.{sym, ap, ◌∙◌}
 use Prim.Native.Nat.{ℕ}
-use Rattle.runs.specs.Runs.{carriedOut}
-use Rattle.runs.specs.Calls.{turnOf}
-use Rattle.runs.proofs.Reporting.{back-turn}
+use Rattle.runs.specs.Runs.{carried_out}
+use Rattle.runs.specs.Calls.{turn_of}
+use Rattle.runs.proofs.Reporting.{back_turn_lem}
 use Rattle.runs.proofs.turn.Goals as goal
 
 pub returns-then-direction-eq0 : goal.returns-then-direction-eq0
 returns-then-direction-eq0 c =
     let a = c.args in
     c.hierarchize.ensures
-    ∙ ap (λ (k : ℕ). carriedOut (turnOf k a.axis) a.state a.table.now) (sym c.if-direction-eq0.true)
+    ∙ ap (λ (k : ℕ). carried_out (turn_of k a.axis) a.state a.table.now) (sym c.if-direction-eq0.true)
 
 pub returns-else-direction-eq0 : goal.returns-else-direction-eq0
 returns-else-direction-eq0 c =
     let a = c.args in
-    rw (back-turn a.direction a.axis c.if-direction-eq0.false) c.dehierarchize.ensures
+    rw (back_turn_lem a.direction a.axis c.if-direction-eq0.false) c.dehierarchize.ensures

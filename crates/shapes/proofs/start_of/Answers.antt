@@ -4,12 +4,12 @@ use native.Mathlib.Numerals.{add-one}
 use native.Mathlib.Omega.{arith}
 use borrow.Author.Rules.{rules}
 use Rattle.numbering.specs.Count.{start}
-use Rattle.shapes.proofs.Totals.{start-zero, start_small, turn}
+use Rattle.shapes.proofs.Totals.{start_zero, start_small, turn}
 use Rattle.shapes.proofs.start_of.Goals.{After-vector_count}
 use Rattle.shapes.proofs.start_of.Goals as goal
 
 pub loop-j-init : goal.loop-j-init
-loop-j-init c = (omega arith, sym (start-zero c.args.axes))
+loop-j-init c = (omega arith, sym (start_zero c.args.axes))
 
 -- a turn of the loop
 turned : (c : After-vector_count) →

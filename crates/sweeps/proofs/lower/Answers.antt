@@ -5,39 +5,39 @@ use native.Mathlib.Omega.{arith}
 use lib.ListN.{length}
 use Rattle.numbering.specs.Point.{at}
 use Rattle.numbering.specs.Number.{rank}
-use Rattle.cursors.proofs.Below.{cursors-below}
-use Rattle.lists.proofs.Blocks.{table-small}
+use Rattle.cursors.proofs.Below.{cursors_below}
+use Rattle.lists.proofs.Blocks.{table_small}
 use Rattle.sweeps.proofs.Ranks.{Follows}
-use Rattle.sweeps.proofs.Standing.{Standing, rank-in, previous-follows, places, some-place, last-standing, last-of-table}
-use Rattle.sweeps.proofs.Meeting.{met, met-sum}
-use Rattle.sweeps.proofs.Lowering.{Lowering, lowering-starts, lowering-on, lowering-room, lowering-few, lowering-next, lowering-turned, lowering-odds, lowering-walked, lowering-first, lowering-worked}
+use Rattle.sweeps.proofs.Standing.{Standing, rank_in, previous_follows, places, some_place, last_standing, last_of_table}
+use Rattle.sweeps.proofs.Meeting.{met, met_sum}
+use Rattle.sweeps.proofs.Lowering.{Lowering, lowering_starts, lowering_on, lowering_room, lowering_few, lowering_next, lowering_turned, lowering_odds, lowering_walked, lowering_first, lowering_worked}
 use Rattle.sweeps.proofs.lower.Goals.{After-work-odd, After-to_previous-before}
 use Rattle.sweeps.proofs.lower.Goals as goal
 
 -- ---- before the loop
 
 pub overflow_sub-start : goal.overflow_sub-start
-overflow_sub-start c = some-place c.requires.0
+overflow_sub-start c = some_place c.requires.0
 
 pub vector_at-last-requires : goal.vector_at-last-requires
 vector_at-last-requires c =
     let on = c.requires.0 in
-    (omega (arith, on.place), on.few, on.low, omega (arith, places on, some-place on))
+    (omega (arith, on.place), on.few, on.low, omega (arith, places on, some_place on))
 
 pub after_last-cursors-requires : goal.after_last-cursors-requires
 after_last-cursors-requires c =
     let on = c.requires.0 in
     let got = c.vector_at-last.ensures in
-    (record { few = on.few; low = on.low; place = on.place }, c.starts-starts.ensures, (last-standing on got.0 got.1).low)
+    (record { few = on.few; low = on.low; place = on.place }, c.starts-starts.ensures, (last_standing on got.0 got.1).low)
 
 pub loop-start-init : goal.loop-start-init
 loop-start-init c =
     let on = c.requires.0 in
     let got = c.vector_at-last.ensures in
-    let top = last-of-table on got.0 got.1 in (
-      last-standing on got.0 got.1,
+    let top = last_of_table on got.0 got.1 in (
+      last_standing on got.0 got.1,
       rw top.1 c.after_last-cursors.ensures,
-      rw (top.1, top.0) (lowering-starts on (length c.args.table.now) on.long),
+      rw (top.1, top.0) (lowering_starts on (length c.args.table.now) on.long),
     )
 
 -- ---- the level list
@@ -46,20 +46,20 @@ pub subspace_on-v-requires : goal.subspace_on-v-requires
 subspace_on-v-requires c =
     let on = c.requires.0 in
     let s = c.loop-start.invariant in
-    (on.few, on.low, on.place, s.0.vector, s.0.low, lowering-first on s.0 s.2)
+    (on.few, on.low, on.place, s.0.vector, s.0.low, lowering_first on s.0 s.2)
 
 pub pass_back-requires : goal.pass_back-requires
 pass_back-requires c =
     let s = c.loop-start.invariant in
     let m = met c.subspace_on-v.ensures in
-    (m.seen, met-sum s.0 _ m, rw (m.on, m.levels) s.1)
+    (m.seen, met_sum s.0 _ m, rw (m.on, m.levels) s.1)
 
 pub work-odd-requires : goal.work-odd-requires
 work-odd-requires c =
     let pre = c.requires in
     let s = c.loop-start.invariant in
     let m = met c.subspace_on-v.ensures in
-    (m.seen, cursors-below m.seen (met-sum s.0 _ m) c.pass_back.ensures, rw m.on (lowering-on pre.0 s.2), lowering-room pre.0 s.2 pre.1)
+    (m.seen, cursors_below m.seen (met_sum s.0 _ m) c.pass_back.ensures, rw m.on (lowering_on pre.0 s.2), lowering_room pre.0 s.2 pre.1)
 
 -- After the work on it.
 done : (c : After-work-odd) →
@@ -70,27 +70,27 @@ done c =
     let on = c.requires.0 in
     let s = c.loop-start.invariant in
     let did = c.work-odd.ensures in
-    lowering-worked on s.0 s.2 _ (met c.subspace_on-v.ensures) _ _ did.worked did.odds did.turned
+    lowering_worked on s.0 s.2 _ (met c.subspace_on-v.ensures) _ _ did.worked did.odds did.turned
 
 pub overflow_add-odd : goal.overflow_add-odd
 overflow_add-odd c =
     let on = c.requires.0 in
-    omega (arith, lowering-few on (done (goal.at.overflow_add-odd c).After-work-odd), on.long, table-small _ _ on)
+    omega (arith, lowering_few on (done (goal.at.overflow_add-odd c).After-work-odd), on.long, table_small _ _ on)
 
 -- ---- after the last
 
 pub returns-then-start-eq0-clause-walked : goal.returns-then-start-eq0-clause-walked
 returns-then-start-eq0-clause-walked c =
     let all = done (goal.at.returns-then-start-eq0-clause-walked c).After-work-odd in
-    lowering-walked c.requires.0 all c.if-start-eq0.true (rank-in c.loop-start.invariant.0.vector)
+    lowering_walked c.requires.0 all c.if-start-eq0.true (rank_in c.loop-start.invariant.0.vector)
 
 pub returns-then-start-eq0-clause-turned : goal.returns-then-start-eq0-clause-turned
 returns-then-start-eq0-clause-turned c =
-    lowering-turned c.requires.0 (done (goal.at.returns-then-start-eq0-clause-turned c).After-work-odd) c.if-start-eq0.true
+    lowering_turned c.requires.0 (done (goal.at.returns-then-start-eq0-clause-turned c).After-work-odd) c.if-start-eq0.true
 
 pub returns-then-start-eq0-clause-odds : goal.returns-then-start-eq0-clause-odds
 returns-then-start-eq0-clause-odds c =
-    lowering-odds c.requires.0 (done (goal.at.returns-then-start-eq0-clause-odds c).After-work-odd) c.if-start-eq0.true
+    lowering_odds c.requires.0 (done (goal.at.returns-then-start-eq0-clause-odds c).After-work-odd) c.if-start-eq0.true
 
 -- ---- the one before
 
@@ -98,14 +98,14 @@ pub to_previous-before-requires : goal.to_previous-before-requires
 to_previous-before-requires c =
     let on = c.requires.0 in
     let s = c.loop-start.invariant in
-    (omega (arith, on.place), on.few, omega (arith, s.0.low, on.low), s.0.vector, omega (arith, lowering-first on s.0 s.2, c.if-start-eq0.false))
+    (omega (arith, on.place), on.few, omega (arith, s.0.low, on.low), s.0.vector, omega (arith, lowering_first on s.0 s.2, c.if-start-eq0.false))
 
 -- How it comes before the other.
 follows : (c : After-to_previous-before) →
     let line = c.args.line in
     let before = c.to_previous-before in
     Follows line.axes before.result (rank (at before.new.levels) line.axes) c.loop-start.sum (rank (at c.loop-start.levels) line.axes)
-follows c = previous-follows (omega (arith, c.requires.0.place)) c.loop-start.invariant.0.vector c.to_previous-before.ensures
+follows c = previous_follows (omega (arith, c.requires.0.place)) c.loop-start.invariant.0.vector c.to_previous-before.ensures
 
 standing : (c : After-to_previous-before) →
     let line = c.args.line in
@@ -128,7 +128,7 @@ loop-start-preserved-then-before-sum c =
           (λ same. absurd (omega (arith, same.0, c.if-before-sum.true)))
           (λ below. rw below.2 c.after_last-cursors-then-before-sum.ensures)
           before,
-      lowering-next c.requires.0 (done seen.After-work-odd) before,
+      lowering_next c.requires.0 (done seen.After-work-odd) before,
     )
 
 -- It is of the same sum.
@@ -143,5 +143,5 @@ loop-start-preserved c =
           (λ same. rw (sym same.1, sym same.0) (rw (m.on, m.levels) at c.pass_back.ensures))
           (λ below. absurd (omega (arith, below.0, c.if-before-sum.false)))
           before,
-      lowering-next c.requires.0 (done seen.After-work-odd) before,
+      lowering_next c.requires.0 (done seen.After-work-odd) before,
     )

@@ -6,21 +6,21 @@ use native.Mathlib.Omega.{arith}
 use lib.Pow.{pow_pos}
 use Rattle.numbering.specs.Point.{at}
 use Rattle.numbering.specs.Number.{rank}
-use Rattle.cursors.proofs.Below.{cursors-below}
-use Rattle.lists.proofs.Blocks.{table-small}
+use Rattle.cursors.proofs.Below.{cursors_below}
+use Rattle.lists.proofs.Blocks.{table_small}
 use Rattle.sweeps.proofs.Ranks.{Follows}
-use Rattle.sweeps.proofs.Standing.{Standing, rank-in, sum_inside, first-standing, first-rank, next-follows, places}
-use Rattle.sweeps.proofs.Meeting.{met, met-sum}
-use Rattle.sweeps.proofs.Raising.{Raising, raising-starts, raising-on, raising-room, raising-few, raising-former, raising-odds, raising-next, raising-walked, raising-first, raising-end, raising-inside, raising-worked}
+use Rattle.sweeps.proofs.Standing.{Standing, rank_in, sum_inside, first_standing, first_rank_lem, next_follows, places}
+use Rattle.sweeps.proofs.Meeting.{met, met_sum}
+use Rattle.sweeps.proofs.Raising.{Raising, raising_starts, raising_on, raising_room, raising_few, raising_former, raising_odds, raising_next, raising_walked, raising_first, raising_end, raising_inside, raising_worked}
 use Rattle.sweeps.proofs.raise.Goals.{After-work-odd, After-to_next-next}
 use Rattle.sweeps.proofs.raise.Goals as goal
 
 pub loop-start-init : goal.loop-start-init
 loop-start-init c =
     let line = c.args.line in (
-      first-standing line.axes line.level,
-      rw (first-rank line.axes) c.before_first-cursors.ensures,
-      rw (first-rank line.axes) (raising-starts c.requires.0),
+      first_standing line.axes line.level,
+      rw (first_rank_lem line.axes) c.before_first-cursors.ensures,
+      rw (first_rank_lem line.axes) (raising_starts c.requires.0),
     )
 
 -- ---- the level list
@@ -29,14 +29,14 @@ pub subspace_on-v-requires : goal.subspace_on-v-requires
 subspace_on-v-requires c =
     let on = c.requires.0 in
     let s = c.loop-start.invariant in
-    (on.few, on.low, on.place, s.0.vector, s.0.low, raising-first on s.0 s.2)
+    (on.few, on.low, on.place, s.0.vector, s.0.low, raising_first on s.0 s.2)
 
 pub work-odd-requires : goal.work-odd-requires
 work-odd-requires c =
     let pre = c.requires in
     let s = c.loop-start.invariant in
     let m = met c.subspace_on-v.ensures in
-    (m.seen, cursors-below m.seen (met-sum s.0 _ m) (rw (m.on, m.levels) s.1), rw m.on (raising-on pre.0 s.2), raising-room pre.0 s.2 pre.1)
+    (m.seen, cursors_below m.seen (met_sum s.0 _ m) (rw (m.on, m.levels) s.1), rw m.on (raising_on pre.0 s.2), raising_room pre.0 s.2 pre.1)
 
 -- After the work on it.
 done : (c : After-work-odd) →
@@ -47,13 +47,13 @@ done c =
     let on = c.requires.0 in
     let s = c.loop-start.invariant in
     let did = c.work-odd.ensures in
-    raising-worked on s.0 s.2 _ (met c.subspace_on-v.ensures) _ _ did.worked did.odds did.turned
+    raising_worked on s.0 s.2 _ (met c.subspace_on-v.ensures) _ _ did.worked did.odds did.turned
 
 pub overflow_add-odd : goal.overflow_add-odd
 overflow_add-odd c =
     let on = c.requires.0 in
     let s = c.loop-start.invariant in
-    omega (arith, raising-few on (done (goal.at.overflow_add-odd c).After-work-odd), raising-inside on s.0 s.2, on.long, table-small _ _ on)
+    omega (arith, raising_few on (done (goal.at.overflow_add-odd c).After-work-odd), raising_inside on s.0 s.2, on.long, table_small _ _ on)
 
 -- ---- after the last
 
@@ -61,17 +61,17 @@ pub returns-then-start-table-clause-walked : goal.returns-then-start-table-claus
 returns-then-start-table-clause-walked c =
     let all = done (goal.at.returns-then-start-table-clause-walked c).After-work-odd in
     let here = c.loop-start.invariant.0 in
-    raising-walked c.requires.0 all here.low (rank-in here.vector) (c.if-start-table.true ∙ all.parted.long)
+    raising_walked c.requires.0 all here.low (rank_in here.vector) (c.if-start-table.true ∙ all.parted.long)
 
 pub returns-then-start-table-clause-turned : goal.returns-then-start-table-clause-turned
 returns-then-start-table-clause-turned c =
     let all = done (goal.at.returns-then-start-table-clause-turned c).After-work-odd in
-    raising-former c.requires.0 all (c.if-start-table.true ∙ all.parted.long)
+    raising_former c.requires.0 all (c.if-start-table.true ∙ all.parted.long)
 
 pub returns-then-start-table-clause-odds : goal.returns-then-start-table-clause-odds
 returns-then-start-table-clause-odds c =
     let all = done (goal.at.returns-then-start-table-clause-odds c).After-work-odd in
-    raising-odds c.requires.0 all (c.if-start-table.true ∙ all.parted.long)
+    raising_odds c.requires.0 all (c.if-start-table.true ∙ all.parted.long)
 
 -- ---- the next
 
@@ -79,30 +79,30 @@ pub pass-requires : goal.pass-requires
 pass-requires c =
     let s = c.loop-start.invariant in
     let m = met c.subspace_on-v.ensures in
-    (m.seen, met-sum s.0 _ m, rw (m.on, m.levels) s.1)
+    (m.seen, met_sum s.0 _ m, rw (m.on, m.levels) s.1)
 
 -- It is one of the shape, since the table goes on.
-next-low : (c : After-to_next-next) → c.to_next-next.result ≤ c.args.line.level
-next-low c =
+next_low : (c : After-to_next-next) → c.to_next-next.result ≤ c.args.line.level
+next_low c =
     let on = c.requires.0 in
     let s = c.loop-start.invariant in
     let next = c.to_next-next.ensures in
     sum_inside next.vector c.args.line.level
-    (omega (arith, next.first, raising-end on s.0 s.2, raising-inside on s.0 s.2, on.long, places on, c.if-start-table.false))
+    (omega (arith, next.first, raising_end on s.0 s.2, raising_inside on s.0 s.2, on.long, places on, c.if-start-table.false))
 
 -- How it follows the other.
 follows : (c : After-to_next-next) →
     let line = c.args.line in
     let next = c.to_next-next in
     Follows line.axes c.loop-start.sum (rank (at c.loop-start.levels) line.axes) next.result (rank (at next.new.levels) line.axes)
-follows c = next-follows (omega (arith, c.requires.0.place)) c.loop-start.invariant.0.vector c.to_next-next.ensures
+follows c = next_follows (omega (arith, c.requires.0.place)) c.loop-start.invariant.0.vector c.to_next-next.ensures
 
 pub before_first-cursors-requires-then-sum-next : goal.before_first-cursors-requires-then-sum-next
 before_first-cursors-requires-then-sum-next c =
     let on = c.requires.0 in (
       record { few = on.few; low = on.low; place = on.place },
       c.starts-starts.ensures,
-      next-low (goal.at.before_first-cursors-requires-then-sum-next c).After-to_next-next,
+      next_low (goal.at.before_first-cursors-requires-then-sum-next c).After-to_next-next,
     )
 
 -- Less of the table is left.
@@ -112,7 +112,7 @@ nearer : (c : After-to_next-next) →
 nearer c =
     let on = c.requires.0 in
     let s = c.loop-start.invariant in
-    omega (arith, raising-first on s.0 s.2, raising-end on s.0 s.2, raising-inside on s.0 s.2, on.long, pow_pos c.loop-start.sum)
+    omega (arith, raising_first on s.0 s.2, raising_end on s.0 s.2, raising_inside on s.0 s.2, on.long, pow_pos c.loop-start.sum)
 
 pub loop-start-smaller : goal.loop-start-smaller
 loop-start-smaller c = nearer (goal.at.loop-start-smaller c).After-to_next-next
@@ -124,7 +124,7 @@ standing : (c : After-to_next-next) →
     let line = c.args.line in
     let next = c.to_next-next in
     Standing line.axes line.level next.result next.new.levels
-standing c = record { vector = c.to_next-next.ensures.vector; low = next-low c }
+standing c = record { vector = c.to_next-next.ensures.vector; low = next_low c }
 
 -- It is the first of the sum above.
 pub loop-start-preserved-then-sum-next : goal.loop-start-preserved-then-sum-next
@@ -136,7 +136,7 @@ loop-start-preserved-then-sum-next c =
           (λ same. absurd (omega (arith, same.0, c.if-sum-next.true)))
           (λ above. rw above.1 c.before_first-cursors-then-sum-next.ensures)
           next,
-      raising-next c.requires.0 (done seen.After-work-odd) (next-low seen.After-to_next-next) next,
+      raising_next c.requires.0 (done seen.After-work-odd) (next_low seen.After-to_next-next) next,
     )
 
 -- It is of the same sum.
@@ -151,5 +151,5 @@ loop-start-preserved c =
           (λ same. rw (same.1, same.0) (rw (m.on, m.levels) at c.pass.ensures))
           (λ above. absurd (omega (arith, above.0, c.if-sum-next.false)))
           next,
-      raising-next c.requires.0 (done seen.After-work-odd) (next-low seen.After-to_next-next) next,
+      raising_next c.requires.0 (done seen.After-work-odd) (next_low seen.After-to_next-next) next,
     )

@@ -2,18 +2,18 @@
 -- Assumes nothing.
 use Rattle.std.proofs.Common.{true, sym, arith}
 use Rattle.refusals.specs.declared.Refusal.TheVariants.{StillForward}
-use Rattle.states.proofs.Checked.{axis-found, none_found}
-use Rattle.tables.specs.Tables.{checkSampled}
+use Rattle.states.proofs.Checked.{axis_found, none_found}
+use Rattle.tables.specs.Tables.{check_sampled}
 use Rattle.tables.proofs.check_sampled.Goals as goal
 
 pub returns-then-first-shape : goal.returns-then-first-shape
-unfolding checkSampled
+unfolding check_sampled
 returns-then-first-shape c =
     let found = c.first_axis-first in
-    sym (axis-found true StillForward c.args.state found.result found.ensures (omega arith))
+    sym (axis_found true StillForward c.args.state found.result found.ensures (omega arith))
 
 pub returns : goal.returns
-unfolding checkSampled
+unfolding check_sampled
 returns c =
     let found = c.first_axis-first in
     sym (none_found true StillForward c.args.state found.result found.ensures (omega arith))

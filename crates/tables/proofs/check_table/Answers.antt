@@ -2,19 +2,19 @@
 -- Assumes nothing.
 use Rattle.std.proofs.Common.{◌≡◌, sym, ◌∙◌}
 use Rattle.refusals.specs.declared.Verdict.TheVariants.{Passed}
-use Rattle.shapes.specs.Shapes.{checkShape}
-use Rattle.tables.specs.Tables.{checkTable}
+use Rattle.shapes.specs.Shapes.{check_shape}
+use Rattle.tables.specs.Tables.{check_table}
 use Rattle.tables.proofs.check_table.Goals.{In_default}
 use Rattle.tables.proofs.check_table.Goals as goal
 
 -- the shape passed
-passed : (c : In_default) → checkShape c.args.shape ≡ Passed
+passed : (c : In_default) → check_shape c.args.shape ≡ Passed
 passed c = sym c.check_shape.ensures ∙ c.in_default.is
 
 pub returns-in-Refused : goal.returns-in-Refused
-unfolding checkTable
+unfolding check_table
 returns-in-Refused c = rw (← c.check_shape.ensures, c.in-Refused.is)
 
 pub returns : goal.returns
-unfolding checkTable
+unfolding check_table
 returns c = rw (passed (goal.at.returns c).In_default) c.check_length.ensures

@@ -1,35 +1,35 @@
 use Rattle.std.proofs.Common.{◌≡◌, length, get_or, pos, sym, ap, ◌∙◌, arith, w64, rules, below_more, le-leb}
 use borrow.Author.Tests.{lt-leb}
 use mir.ValLaws.{to_z-of_z}
-use Rattle.naturals.specs.FirstFailing.{firstFailing}
-use Rattle.naturals.proofs.FirstFailing.{first-none, first-at}
-use Rattle.integers.specs.Half.{isRate}
-use Rattle.hierarchy.proofs.Values.{value-suc}
-use Rattle.tables.specs.Tables.{rateAt, checkRates}
+use Rattle.naturals.specs.FirstFailing.{first_failing}
+use Rattle.naturals.proofs.FirstFailing.{first_none, first_at_lem}
+use Rattle.integers.specs.Half.{is_rate}
+use Rattle.hierarchy.proofs.Values.{value_suc}
+use Rattle.tables.specs.Tables.{rate_at, check_rates}
 use Rattle.tables.proofs.first_rate.Goals.{After-is_rate}
 use Rattle.tables.proofs.first_rate.Goals as goal
 
 -- the test's answer is that of the value passed
 tested : (c : After-is_rate) →
-    c.is_rate.result ≡ rateAt c.args.table.now c.loop-p.p
-unfolding rateAt
+    c.is_rate.result ≡ rate_at c.args.table.now c.loop-p.p
+unfolding rate_at
 tested c =
     let xs = c.args.table.now in
     let p = c.loop-p.p in
     c.is_rate.ensures
-    ∙ ap isRate (to_z-of_z w64 (get_or xs p (pos 0)) (record { sfits = c.is_rate-arg-1.given }) ∙ sym (value-suc xs p))
+    ∙ ap is_rate (to_z-of_z w64 (get_or xs p (pos 0)) (record { sfits = c.is_rate-arg-1.given }) ∙ sym (value_suc xs p))
 
 pub loop-p-init : goal.loop-p-init
 loop-p-init c = (search rules, λ p h. absurd (omega arith))
 
 pub returns-then-not-is_rate : goal.returns-then-not-is_rate
-unfolding checkRates
+unfolding check_rates
 returns-then-not-is_rate c =
     let seen = goal.at.returns-then-not-is_rate c in
     let xs = c.args.table.now in
     let loop = c.loop-p in
-    let first : firstFailing (rateAt xs) (length xs) ≡ loop.p =
-    first-at (rateAt xs) (length xs) loop.p loop.invariant.1 (sym (tested seen.After-is_rate) ∙ c.if-not-is_rate.true) (omega arith) in
+    let first : first_failing (rate_at xs) (length xs) ≡ loop.p =
+    first_at_lem (rate_at xs) (length xs) loop.p loop.invariant.1 (sym (tested seen.After-is_rate) ∙ c.if-not-is_rate.true) (omega arith) in
     rw (first, lt-leb (length xs) loop.p (omega arith))
 
 pub loop-p-preserved : goal.loop-p-preserved
@@ -39,10 +39,10 @@ loop-p-preserved c = (
 )
 
 pub returns : goal.returns
-unfolding checkRates
+unfolding check_rates
 returns c =
     let xs = c.args.table.now in
     rw (
-      first-none (rateAt xs) (length xs) (λ p h. c.loop-p.invariant.1 p (omega arith)),
+      first_none (rate_at xs) (length xs) (λ p h. c.loop-p.invariant.1 p (omega arith)),
       le-leb (length xs) (length xs) (omega arith),
     )

@@ -2,11 +2,11 @@
 -- Assumes nothing.
 use Rattle.std.proofs.Common.{◌-◌, ◌≤◌, length}
 use Rattle.naturals.specs.FirstFailing.{Passes}
-use Rattle.tables.specs.Tables.{rateAt}
+use Rattle.tables.specs.Tables.{rate_at}
 use Rattle.tables.proofs.first_rate.Given as goal
 
 abbrev pub invariant-loop-p : goal.invariant-loop-p
-invariant-loop-p l = (l.p ≤ length l.table) × Passes (rateAt l.table) l.p
+invariant-loop-p l = (l.p ≤ length l.table) × Passes (rate_at l.table) l.p
 
 abbrev pub decreases-loop-p : goal.decreases-loop-p
 decreases-loop-p l = length l.table - l.p

@@ -1,20 +1,20 @@
 -- `tables::is_scaled` meets its contract: the shift by d is the division by 2^d rounded down, and its rate times 2^d is the value exactly where 2^d divides it.
 -- Assumes nothing.
 use Rattle.std.proofs.Common.{◌≡◌, sym, ap, ◌∙◌}
-use Rattle.integers.specs.Half.{isRate}
+use Rattle.integers.specs.Half.{is_rate}
 use Rattle.tables.specs.Tables.{quotient}
-use Rattle.tables.proofs.Quotients.{shifted-bits, not-scaled, scaled-test}
+use Rattle.tables.proofs.Quotients.{shifted_bits, not_scaled, scaled_test}
 use Rattle.tables.proofs.is_scaled.Goals.{After-is_rate}
 use Rattle.tables.proofs.is_scaled.Goals as goal
 
 -- the test's answer is that of the quotient
-tested : (c : After-is_rate) → c.is_rate.result ≡ isRate (quotient c.args.axes c.args.v)
-tested c = c.is_rate.ensures ∙ ap isRate (shifted-bits c.args.axes c.args.v c.ranges.v)
+tested : (c : After-is_rate) → c.is_rate.result ≡ is_rate (quotient c.args.axes c.args.v)
+tested c = c.is_rate.ensures ∙ ap is_rate (shifted_bits c.args.axes c.args.v c.ranges.v)
 
 pub returns-then-not-is_rate : goal.returns-then-not-is_rate
 returns-then-not-is_rate c =
     let a = c.args in
-    sym (not-scaled a.axes a.v (sym (tested (goal.at.returns-then-not-is_rate c).After-is_rate) ∙ c.if-not-is_rate.true))
+    sym (not_scaled a.axes a.v (sym (tested (goal.at.returns-then-not-is_rate c).After-is_rate) ∙ c.if-not-is_rate.true))
 
 pub scaled-requires : goal.scaled-requires
 scaled-requires c =
@@ -22,5 +22,5 @@ scaled-requires c =
 
 pub returns : goal.returns
 returns c =
-    rw (c.scaled.ensures, shifted-bits c.args.axes c.args.v c.ranges.v)
-    (scaled-test c.args.axes c.args.v c.requires c.ranges.v (sym (tested (goal.at.returns c).After-is_rate) ∙ c.if-not-is_rate.false))
+    rw (c.scaled.ensures, shifted_bits c.args.axes c.args.v c.ranges.v)
+    (scaled_test c.args.axes c.args.v c.requires c.ranges.v (sym (tested (goal.at.returns c).After-is_rate) ∙ c.if-not-is_rate.false))

@@ -3,29 +3,29 @@
 use Rattle.std.proofs.Common.{◌≡◌, ◌≤◌, List, length, ℤ, sym, ap, ◌∙◌}
 use Rattle.refusals.specs.declared.Verdict.TheVariants.{Passed}
 use Rattle.states.specs.After.{left}
-use Rattle.states.specs.States.{checkState}
-use Rattle.states.proofs.Checked.{state-passed}
-use Rattle.tables.specs.Tables.{checkSampled}
-use Rattle.tables.proofs.Answering.{unload-unchecked, unload-forward, unload-refused, unload-done}
+use Rattle.states.specs.States.{check_state}
+use Rattle.states.proofs.Checked.{state_passed}
+use Rattle.tables.specs.Tables.{check_sampled}
+use Rattle.tables.proofs.Answering.{unload_unchecked, unload_forward, unload_refused, unload_done}
 use Rattle.tables.proofs.unload.Goals.{In_default, In_default-check_sampled}
 use Rattle.tables.proofs.unload.Goals as goal
 
 -- the state passed
 checked : (c : In_default) →
-    let a = c.args in checkState a.state (length a.table.now) ≡ Passed
+    let a = c.args in check_state a.state (length a.table.now) ≡ Passed
 checked c = sym c.check_state.ensures ∙ c.in_default.is
 
 few : (c : In_default) → c.args.state.shape.axes ≤ 8
-few c = let a = c.args in (state-passed a.state (length a.table.now) (checked c)).range.high
+few c = let a = c.args in (state_passed a.state (length a.table.now) (checked c)).range.high
 
 -- no axis is forward
-sampled : (c : In_default-check_sampled) → checkSampled c.args.state ≡ Passed
+sampled : (c : In_default-check_sampled) → check_sampled c.args.state ≡ Passed
 sampled c = sym c.check_sampled.ensures ∙ c.in_default-check_sampled.is
 
 pub returns-in-Refused : goal.returns-in-Refused
 returns-in-Refused c =
     let a = c.args in
-    sym (unload-unchecked a.state a.table.now c.in-Refused.r (sym c.check_state.ensures ∙ c.in-Refused.is))
+    sym (unload_unchecked a.state a.table.now c.in-Refused.r (sym c.check_state.ensures ∙ c.in-Refused.is))
 
 pub check_sampled-requires : goal.check_sampled-requires
 check_sampled-requires c = few (goal.at.check_sampled-requires c).In_default
@@ -34,7 +34,7 @@ pub returns-in-Refused-check_sampled : goal.returns-in-Refused-check_sampled
 returns-in-Refused-check_sampled c =
     let a = c.args in
     sym
-    (unload-forward a.state a.table.now (checked (goal.at.returns-in-Refused-check_sampled c).In_default) c.in-Refused-check_sampled.r
+    (unload_forward a.state a.table.now (checked (goal.at.returns-in-Refused-check_sampled c).In_default) c.in-Refused-check_sampled.r
     (sym c.check_sampled.ensures ∙ c.in-Refused-check_sampled.is))
 
 pub all_scaled-requires : goal.all_scaled-requires
@@ -45,7 +45,7 @@ returns-then-not-all_scaled c =
     let seen = goal.at.returns-then-not-all_scaled c in
     let a = c.args in
     sym
-    (unload-refused a.state a.table.now (checked seen.In_default) (sampled seen.In_default-check_sampled)
+    (unload_refused a.state a.table.now (checked seen.In_default) (sampled seen.In_default-check_sampled)
     (sym c.all_scaled.ensures ∙ c.if-not-all_scaled.true))
 
 pub divide-requires : goal.divide-requires
@@ -57,5 +57,5 @@ returns c =
     let a = c.args in
     ap (λ (ys : List ℤ). left Passed ys) c.divide.ensures
     ∙ sym
-    (unload-done a.state a.table.now (checked seen.In_default) (sampled seen.In_default-check_sampled)
+    (unload_done a.state a.table.now (checked seen.In_default) (sampled seen.In_default-check_sampled)
     (sym c.all_scaled.ensures ∙ c.if-not-all_scaled.false))

@@ -1,5 +1,5 @@
 use native.Mathlib.Omega.{arith}
-use Rattle.vectors.proofs.Preceding.{first_small, before-of-sum, some_level, last-below}
+use Rattle.vectors.proofs.Preceding.{first_small, before_of_sum, some_level, last_below}
 use Rattle.vectors.proofs.to_previous.Goals as goal
 
 pub overflow_add-levels : goal.overflow_add-levels
@@ -14,7 +14,7 @@ returns-then-levels-k-gt0 c =
     let pre = c.requires in
     let loop = c.loop-k in
     rw loop.invariant.1
-    (before-of-sum pre.1 pre.3 loop.invariant.0 c.loop-k-test.true (rw loop.invariant.1 at c.if-levels-k-gt0.true))
+    (before_of_sum pre.1 pre.3 loop.invariant.0 c.loop-k-test.true (rw loop.invariant.1 at c.if-levels-k-gt0.true))
 
 pub overflow_sub-less : goal.overflow_sub-less
 overflow_sub-less c =
@@ -24,4 +24,4 @@ overflow_sub-less c =
 pub returns : goal.returns
 returns c =
     let pre = c.requires in
-    last-below pre.0 pre.1 pre.3 c.loop-k.invariant.0 c.loop-k-test.false pre.4
+    last_below pre.0 pre.1 pre.3 c.loop-k.invariant.0 c.loop-k-test.false pre.4

@@ -1,32 +1,32 @@
 use mathlib.Core.Path.{refl, ◌∙◌}
-use Rattle.shapes.proofs.Checked.{passed-in-range}
-use Rattle.grids.proofs.Turned.{turned-length}
-use Rattle.whole.proofs.Climbing.{up-more, up-ends, room-first, room-next, room-there}
+use Rattle.shapes.proofs.Checked.{passed_in_range}
+use Rattle.grids.proofs.Turned.{turned_length}
+use Rattle.whole.proofs.Climbing.{up_more, up_ends, room_first, room_next, room_there}
 use Rattle.whole.proofs.climb.Goals as goal
 
 pub loop-k-init : goal.loop-k-init
 loop-k-init c =
     let a = c.args in
-    (c.requires.long, room-first a.shape a.from a.table.now c.requires, refl)
+    (c.requires.long, room_first a.shape a.from a.table.now c.requires, refl)
 
 pub lower-requires : goal.lower-requires
 lower-requires c =
     let loop = c.loop-k in
     let shape = c.args.shape in
-    let range = passed-in-range shape c.requires.shape in
-    room-there shape loop.k loop.table range c.loop-k-test.true loop.invariant.0 loop.invariant.1
+    let range = passed_in_range shape c.requires.shape in
+    room_there shape loop.k loop.table range c.loop-k-test.true loop.invariant.0 loop.invariant.1
 
 pub loop-k-preserved : goal.loop-k-preserved
 loop-k-preserved c =
     let loop = c.loop-k in
     let shape = c.args.shape in
     rw c.lower.ensures.turned (
-      turned-length shape loop.k loop.table,
-      room-next shape loop.k loop.table loop.invariant.0 loop.invariant.1,
-      up-more shape loop.k loop.table c.loop-k-test.true ∙ loop.invariant.2,
+      turned_length shape loop.k loop.table,
+      room_next shape loop.k loop.table loop.invariant.0 loop.invariant.1,
+      up_more shape loop.k loop.table c.loop-k-test.true ∙ loop.invariant.2,
     )
 
 pub returns : goal.returns
 returns c =
     let loop = c.loop-k in
-    up-ends c.args.shape loop.k loop.table c.loop-k-test.false ∙ loop.invariant.2
+    up_ends c.args.shape loop.k loop.table c.loop-k-test.false ∙ loop.invariant.2

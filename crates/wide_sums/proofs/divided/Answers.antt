@@ -5,10 +5,10 @@ use lib.IntN.{pos, ◌+ℤ◌}
 use mir.Syntax.{w64}
 use mir.ValLaws.{to_z-of_z}
 use Rattle.surfaces.specs.Weights.{unit}
-use Rattle.wide_sums.proofs.Parts.{low-quotient, divided-fits}
+use Rattle.wide_sums.proofs.Parts.{low_quotient, divided_fits}
 use Rattle.wide_sums.proofs.divided.Goals as goal
 
 pub returns : goal.returns
 returns c =
-    rw (to_z-of_z w64 c.args.high c.ranges.high, low-quotient c.args.low c.requires.1)
-    (to_z-of_z w64 (c.args.high +ℤ pos (c.args.low / unit)) (divided-fits c.args.high c.args.low c.requires.0 c.requires.1))
+    rw (to_z-of_z w64 c.args.high c.ranges.high, low_quotient c.args.low c.requires.1)
+    (to_z-of_z w64 (c.args.high +ℤ pos (c.args.low / unit)) (divided_fits c.args.high c.args.low c.requires.0 c.requires.1))

@@ -8,7 +8,7 @@ use mir.Syntax.{w64}
 use mir.Val.{of_z, to_z}
 use mir.ValLaws.{to_z-of_z}
 use Rattle.surfaces.specs.Weights.{unit}
-use Rattle.wide_sums.proofs.Joining.{joined-above, joined-below}
+use Rattle.wide_sums.proofs.Joining.{joined_above, joined_below}
 use Rattle.wide_sums.proofs.joined.Goals.{After-divided}
 use Rattle.wide_sums.proofs.joined.Goals as goal
 
@@ -16,8 +16,8 @@ use Rattle.wide_sums.proofs.joined.Goals as goal
 high_read : (c : After-divided) → to_z w64 (of_z w64 c.args.high) ≡ c.args.high
 high_read c = to_z-of_z w64 c.args.high c.ranges.high
 
-down-read : (c : After-divided) → let a = c.args in to_z w64 (of_z w64 c.divided.result) ≡ a.high +ℤ pos (a.low / unit)
-down-read c =
+down_read : (c : After-divided) → let a = c.args in to_z w64 (of_z w64 c.divided.result) ≡ a.high +ℤ pos (a.low / unit)
+down_read c =
     to_z-of_z w64 c.divided.result (record { sfits = c.divided.type_inv })
     ∙ c.divided.ensures
     ∙ ap (λ (z : ℤ). z +ℤ pos (c.args.low / unit)) (high_read c)
@@ -27,11 +27,11 @@ returns-then-divided-lt0 c =
     let a = c.args in
     to_z-of_z w64 c.divided-then-divided-lt0.result (record { sfits = c.divided-then-divided-lt0.type_inv })
     ∙ c.divided-then-divided-lt0.ensures
-    ∙ rw (high_read (goal.at.returns-then-divided-lt0 c).After-divided) (joined-below a.high a.low (rw (sym (down-read (goal.at.returns-then-divided-lt0 c).After-divided)) c.if-divided-lt0.true))
+    ∙ rw (high_read (goal.at.returns-then-divided-lt0 c).After-divided) (joined_below a.high a.low (rw (sym (down_read (goal.at.returns-then-divided-lt0 c).After-divided)) c.if-divided-lt0.true))
 
 pub returns : goal.returns
 returns c =
     let a = c.args in
     to_z-of_z w64 c.divided-2.result (record { sfits = c.divided-2.type_inv })
     ∙ c.divided-2.ensures
-    ∙ rw (high_read (goal.at.returns c).After-divided) (joined-above a.high a.low (rw (sym (down-read (goal.at.returns c).After-divided)) c.if-divided-lt0.false))
+    ∙ rw (high_read (goal.at.returns c).After-divided) (joined_above a.high a.low (rw (sym (down_read (goal.at.returns c).After-divided)) c.if-divided-lt0.false))

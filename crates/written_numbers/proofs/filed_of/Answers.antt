@@ -9,7 +9,7 @@ use mir.Syntax.{w64}
 use mir.Val.{SFits, to_z, of_z}
 use mir.ValLaws.{to_z-of_z}
 use Rattle.house_numbers.specs.Numbers.{filed}
-use Rattle.written_numbers.proofs.FiledForm.{filed-fits, twice-fits, more-fits, twice-below, twice-above, one_less}
+use Rattle.written_numbers.proofs.FiledForm.{filed_fits, twice_fits, more_fits, twice_below, twice_above, one_less}
 use Rattle.written_numbers.proofs.filed_of.Goals.{Else-rate-lt0, Then-rate-lt0}
 use Rattle.written_numbers.proofs.filed_of.Goals as goal
 
@@ -22,45 +22,45 @@ doubled : (c : Then-rate-lt0) → negsuc 1 *ℤ to_z w64 (of_z w64 c.args.rate) 
 doubled c =
     let z = c.args.rate in
     let fits = c.ranges.rate in
-    ap (λ (v : ℤ). negsuc 1 *ℤ v) (to_z-of_z w64 z fits) ∙ twice-below z (test z true fits c.if-rate-lt0.true)
+    ap (λ (v : ℤ). negsuc 1 *ℤ v) (to_z-of_z w64 z fits) ∙ twice_below z (test z true fits c.if-rate-lt0.true)
 
 lessened : (c : Then-rate-lt0) →
     to_z w64 (of_z w64 (negsuc 1 *ℤ to_z w64 (of_z w64 c.args.rate))) -ℤ pos 1 ≡ pos (filed c.args.rate)
 lessened c =
     let z = c.args.rate in
-    rw (doubled c, to_z-of_z w64 (pos (suc (filed z))) (more-fits z c.requires)) (one_less (filed z))
+    rw (doubled c, to_z-of_z w64 (pos (suc (filed z))) (more_fits z c.requires)) (one_less (filed z))
 
 below : (c : Then-rate-lt0) →
     to_z w64 (of_z w64 (to_z w64 (of_z w64 (negsuc 1 *ℤ to_z w64 (of_z w64 c.args.rate))) -ℤ pos 1)) ≡ pos (filed c.args.rate)
-below c = let z = c.args.rate in rw (lessened c) (to_z-of_z w64 (pos (filed z)) (twice-fits z c.requires))
+below c = let z = c.args.rate in rw (lessened c) (to_z-of_z w64 (pos (filed z)) (twice_fits z c.requires))
 
 -- from zero on: twice the rate
 raised : (c : Else-rate-lt0) → pos 2 *ℤ to_z w64 (of_z w64 c.args.rate) ≡ pos (filed c.args.rate)
 raised c =
     let z = c.args.rate in
     let fits = c.ranges.rate in
-    ap (λ (v : ℤ). pos 2 *ℤ v) (to_z-of_z w64 z fits) ∙ twice-above z (test z false fits c.if-rate-lt0.false)
+    ap (λ (v : ℤ). pos 2 *ℤ v) (to_z-of_z w64 z fits) ∙ twice_above z (test z false fits c.if-rate-lt0.false)
 
 above : (c : Else-rate-lt0) → to_z w64 (of_z w64 (pos 2 *ℤ to_z w64 (of_z w64 c.args.rate))) ≡ pos (filed c.args.rate)
-above c = let z = c.args.rate in rw (raised c) (to_z-of_z w64 (pos (filed z)) (twice-fits z c.requires))
+above c = let z = c.args.rate in rw (raised c) (to_z-of_z w64 (pos (filed z)) (twice_fits z c.requires))
 
 pub overflow_mul-result : goal.overflow_mul-result
-overflow_mul-result c = rw (doubled (goal.at.overflow_mul-result c).Then-rate-lt0) (more-fits c.args.rate c.requires)
+overflow_mul-result c = rw (doubled (goal.at.overflow_mul-result c).Then-rate-lt0) (more_fits c.args.rate c.requires)
 
 pub overflow_sub-result : goal.overflow_sub-result
-overflow_sub-result c = subst (SFits w64) (sym (lessened (goal.at.overflow_sub-result c).Then-rate-lt0)) (twice-fits c.args.rate c.requires)
+overflow_sub-result c = subst (SFits w64) (sym (lessened (goal.at.overflow_sub-result c).Then-rate-lt0)) (twice_fits c.args.rate c.requires)
 
 pub overflow_cast-result : goal.overflow_cast-result
-overflow_cast-result c = rw (below (goal.at.overflow_cast-result c).Then-rate-lt0) (tt, filed-fits c.args.rate c.requires)
+overflow_cast-result c = rw (below (goal.at.overflow_cast-result c).Then-rate-lt0) (tt, filed_fits c.args.rate c.requires)
 
 pub returns-then-rate-lt0 : goal.returns-then-rate-lt0
 returns-then-rate-lt0 c = ap nat_abs (below (goal.at.returns-then-rate-lt0 c).Then-rate-lt0)
 
 pub overflow_mul-result-2 : goal.overflow_mul-result-2
-overflow_mul-result-2 c = rw (raised (goal.at.overflow_mul-result-2 c).Else-rate-lt0) (twice-fits c.args.rate c.requires)
+overflow_mul-result-2 c = rw (raised (goal.at.overflow_mul-result-2 c).Else-rate-lt0) (twice_fits c.args.rate c.requires)
 
 pub overflow_cast-result-2 : goal.overflow_cast-result-2
-overflow_cast-result-2 c = rw (above (goal.at.overflow_cast-result-2 c).Else-rate-lt0) (tt, filed-fits c.args.rate c.requires)
+overflow_cast-result-2 c = rw (above (goal.at.overflow_cast-result-2 c).Else-rate-lt0) (tt, filed_fits c.args.rate c.requires)
 
 pub returns : goal.returns
 returns c = ap nat_abs (above (goal.at.returns c).Else-rate-lt0)

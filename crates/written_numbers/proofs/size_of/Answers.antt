@@ -1,16 +1,16 @@
 -- `written_numbers::size_of` meets its contract: the bounds that the number reaches are counted.
 -- Assumes nothing.
 use native.Mathlib.Omega.{arith}
-use Rattle.written_numbers.proofs.Sizes.{reached-most, size_is}
+use Rattle.written_numbers.proofs.Sizes.{reached_most, size_is}
 use Rattle.written_numbers.proofs.size_of.Goals as goal
 
 pub overflow_add-result : goal.overflow_add-result
-overflow_add-result c = omega (arith, c.reaches.ensures, reached-most c.args.number 128)
+overflow_add-result c = omega (arith, c.reaches.ensures, reached_most c.args.number 128)
 
 pub overflow_add-result-2 : goal.overflow_add-result-2
 overflow_add-result-2 c =
     let n = c.args.number in
-    omega (arith, c.reaches.ensures, c.reaches-2.ensures, reached-most n 128, reached-most n 16384)
+    omega (arith, c.reaches.ensures, c.reaches-2.ensures, reached_most n 128, reached_most n 16384)
 
 pub overflow_add-result-3 : goal.overflow_add-result-3
 overflow_add-result-3 c =
@@ -20,9 +20,9 @@ overflow_add-result-3 c =
       c.reaches.ensures,
       c.reaches-2.ensures,
       c.reaches-3.ensures,
-      reached-most n 128,
-      reached-most n 16384,
-      reached-most n 2097152,
+      reached_most n 128,
+      reached_most n 16384,
+      reached_most n 2097152,
     )
 
 pub overflow_add-result-4 : goal.overflow_add-result-4
@@ -34,10 +34,10 @@ overflow_add-result-4 c =
       c.reaches-2.ensures,
       c.reaches-3.ensures,
       c.reaches-4.ensures,
-      reached-most n 128,
-      reached-most n 16384,
-      reached-most n 2097152,
-      reached-most n 268435456,
+      reached_most n 128,
+      reached_most n 16384,
+      reached_most n 2097152,
+      reached_most n 268435456,
     )
 
 pub returns : goal.returns

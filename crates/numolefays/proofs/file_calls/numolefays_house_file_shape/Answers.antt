@@ -1,13 +1,13 @@
 -- `numolefays_house_file_shape` meets its contract: the call decides, a shape goes out with its points, and a refusal leaves the outputs.
 -- Assumes nothing.
 use mathlib.Core.Path.{sym, ◌∙◌}
-use Rattle.house_file.proofs.Heads.{shape-passes}
+use Rattle.house_file.proofs.Heads.{shape_passes}
 use Rattle.answers.proofs.Handing.{beside}
 use Rattle.numolefays.proofs.file_calls.numolefays_house_file_shape.Goals as goal
 
 pub points_of-requires : goal.points_of-requires
 points_of-requires c =
-    shape-passes c.args.bytes.now c.in-Holds.named (sym c.shape_of.ensures ∙ c.in-Holds.is)
+    shape_passes c.args.bytes.now c.in-Holds.named (sym c.shape_of.ensures ∙ c.in-Holds.is)
 
 pub returns-in-Refused : goal.returns-in-Refused
 returns-in-Refused c =

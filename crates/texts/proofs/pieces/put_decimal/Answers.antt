@@ -2,18 +2,18 @@
 -- Assumes nothing.
 use mathlib.Core.Path.{◌∙◌}
 use native.Mathlib.Omega.{arith}
-use Rattle.texts.proofs.Decimals.{few-digits, decimal-digits}
+use Rattle.texts.proofs.Decimals.{few_digits, decimal_digits}
 use Rattle.buffers.proofs.Puts.{put_as}
 use Rattle.texts.proofs.pieces.put_decimal.Goals as goal
 
 pub put-requires : goal.put-requires
 put-requires c =
     let written = c.decimal-count in
-    omega (arith, written.ensures.in_bounds.1, few-digits written.result c.args.n written.ensures.len c.ranges.n.fits)
+    omega (arith, written.ensures.in_bounds.1, few_digits written.result c.args.n written.ensures.len c.ranges.n.fits)
 
 pub returns : goal.returns
 returns c =
     let written = c.decimal-count in
     put_as
-    (written.ensures.digits ∙ decimal-digits written.result c.args.n written.ensures.len c.ranges.n.fits)
+    (written.ensures.digits ∙ decimal_digits written.result c.args.n written.ensures.len c.ranges.n.fits)
     c.put.ensures

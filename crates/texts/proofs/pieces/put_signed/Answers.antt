@@ -10,7 +10,7 @@ use mir.Syntax.{w64}
 use mir.Val.{SFits, to_z, of_z}
 use mir.ValLaws.{to_z-of_z}
 use Rattle.texts.specs.Text.{decimal, signed}
-use Rattle.texts.proofs.Decimals.{signed_below, signed-not-below}
+use Rattle.texts.proofs.Decimals.{signed_below, signed_not_below}
 use Rattle.buffers.proofs.Puts.{put_then, put_as}
 use Rattle.texts.proofs.pieces.put_signed.Goals as goal
 
@@ -18,8 +18,8 @@ use Rattle.texts.proofs.pieces.put_signed.Goals as goal
 below : (v : ℤ) → SFits w64 v → lt_z (to_z w64 (of_z w64 v)) (pos 0) ≡ true → 45 ∷ decimal (nat_abs (to_z w64 (of_z w64 v))) ≡ signed v
 below v f e = rw (to_z-of_z w64 v f) (signed_below v (rw (to_z-of_z w64 v f) at e))
 
-not-below : (v : ℤ) → SFits w64 v → lt_z (to_z w64 (of_z w64 v)) (pos 0) ≡ false → decimal (nat_abs (to_z w64 (of_z w64 v))) ≡ signed v
-not-below v f e = rw (to_z-of_z w64 v f) (signed-not-below v (rw (to_z-of_z w64 v f) at e))
+not_below : (v : ℤ) → SFits w64 v → lt_z (to_z w64 (of_z w64 v)) (pos 0) ≡ false → decimal (nat_abs (to_z w64 (of_z w64 v))) ≡ signed v
+not_below v f e = rw (to_z-of_z w64 v f) (signed_not_below v (rw (to_z-of_z w64 v f) at e))
 
 pub returns-then-value-lt0 : goal.returns-then-value-lt0
 returns-then-value-lt0 c =
@@ -35,4 +35,4 @@ pub returns : goal.returns
 returns c =
     let test = c.if-value-lt0 in
     let size = c.magnitude-2 in
-    put_as (ap decimal size.ensures ∙ not-below _ c.ranges.value test.false) c.put_decimal-2.ensures
+    put_as (ap decimal size.ensures ∙ not_below _ c.ranges.value test.false) c.put_decimal-2.ensures
