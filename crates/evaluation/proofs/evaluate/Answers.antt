@@ -32,32 +32,32 @@ taken-point-requires c =
 pub overflow_add-c : goal.overflow_add-c
 overflow_add-c c =
     record {
-      fits = omega (arith, place_small c.requires c.loop-first.invariant c.loop-first-test.true c.tabulated-hats.ensures c.taken_point.ensures);
+      fits = omega (arith, place_small c.requires c.loop-first.invariant c.loop-first-test.true c.tabulated-hats.ensures c.taken-point.ensures);
     }
 
 pub offset_bounds-table-first : goal.offset_bounds-table-first
 offset_bounds-table-first c =
     record {
-      fits = omega (arith, place_small c.requires c.loop-first.invariant c.loop-first-test.true c.tabulated-hats.ensures c.taken_point.ensures);
+      fits = omega (arith, place_small c.requires c.loop-first.invariant c.loop-first-test.true c.tabulated-hats.ensures c.taken-point.ensures);
     }
 
 pub bounds-table-first : goal.bounds-table-first
-bounds-table-first c = place_read c.requires c.loop-first.invariant c.loop-first-test.true c.tabulated-hats.ensures c.taken_point.ensures
+bounds-table-first c = place_read c.requires c.loop-first.invariant c.loop-first-test.true c.tabulated-hats.ensures c.taken-point.ensures
 
 pub add_high-high-requires : goal.add_high-high-requires
 add_high-high-requires c =
     let inv = c.loop-first.invariant in
     let more = c.loop-first-test.true in (
       high_room inv,
-      ap in_limit (to_z-of_z w64 _ (value_fits c.requires inv more c.tabulated-hats.ensures c.taken_point.ensures))
-          ∙ value_in c.requires inv more c.tabulated-hats.ensures c.taken_point.ensures,
-      weight_in_lem c.requires inv more c.tabulated-hats.ensures c.taken_point.ensures,
+      ap in_limit (to_z-of_z w64 _ (value_fits c.requires inv more c.tabulated-hats.ensures c.taken-point.ensures))
+          ∙ value_in c.requires inv more c.tabulated-hats.ensures c.taken-point.ensures,
+      weight_in_lem c.requires inv more c.tabulated-hats.ensures c.taken-point.ensures,
     )
 
 pub add_low-low-requires : goal.add_low-low-requires
 add_low-low-requires c =
     let inv = c.loop-first.invariant in
-    (low_room inv, weight_in_lem c.requires inv c.loop-first-test.true c.tabulated-hats.ensures c.taken_point.ensures)
+    (low_room inv, weight_in_lem c.requires inv c.loop-first-test.true c.tabulated-hats.ensures c.taken-point.ensures)
 
 pub overflow_shl-first : goal.overflow_shl-first
 overflow_shl-first c = omega (arith, sum_small c.requires c.loop-first.invariant c.loop-first-test.true)
@@ -78,7 +78,7 @@ pub loop-first-preserved : goal.loop-first-preserved
 loop-first-preserved c =
     let inv = c.loop-first.invariant in
     let more = c.loop-first-test.true in
-    let point = c.taken_point in
+    let point = c.taken-point in
     let read =
     to_z-of_z w64 (get_or c.args.table.now (c.loop-first.first + point.result.position) (pos 0))
     (value_fits c.requires inv more c.tabulated-hats.ensures point.ensures) in
