@@ -414,6 +414,10 @@ class Drawn:
         return low + self.below(high - low + 1)
 
 
+# draws that the others do not share
+FINER = Drawn(1181783497276652981)
+
+
 def random_points(draw, sheet, d, n):
     for _ in range(10):
         sheet.state(d, n)
@@ -432,15 +436,22 @@ def random_points(draw, sheet, d, n):
         sheet.order(*(v + [0] * (8 - d) for v in (levels, other)))
 
 
+# in the unit before, and as many draws as then, so that all calls are those of then
+def old_coordinate(draw):
+    return draw.of(0, 1, 65535, 65536, 21845, 43691, draw.below(513) * 128, draw.below(513) * 128, draw.below(65537), draw.below(65537))
+
+
 def coordinate(draw):
     on_grid, old = draw.below(513) * (UNIT // 512), draw.of(draw.below(OLD_UNIT + 1) * 16, OLD_UNIT, OLD_UNIT + 1)
     return draw.of(0, 1, UNIT - 1, UNIT, UNIT // 3, UNIT - UNIT // 3, on_grid, on_grid, old, draw.below(UNIT + 1), draw.below(UNIT + 1))
 
 
 def estimates(draw, sheet, count):
+    """Each at coordinates of the unit before, times 16, and at others."""
     for _ in range(count):
-        sheet.state(sheet.d, sheet.n, sheet.bits, [coordinate(draw) for _ in range(sheet.d)])
-        sheet.estimate()
+        for at in [[16 * old_coordinate(draw) for _ in range(sheet.d)], [coordinate(FINER) for _ in range(sheet.d)]]:
+            sheet.state(sheet.d, sheet.n, sheet.bits, at)
+            sheet.estimate()
 
 
 def runs(draw, sheet, count):
