@@ -1,28 +1,19 @@
 -- A function that answers a number other than 0 leaves every output and buffer as it was: each definition hands a refusal out beside what was held.
 -- Assumes nothing.
+use Rattle.std.specs.Prelude.{Option, Some, None, Result, Ok, Err}
+use Rattle.refusals.specs.declared.Refusal.{Refusal}
 use mathlib.Core.Bool.{not}
 use mathlib.Core.List.{List}
-use mathlib.Core.Path.{◌≡◌, refl, ap}
+use mathlib.Core.Path.{◌≡◌, refl}
 use Prim.Native.Nat.{ℕ, ◌-◌}
 use lib.IntN.{ℤ}
 use lib.ListN.{length}
 use Rattle.naturals.specs.Test.{all}
 use Rattle.refusals.specs.declared.Refusal.TheVariants as refusal
-use Rattle.refusals.specs.declared.Verdict.{Verdict}
-use Rattle.refusals.specs.declared.Verdict.TheVariants.{Passed, Refused}
-use Rattle.refusals.specs.Checks.{unless, ◌and_then◌, answer}
+use Rattle.refusals.specs.Checks.{unless, ◌and_then◌, answer, Verdict}
 use Rattle.shapes.specs.declared.Shape.{Shape}
-use Rattle.shapes.specs.declared.Counted.{Counted}
-use Rattle.shapes.specs.declared.Counted.TheVariants as counted
-use Rattle.points.specs.declared.Located.{Located}
-use Rattle.points.specs.declared.Outcome.{Outcome}
-use Rattle.points.specs.declared.Outcome.TheVariants as outcome
 use Rattle.points.specs.declared.Point.{Point}
-use Rattle.numbers.specs.declared.Numbered.{Numbered}
-use Rattle.numbers.specs.declared.Numbered.TheVariants as numbered
 use Rattle.states.specs.declared.State.{State}
-use Rattle.states.specs.declared.Answer.{Answer}
-use Rattle.states.specs.declared.Answer.TheVariants as answered
 use Rattle.states.specs.After.{After, after, kept, Left, left_by}
 use Rattle.states.specs.States.{has, check_state}
 use Rattle.tables.specs.Tables.{check_table, check_rated, load, scaled_at, check_sampled, unload}
@@ -32,17 +23,13 @@ use Rattle.runs.specs.Runs.{Ran, run}
 use Rattle.runs.specs.Calls.{Report, calls_of, report_of, unrun, check_lengths, run_calls}
 use Rattle.whole.specs.Whole.{rates_to_coefficients, has_rates, coefficients_to_rates}
 use Rattle.components.specs.Components.{check_component, component_coefficients}
-use Rattle.estimates.specs.declared.Estimated.{Estimated}
-use Rattle.estimates.specs.declared.Estimated.TheVariants as estimated
-use Rattle.house_file.specs.declared.Opened.{Opened}
-use Rattle.house_file.specs.declared.Opened.TheVariants as opened
 use Rattle.house_numbers.specs.Reading.{Read, got, refused}
 use Rattle.house_file.specs.Files.{Contents, filled_with, read_contents, read_file}
 use Rattle.house_file.specs.Written.{written_file}
 use Rattle.house_writer.specs.Writing.{kept_out, check_room, filled_out, put_file, write_file}
 use Rattle.house_writer.specs.Rewriting.{form_of, written_again, rewrite_file}
 use Rattle.answers.specs.Returned.{Returned}
-use Rattle.answers.specs.Answers.{of_counted, of_numbered, of_located_in, of_located, of_point, of_answer, of_after, of_left, of_report, of_estimated, of_reading, of_named, of_writing}
+use Rattle.answers.specs.Answers.{of_value, of_point, of_located, of_answer, of_after, of_left, of_report, of_reading, of_named, of_writing}
 
 -- The function answered a number other than 0, and the outputs are these.
 abbrev pub Keeps : {A : Type 0} → A → Returned A → Type 0
@@ -50,53 +37,51 @@ Keeps held r = (r.told.number ≡ 0 → ⊥) → r.outputs ≡ held
 
 -- ---- where the outputs follow the answer alone
 
-pub count_keeps : (held : ℕ) (a : Counted) → Keeps held (of_counted held a)
-count_keeps held (counted.Points n) e = absurd (e refl)
-count_keeps held (counted.Refused r) e = refl
+value_keeps : {A : Type 0} (held : A) (a : Result A Refusal) → Keeps held (of_value held a)
+value_keeps held (Ok x) e = absurd (e refl)
+value_keeps held (Err r) e = refl
 
-pub number_of_point_keeps : (held : ℕ) (a : Numbered) → Keeps held (of_numbered held a)
-number_of_point_keeps held (numbered.At n) e = absurd (e refl)
-number_of_point_keeps held (numbered.Refused r) e = refl
+pub count_keeps : (held : ℕ) (a : Result ℕ Refusal) → Keeps held (of_value held a)
+count_keeps = value_keeps
 
-pub adopt_keeps : (held : ℕ) (a : Answer) → Keeps held (of_answer held a)
-adopt_keeps held (answered.Done s) e = absurd (e refl)
-adopt_keeps held (answered.Refused r) e = refl
+pub number_of_point_keeps : (held : ℕ) (a : Result ℕ Refusal) → Keeps held (of_value held a)
+number_of_point_keeps = value_keeps
 
-pub estimate_keeps : (held : ℤ) (a : Estimated) → Keeps held (of_estimated held a)
-estimate_keeps held (estimated.Value z) e = absurd (e refl)
-estimate_keeps held (estimated.Refused r) e = refl
+pub adopt_keeps : (held : ℕ) (a : Result State Refusal) → Keeps held (of_answer held a)
+adopt_keeps held (Ok s) e = absurd (e refl)
+adopt_keeps held (Err r) e = refl
 
-outcome_keeps : (held : List ℕ × List ℕ × ℕ) (o : Outcome) (p : Point) → Keeps held (of_located_in held o p)
-outcome_keeps held outcome.Found p e = absurd (e refl)
-outcome_keeps held outcome.End p e = absurd (e refl)
-outcome_keeps held outcome.Border p e = absurd (e refl)
-outcome_keeps held (outcome.Refused r) p e = refl
+pub estimate_keeps : (held : ℤ) (a : Result ℤ Refusal) → Keeps held (of_value held a)
+estimate_keeps = value_keeps
 
 -- The successor and the parent.
-pub located_keeps : (held : List ℕ × List ℕ × ℕ) (l : Located) → Keeps held (of_located held l)
-located_keeps held l = outcome_keeps held l.outcome l.point
+pub located_keeps : (held : List ℕ × List ℕ × ℕ) (a : Result (Option Point) Refusal) → Keeps held (of_located held a)
+located_keeps held (Ok (Some p)) e = absurd (e refl)
+located_keeps held (Ok None) e = absurd (e refl)
+located_keeps held (Err r) e = refl
 
-pub point_of_number_keeps : (held : List ℕ × List ℕ) (l : Located) → Keeps held (of_point held l)
-point_of_number_keeps held l e = ap (λ (x : List ℕ × List ℕ × ℕ). (x.0, x.1)) (located_keeps (held.0, held.1, 0) l e)
+pub point_of_number_keeps : (held : List ℕ × List ℕ) (a : Result Point Refusal) → Keeps held (of_point held a)
+point_of_number_keeps held (Ok p) e = absurd (e refl)
+point_of_number_keeps held (Err r) e = refl
 
 -- ---- where the call works in a table
 
 module _ (held : ℕ) (xs : List ℤ) where
-  after_keeps : (l : After) (v : Verdict) (s : State) (ys : List ℤ) → l ≡ answer (kept xs) v (after (answered.Done s) ys) → Keeps (held, xs) (of_after held l)
-  after_keeps l Passed s ys h = rw h (λ e. absurd (e refl))
-  after_keeps l (Refused r) s ys h = rw h (λ e. refl)
+  after_keeps : (l : After) (v : Verdict) (s : State) (ys : List ℤ) → l ≡ answer (kept xs) v (after (Ok s) ys) → Keeps (held, xs) (of_after held l)
+  after_keeps l (Ok _) s ys h = rw h (λ e. absurd (e refl))
+  after_keeps l (Err r) s ys h = rw h (λ e. refl)
 
   report_keeps : (l : Report) (v : Verdict) (r : Ran) (ns ps : List ℕ) → l ≡ answer (unrun xs ns ps) v (report_of r) → Keeps (held, xs, ns, ps) (of_report held l)
-  report_keeps l Passed r ns ps h = rw h (λ e. absurd (e refl))
-  report_keeps l (Refused why) r ns ps h = rw h (λ e. refl)
+  report_keeps l (Ok _) r ns ps h = rw h (λ e. absurd (e refl))
+  report_keeps l (Err why) r ns ps h = rw h (λ e. refl)
 
   pub load_keeps : (s : Shape) → Keeps (held, xs) (of_after held (load s xs))
   unfolding load
   load_keeps s = after_keeps (load s xs) (check_rated s xs) _ _ refl
 
 table_keeps : (xs : List ℤ) (l : Left) (v : Verdict) (ys : List ℤ) → l ≡ left_by xs v ys → Keeps xs (of_left l)
-table_keeps xs l Passed ys h = rw h (λ e. absurd (e refl))
-table_keeps xs l (Refused r) ys h = rw h (λ e. refl)
+table_keeps xs l (Ok _) ys h = rw h (λ e. absurd (e refl))
+table_keeps xs l (Err r) ys h = rw h (λ e. refl)
 
 module _ (s : Shape) (xs : List ℤ) where
   pub rates_to_coefficients_keeps : Keeps xs (of_left (rates_to_coefficients s xs))
@@ -148,16 +133,16 @@ pub read_house_file_keeps : (axes level : ℕ) (bytes : List ℕ) (xs : List ℤ
 unfolding read_file
 read_house_file_keeps axes level bytes xs = filled_keeps axes level xs (read_contents (length xs) bytes)
 
-pub house_file_shape_keeps : (held : ℕ × ℕ × ℕ) (a : Opened) → Keeps held (of_named held a)
-house_file_shape_keeps held (opened.Holds s) e = absurd (e refl)
-house_file_shape_keeps held (opened.Refused r) e = refl
+pub house_file_shape_keeps : (held : ℕ × ℕ × ℕ) (a : Result Shape Refusal) → Keeps held (of_named held a)
+house_file_shape_keeps held (Ok s) e = absurd (e refl)
+house_file_shape_keeps held (Err r) e = refl
 
 -- ---- where the call writes into an output buffer
 
 module _ (held : ℕ) (out : List ℕ) where
   room_keeps : (file : List ℕ) (v : Verdict) → Keeps (held, out) (of_writing held (answer (kept_out out) v (filled_out file out)))
-  room_keeps file Passed e = absurd (e refl)
-  room_keeps file (Refused r) e = refl
+  room_keeps file (Ok _) e = absurd (e refl)
+  room_keeps file (Err r) e = refl
 
   put_keeps : (file : List ℕ) → Keeps (held, out) (of_writing held (put_file file out))
   unfolding put_file

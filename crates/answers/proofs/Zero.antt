@@ -6,21 +6,17 @@ use mathlib.Core.Path.{◌≡◌, refl}
 use Prim.Native.Nat.{ℕ, suc, ◌<◌}
 use native.Mathlib.Omega.{arith}
 use lib.Dec.{ltb}
-use Rattle.std.specs.Prelude.{if◌then◌else◌}
+use Rattle.std.specs.Prelude.{if◌then◌else◌, Option, Some, None, Result, Ok, Err}
 use Rattle.refusals.specs.declared.Refusal.{Refusal}
 use Rattle.refusals.specs.declared.Refusal.TheVariants.{Axes, Level, TableLength, Rate, Axis, PointNumber, ListLength, Coordinate, NoPoint, Contents, FileEnds, FiledNumber, BytesLeft, StrayBit, AlreadyForward, NotForward, StillSampled, StillForward, TooManyPoints}
-use Rattle.refusals.specs.declared.Verdict.{Verdict}
-use Rattle.refusals.specs.declared.Verdict.TheVariants.{Passed, Refused}
 use Rattle.refusals.specs.Refusals.{number_of}
-use Rattle.refusals.specs.Checks.{unless, ◌and_then◌, answer}
+use Rattle.refusals.specs.Checks.{unless, ◌and_then◌, answer, Verdict}
 use Rattle.numbering.specs.Point.{at}
 use Rattle.shapes.specs.declared.Shape.{Shape}
 use Rattle.shapes.specs.Shapes.{check_shape, points_of}
 use Rattle.grids.specs.Grids as grids
-use Rattle.points.specs.declared.Outcome.TheVariants.{End}
-use Rattle.points.specs.declared.Located.{Located}
 use Rattle.points.specs.declared.Point.{Point}
-use Rattle.points.specs.Points.{check_point, point_at, found, nowhere, refused}
+use Rattle.points.specs.Points.{check_point, point_at}
 use Rattle.numbers.specs.Numbers.{point_of_number}
 use Rattle.successor.specs.Successor.{after, successor_of}
 use Rattle.answers.specs.Returned.{Returned}
@@ -51,9 +47,9 @@ never_zero TooManyPoints = omega arith
 abbrev pub Gives : {A : Type 0} → A → Returned A → Type 0
 Gives new r = r.told.number ≡ 0 → r.outputs ≡ new
 
-point_given : (held : List ℕ × List ℕ) (l : Located) (v : Verdict) (p : Point) → l ≡ answer refused v (found p) → Gives (p.levels, p.indices) (of_point held l)
-point_given held l Passed p h = rw h (λ e. refl)
-point_given held l (Refused r) p h = rw h (λ e. absurd (omega (arith, never_zero r, e)))
+point_given : (held : List ℕ × List ℕ) (l : Result Point Refusal) (v : Verdict) (p : Point) → l ≡ answer Err v (Ok p) → Gives (p.levels, p.indices) (of_point held l)
+point_given held l (Ok _) p h = rw h (λ e. refl)
+point_given held l (Err r) p h = rw h (λ e. absurd (omega (arith, never_zero r, e)))
 
 pub point_of_number_gives : (held : List ℕ × List ℕ) (s : Shape) (p : ℕ) →
     Gives ((point_at s p).levels, (point_at s p).indices) (of_point held (point_of_number s p))
@@ -66,11 +62,11 @@ abbrev pub next : List ℕ × List ℕ × ℕ → Bool → Point → List ℕ ×
 next held true p = (p.levels, p.indices, 0)
 next held false p = (held.0, held.1, 1)
 
-next_given : (held : List ℕ × List ℕ × ℕ) (l : Located) (v : Verdict) (more : Bool) (p : Point) → l ≡ answer refused v (if more then found p else nowhere End) →
+next_given : (held : List ℕ × List ℕ × ℕ) (l : Result (Option Point) Refusal) (v : Verdict) (more : Bool) (p : Point) → l ≡ answer Err v (Ok (if more then Some p else None)) →
     Gives (next held more p) (of_located held l)
-next_given held l Passed true p h = rw h (λ e. refl)
-next_given held l Passed false p h = rw h (λ e. refl)
-next_given held l (Refused r) more p h = rw h (λ e. absurd (omega (arith, never_zero r, e)))
+next_given held l (Ok _) true p h = rw h (λ e. refl)
+next_given held l (Ok _) false p h = rw h (λ e. refl)
+next_given held l (Err r) more p h = rw h (λ e. absurd (omega (arith, never_zero r, e)))
 
 module _ (s : Shape) (ls is : List ℕ) where
   -- The number of the point, plus one.

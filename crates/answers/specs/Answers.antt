@@ -1,30 +1,16 @@
 -- Each kind of answer of the library, as a number, a place and outputs. What the outputs held comes first: they hold it still where the call was refused.
 -- Assumes nothing.
-use Rattle.std.specs.Prelude.{List, ℕ, zero, suc, ℤ}
+use Rattle.refusals.specs.declared.Refusal.{Refusal}
+use Rattle.std.specs.Prelude.{List, ℕ, zero, suc, ℤ, Option, Some, None, Result, Ok, Err}
 use Rattle.numbering.specs.declared.Side.{Side}
 use Rattle.numbering.specs.declared.Side.TheVariants as side
 use Rattle.shapes.specs.declared.Shape.{Shape}
-use Rattle.shapes.specs.declared.Counted.{Counted}
-use Rattle.shapes.specs.declared.Counted.TheVariants as counted
 use Rattle.shapes.specs.Shapes.{points_of}
-use Rattle.points.specs.declared.Located.{Located}
-use Rattle.points.specs.declared.Outcome.{Outcome}
-use Rattle.points.specs.declared.Outcome.TheVariants as outcome
 use Rattle.points.specs.declared.Point.{Point}
-use Rattle.numbers.specs.declared.Numbered.{Numbered}
-use Rattle.numbers.specs.declared.Numbered.TheVariants as numbered
 use Rattle.states.specs.declared.State.{State}
-use Rattle.states.specs.declared.Answer.{Answer}
-use Rattle.states.specs.declared.Answer.TheVariants as answer
 use Rattle.states.specs.After.{After, Left}
 use Rattle.runs.specs.Calls.{Report}
-use Rattle.estimates.specs.declared.Estimated.{Estimated}
-use Rattle.estimates.specs.declared.Estimated.TheVariants as estimated
-use Rattle.house_file.specs.declared.Opened.{Opened}
-use Rattle.house_file.specs.declared.Opened.TheVariants as opened
 use Rattle.house_file.specs.Files.{AfterReading}
-use Rattle.house_writer.specs.declared.Filed.{Filed}
-use Rattle.house_writer.specs.declared.Filed.TheVariants as filed
 use Rattle.house_writer.specs.Writing.{AfterWriting}
 use Rattle.answers.specs.Returned.{Returned, told_of, leaving, done, refused}
 
@@ -40,37 +26,26 @@ abbrev pub side_of : ℕ → Side
 side_of zero = side.Left
 side_of (suc k) = side.Right
 
--- The count of points.
-abbrev pub of_counted : ℕ → Counted → Returned ℕ
-of_counted held (counted.Points n) = done n
-of_counted held (counted.Refused r) = refused held r
+-- A value: a count or a number of points, an estimate, the length of a written file.
+abbrev pub of_value : {A : Type 0} → A → Result A Refusal → Returned A
+of_value held (Ok x) = done x
+of_value held (Err r) = refused held r
 
--- The number of a point.
-abbrev pub of_numbered : ℕ → Numbered → Returned ℕ
-of_numbered held (numbered.At p) = done p
-of_numbered held (numbered.Refused r) = refused held r
+-- The levels and indices of a point.
+abbrev pub of_point : List ℕ × List ℕ → Result Point Refusal → Returned (List ℕ × List ℕ)
+of_point held (Ok p) = done (p.levels, p.indices)
+of_point held (Err r) = refused held r
 
--- The levels and indices of a point, and 0; or 1 where there is none, at the end or the border, the two arrays holding what they held.
-abbrev pub of_located_in : List ℕ × List ℕ × ℕ → Outcome → Point → Returned (List ℕ × List ℕ × ℕ)
-of_located_in held outcome.Found p = done (p.levels, p.indices, 0)
-of_located_in held outcome.End p = done (held.0, held.1, 1)
-of_located_in held outcome.Border p = done (held.0, held.1, 1)
-of_located_in held (outcome.Refused r) p = refused held r
-
-abbrev pub of_located : List ℕ × List ℕ × ℕ → Located → Returned (List ℕ × List ℕ × ℕ)
-of_located held l = of_located_in held l.outcome l.point
-
--- The same without the mark, for a call that never finds none (`point_of_number_gives`).
-abbrev pub unmarked : Returned (List ℕ × List ℕ × ℕ) → Returned (List ℕ × List ℕ)
-unmarked r = leaving r.told (r.outputs.0, r.outputs.1)
-
-abbrev pub of_point : List ℕ × List ℕ → Located → Returned (List ℕ × List ℕ)
-of_point held l = unmarked (of_located (held.0, held.1, 0) l)
+-- The same, and 0; or 1 where there is no point, at the end or the border, the two arrays holding what they held.
+abbrev pub of_located : List ℕ × List ℕ × ℕ → Result (Option Point) Refusal → Returned (List ℕ × List ℕ × ℕ)
+of_located held (Ok (Some p)) = done (p.levels, p.indices, 0)
+of_located held (Ok None) = done (held.0, held.1, 1)
+of_located held (Err r) = refused held r
 
 -- The forward axes of a state. Its shape is the one that was handed in.
-abbrev pub of_answer : ℕ → Answer → Returned ℕ
-of_answer held (answer.Done state) = done state.forward
-of_answer held (answer.Refused r) = refused held r
+abbrev pub of_answer : ℕ → Result State Refusal → Returned ℕ
+of_answer held (Ok state) = done state.forward
+of_answer held (Err r) = refused held r
 
 -- The forward axes and the table.
 abbrev pub of_after : ℕ → After → Returned (ℕ × List ℤ)
@@ -84,29 +59,20 @@ of_left l = leaving (told_of l.verdict) l.table
 abbrev pub of_report : ℕ → Report → Returned (ℕ × List ℤ × List ℕ × List ℕ)
 of_report held r = leaving (of_answer held r.answer).told ((of_answer held r.answer).outputs, r.table, r.numbers, r.places)
 
--- An estimate.
-abbrev pub of_estimated : ℤ → Estimated → Returned ℤ
-of_estimated held (estimated.Value z) = done z
-of_estimated held (estimated.Refused r) = refused held r
-
 -- The shape that a house file names, and the table.
-abbrev pub of_opened : ℕ × ℕ → Opened → Returned (ℕ × ℕ)
-of_opened held (opened.Holds s) = done (s.axes, s.level)
-of_opened held (opened.Refused r) = refused held r
+abbrev pub of_opened : ℕ × ℕ → Result Shape Refusal → Returned (ℕ × ℕ)
+of_opened held (Ok s) = done (s.axes, s.level)
+of_opened held (Err r) = refused held r
 
 abbrev pub of_reading : ℕ × ℕ → AfterReading → Returned (ℕ × ℕ × List ℤ)
 of_reading held a =
     leaving (of_opened held a.answer).told ((of_opened held a.answer).outputs.0, (of_opened held a.answer).outputs.1, a.table)
 
 -- The shape that a house file names, with its number of points.
-abbrev pub of_named : ℕ × ℕ × ℕ → Opened → Returned (ℕ × ℕ × ℕ)
-of_named held (opened.Holds s) = done (s.axes, s.level, points_of s)
-of_named held (opened.Refused r) = refused held r
+abbrev pub of_named : ℕ × ℕ × ℕ → Result Shape Refusal → Returned (ℕ × ℕ × ℕ)
+of_named held (Ok s) = done (s.axes, s.level, points_of s)
+of_named held (Err r) = refused held r
 
 -- The length of a written file, and the output buffer.
-abbrev pub of_filed : ℕ → Filed → Returned ℕ
-of_filed held (filed.Length n) = done n
-of_filed held (filed.Refused r) = refused held r
-
 abbrev pub of_writing : ℕ → AfterWriting → Returned (ℕ × List ℕ)
-of_writing held a = leaving (of_filed held a.answer).told ((of_filed held a.answer).outputs, a.out)
+of_writing held a = leaving (of_value held a.answer).told ((of_value held a.answer).outputs, a.out)

@@ -1,9 +1,8 @@
 -- What a function of the boundary leaves: the number that it answers, the place that it writes, and what its outputs and buffers hold.
 -- Assumes nothing.
-use Rattle.std.specs.Prelude.{ℕ}
+use Rattle.refusals.specs.Checks.{Verdict}
+use Rattle.std.specs.Prelude.{ℕ, Ok, Err}
 use Rattle.refusals.specs.declared.Refusal.{Refusal}
-use Rattle.refusals.specs.declared.Verdict.{Verdict}
-use Rattle.refusals.specs.declared.Verdict.TheVariants.{Passed, Refused}
 use Rattle.refusals.specs.Refusals.{number_of, place_of}
 
 -- The two numbers that say how a call went.
@@ -22,8 +21,8 @@ abbrev pub refusal : Refusal → Told
 refusal r = told (number_of r) (place_of r)
 
 abbrev pub told_of : Verdict → Told
-told_of Passed = success
-told_of (Refused r) = refusal r
+told_of (Ok _) = success
+told_of (Err r) = refusal r
 
 -- The two numbers with what the outputs and buffers hold.
 pub record Returned (A : Type 0) : Type 0 where

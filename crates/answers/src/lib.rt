@@ -3,40 +3,32 @@
 
 ghost use Rattle.std.specs.Prelude.{◌≡◌};
 ghost use Rattle.answers.specs.Returned.{told, success, refusal, told_of, returned};
-ghost use Rattle.answers.specs.Answers.{shape_of, state_of, side_of, of_located, of_answer, of_filed};
+ghost use Rattle.answers.specs.Answers.{shape_of, state_of, side_of, of_value, of_point, of_located, of_answer};
 
-use house_writer::Filed;
 use numbering::Side;
-use points::{Located, Outcome};
-use refusals::{Refusal, Verdict};
+use points::Point;
+use refusals::Refusal;
 use shapes::Shape;
-use states::{Answer, State};
+use states::State;
 
 // A shape, from the two numbers that stand for it.
 pub fn shape_of(axes: u32, level: u32) -> Shape
     ensures { result ≡ shape_of axes level }
 {
-    Shape {
-        axes: axes,
-        level: level,
-    }
+    Shape { axes, level }
 }
 
 // A state, from a shape's two numbers and the set of forward axes.
 pub fn state_of(axes: u32, level: u32, forward: u8) -> State
     ensures { result ≡ state_of axes level forward }
 {
-    let shape = Shape {
-        axes: axes,
-        level: level,
-    };
     State {
-        shape: shape,
-        forward: forward,
+        shape: Shape { axes, level },
+        forward,
     }
 }
 
-// Side 0 is the left one, every other number the right one.
+// Side 0 is the left one, every other number the right one. (C's numbers; a conversion of the type itself would carry them into its crate.)
 pub fn side_of(side: u32) -> Side
     ensures { result ≡ side_of side }
 {
@@ -55,74 +47,87 @@ pub fn succeed(place: &mut u64) -> u32
 pub fn refuse(r: Refusal, place: &mut u64) -> u32
     ensures { told result place.new ≡ refusal r }
 {
-    *place = refusals::refusal_place(r);
-    refusals::refusal_number(r)
+    *place = r.place();
+    r.number()
 }
 
 // A verdict has no output.
-pub fn tell(verdict: Verdict, place: &mut u64) -> u32
+pub fn tell(verdict: Result<(), Refusal>, place: &mut u64) -> u32
     ensures { told result place.new ≡ told_of verdict }
 {
     match verdict {
-        Verdict::Refused(r) => refuse(r, place),
-        Verdict::Passed => succeed(place),
+        Err(r) => refuse(r, place),
+        Ok(()) => succeed(place),
+    }
+}
+
+// A value goes out.
+pub fn hand<T: Copy>(answer: Result<T, Refusal>, out: &mut T, place: &mut u64) -> u32
+    ensures { returned result place.new out.new ≡ of_value out.old answer }
+{
+    match answer {
+        Err(r) => refuse(r, place),
+        Ok(value) => {
+            *out = value;
+            succeed(place)
+        }
+    }
+}
+
+// A point goes out into two arrays.
+pub fn hand_point(
+    answer: Result<Point, Refusal>,
+    levels: &mut [u32; 8],
+    indices: &mut [u32; 8],
+    place: &mut u64,
+) -> u32
+    ensures { returned result place.new (levels.new, indices.new) ≡ of_point (levels.old, indices.old) answer }
+{
+    match answer {
+        Err(r) => refuse(r, place),
+        Ok(point) => {
+            let point_levels = point.levels;
+            let point_indices = point.indices;
+            *levels = point_levels;
+            *indices = point_indices;
+            succeed(place)
+        }
     }
 }
 
 // A point goes out into two arrays, and `none` is 0. Where there is none, at the end or the border, the arrays stay, and `none` is 1.
-pub fn hand_point(
-    located: Located,
+pub fn hand_located(
+    answer: Result<Option<Point>, Refusal>,
     levels: &mut [u32; 8],
     indices: &mut [u32; 8],
     none: &mut u32,
     place: &mut u64,
 ) -> u32
-    ensures { returned result place.new (levels.new, indices.new, none.new) ≡ of_located (levels.old, indices.old, none.old) located }
+    ensures { returned result place.new (levels.new, indices.new, none.new) ≡ of_located (levels.old, indices.old, none.old) answer }
 {
-    let outcome = located.outcome;
-    match outcome {
-        Outcome::Refused(r) => refuse(r, place),
-        Outcome::Found => {
-            let point_levels = located.point.levels;
-            let point_indices = located.point.indices;
-            *levels = point_levels;
-            *indices = point_indices;
+    match answer {
+        Ok(None) => {
+            *none = 1;
+            succeed(place)
+        }
+        Ok(Some(point)) => {
             *none = 0;
-            succeed(place)
+            hand_point(Ok(point), levels, indices, place)
         }
-        Outcome::End => {
-            *none = 1;
-            succeed(place)
-        }
-        Outcome::Border => {
-            *none = 1;
-            succeed(place)
-        }
+        Err(r) => refuse(r, place),
     }
 }
 
 // The output of an answered state is its set of forward axes: the caller holds the shape.
-pub fn hand_state(answer: Answer, forward: &mut u8, place: &mut u64) -> u32
+pub fn hand_state(answer: Result<State, Refusal>, forward: &mut u8, place: &mut u64) -> u32
     ensures { returned result place.new forward.new ≡ of_answer forward.old answer }
 {
-    match answer {
-        Answer::Refused(r) => refuse(r, place),
-        Answer::Done(state) => {
-            *forward = state.forward;
-            succeed(place)
-        }
-    }
+    hand(answer.map(|state| state.forward), forward, place)
 }
 
 // The output of a written file is its length.
-pub fn hand_length(filed: Filed, length: &mut u64, place: &mut u64) -> u32
-    ensures { returned result place.new length.new ≡ of_filed length.old filed }
+pub fn hand_length(answer: Result<usize, Refusal>, length: &mut u64, place: &mut u64) -> u32
+    ensures { returned result place.new length.new ≡ of_value length.old answer }
 {
-    match filed {
-        Filed::Refused(r) => refuse(r, place),
-        Filed::Length(size) => {
-            *length = size as u64;
-            succeed(place)
-        }
-    }
+    hand(answer.map(|size| size as u64), length, place)
 }

@@ -7,8 +7,9 @@ use native.Mathlib.Numerals.{add-one}
 use native.Mathlib.Omega.{arith}
 use lib.Pow.{pow_pos, shl_exact}
 use borrow.Author.Tests.{lt-ltb, le-ltb}
+use Rattle.std.specs.Int.{abs_diff}
 use Rattle.naturals.proofs.Cases.{le_or_lt}
-use Rattle.surfaces.specs.Weights.{unit}
+use Rattle.surfaces.specs.Weights.{unit, distance}
 use Rattle.surfaces.proofs.Unit.{unit_bits, unit_is}
 use Rattle.axis_weights.specs.Steps.{cell_of, index_of_cell}
 
@@ -22,6 +23,11 @@ module _ (x l : ℕ) (small : x ≤ unit) (low : l ≤ 8) where
 
 pub centre_shifted : (l i : ℕ) → l ≤ 8 → i < 2 ^ suc l → i * 2 ^ unit_bits % 2 ^ 64 ≡ i * unit
 centre_shifted l i low below = shl_exact {a = i} (suc l) unit_bits 64 below (omega arith) ∙ ap (λ (u : ℕ). i * u) (sym unit_is)
+
+-- The larger less the smaller is the distance: of the two differences one is 0.
+pub apart_is : (a b : ℕ) → abs_diff a b ≡ distance a b
+unfolding distance
+apart_is a b = omega arith
 
 -- The cell is one of its level, and its index one of the level's.
 module _ (x l : ℕ) where

@@ -2,7 +2,7 @@
 #![tactic(auto)]
 
 ghost use Rattle.std.specs.Prelude.{◌≡◌, suc, ◌^◌, ◌≤◌, ◌<◌};
-ghost use Rattle.surfaces.specs.Weights.{unit, is_coordinate, distance, weight};
+ghost use Rattle.surfaces.specs.Weights.{unit, is_coordinate, weight};
 ghost use Rattle.axis_weights.specs.Steps.{cell_of};
 
 use surfaces::BITS;
@@ -14,26 +14,13 @@ pub fn is_coordinate(x: u32) -> bool
     x <= 1 << BITS
 }
 
-// How far apart two numbers are.
-fn distance(a: u64, b: u64) -> u64
-    ensures { result ≡ distance a b }
-{
-    if a < b {
-        return b - a;
-    }
-    a - b
-}
-
 // The weight at x of a point of this level and index on one axis.
 pub fn weight(x: u64, level: u32, index: u64) -> u64
     requires { (x ≤ unit) × (level ≤ 8) × (index < 2 ^ suc level) }
     ensures { result ≡ weight unit x level index }
 {
-    let apart = distance(x << (level + 1), index << BITS);
-    if 1 << BITS < apart {
-        return 0;
-    }
-    (1 << BITS) - apart
+    let apart = (x << (level + 1)).abs_diff(index << BITS);
+    (1u64 << BITS).saturating_sub(apart)
 }
 
 // The cell of a level on one axis in which x lies, counted from 0: the point of index 2 × cell + 1 alone can have a weight above 0 at x.
@@ -42,7 +29,8 @@ pub fn cell(x: u64, level: u32) -> u64
     ensures { result ≡ cell_of x level }
 {
     if x < 1 << BITS {
-        return (x << level) >> BITS;
+        (x << level) >> BITS
+    } else {
+        0
     }
-    0
 }

@@ -18,6 +18,7 @@ use Rattle.splits.specs.Splits.{Split}
 use Rattle.component_grids.specs.Component.{points_to, place_at, neighbour}
 use Rattle.component_grids.proofs.Places.{Shifted, place_low, place_high, shift_up, shift_down}
 use Rattle.component_boxes.specs.Order.{middle_of, half_of, away}
+use Rattle.component_boxes.proofs.Fitting.{times_on, on_multiple, fits_by}
 use Rattle.component_boxes.specs.Boxes.{Near, Box, Fits}
 use Rattle.component_boxes.proofs.Reach.{power_parts, reach_multiple, reach_between}
 use Rattle.component_grids.proofs.Beside.{moved, Beside, beside, reach_le}
@@ -126,11 +127,11 @@ module _ (d : ℕ) (tops k : ℕ → ℕ) (c : ℕ) (fits : Fits d tops k c) (r 
   part_pos = pow_pos (k r - 1)
 
   times : ℕ
-  times = fits.times r
+  times = times_on d tops k c r
 
   at_multiple : at ≡ times * wide
   unfolding at wide times
-  at_multiple = fits.aligned r axis
+  at_multiple = on_multiple d tops k c fits r axis
 
   -- The box lies between the borders of the axis.
   times_pos : 0 < times
@@ -170,41 +171,35 @@ module _ (d : ℕ) (tops k : ℕ → ℕ) (c : ℕ) (fits : Fits d tops k c) (r 
 
   pub middle_fits : Fits d tops (middle_of k r) c
   middle_fits =
-      record {
-        inside = fits.inside;
-        within =
-            λ t lt.
-            eq_or_not t r
-            (λ same. rw (same, middle_same k r) (omega arith))
-            (λ other. rw (middle_other k r t other) (fits.within t lt));
-        times = update fits.times r at;
-        aligned =
-            λ t lt.
-            eq_or_not t r
-            (λ same. rw (same, middle_same k r, update_same fits.times r at) (omega (arith, at_is)))
-            (λ other. rw (middle_other k r t other, update_other fits.times r at t other) (fits.aligned t lt));
-      }
+      let kept : ℕ → ℕ = times_on d tops k c in
+      fits_by d tops (middle_of k r) c fits.inside
+      (λ t lt.
+      eq_or_not t r
+      (λ same. rw (same, middle_same k r) (omega arith))
+      (λ other. rw (middle_other k r t other) (fits.within t lt)))
+      (update kept r at)
+      (λ t lt.
+      eq_or_not t r
+      (λ same. rw (same, middle_same k r, update_same kept r at) (omega (arith, at_is)))
+      (λ other. rw (middle_other k r t other, update_other kept r at t other) (on_multiple d tops k c fits t lt)))
 
   -- A half whose middle point has a place that is v times its width, on the axis of the split.
   half_fits : (e v : ℕ) → Shifted d tops r c e (v * part) → Fits d tops (half_of k r) e
   unfolding part
   half_fits e v shifted =
-      record {
-        inside = shifted.inside;
-        within =
-            λ t lt.
-            eq_or_not t r
-            (λ same. rw (same, half_same k r) (omega (arith, fits.within r axis)))
-            (λ other. rw (half_other k r t other) (fits.within t lt));
-        times = update fits.times r v;
-        aligned =
-            λ t lt.
-            eq_or_not t r
-            (λ same. rw (same, half_same k r, update_same fits.times r v) shifted.own)
-            (λ other.
-            rw (half_other k r t other, update_other fits.times r v t other)
-            (shifted.others t lt other ∙ fits.aligned t lt));
-      }
+      let kept : ℕ → ℕ = times_on d tops k c in
+      fits_by d tops (half_of k r) e shifted.inside
+      (λ t lt.
+      eq_or_not t r
+      (λ same. rw (same, half_same k r) (omega (arith, fits.within r axis)))
+      (λ other. rw (half_other k r t other) (fits.within t lt)))
+      (update kept r v)
+      (λ t lt.
+      eq_or_not t r
+      (λ same. rw (same, half_same k r, update_same kept r v) shifted.own)
+      (λ other.
+      rw (half_other k r t other, update_other kept r v t other)
+      (shifted.others t lt other ∙ on_multiple d tops k c fits t lt)))
 
   at_parts : at ≡ (times + times) * part
   at_parts = at_multiple ∙ ap (λ (x : ℕ). times * x) wide_part ∙ (let both : times * (part + part) ≡ (times + times) * part = omega arith in both)

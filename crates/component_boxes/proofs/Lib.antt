@@ -1,5 +1,6 @@
 pub mod Powers
 pub mod Reach
+pub mod Fitting
 pub mod Halves
 pub mod Widest
 pub mod Seeking

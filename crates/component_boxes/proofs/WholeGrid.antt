@@ -9,6 +9,7 @@ use Rattle.naturals.proofs.Cases.{eq_or_not}
 use Rattle.component_grids.specs.Component.{across, points_to, place_at}
 use Rattle.component_grids.proofs.Places.{across_is, points_to_zero, points_to_suc, points_to_pos, place_is_lem, place_low, place_high, place_below}
 use Rattle.component_boxes.specs.Order.{centre}
+use Rattle.component_boxes.proofs.Fitting.{fits_by}
 use Rattle.component_boxes.specs.Boxes.{Near, Fits}
 
 module _ (tops : ℕ → ℕ) where
@@ -63,12 +64,8 @@ module _ (tops : ℕ → ℕ) where
 
   pub whole_fits : (d : ℕ) → Fits d tops tops (centre d tops)
   whole_fits d =
-      record {
-        inside = centre_inside d;
-        within = λ t axis. omega arith;
-        times = λ t. 1;
-        aligned = λ t axis. omega (arith, centre_place d t axis);
-      }
+      fits_by d tops tops (centre d tops) (centre_inside d) (λ t axis. omega arith) (λ t. 1)
+      (λ t axis. omega (arith, centre_place d t axis))
 
   pub whole_near : (d p : ℕ) → p < points_to tops d → Near d tops tops (centre d tops) p
   whole_near d p h =

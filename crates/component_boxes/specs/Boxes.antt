@@ -1,6 +1,6 @@
 -- The points of a box, and that a box lies in the grid as the splits make it.
 -- Assumes nothing.
-use Rattle.std.specs.Prelude.{◌≡◌, ℕ, zero, suc, ◌+◌, ◌*◌, ◌^◌, ◌≤◌, ◌<◌}
+use Rattle.std.specs.Prelude.{◌≡◌, ℕ, zero, suc, ◌+◌, ◌%◌, ◌^◌, ◌≤◌, ◌<◌}
 use Rattle.component_grids.specs.Component.{points_to, place_at}
 
 module _ (d : ℕ) (tops k : ℕ → ℕ) (c : ℕ) where
@@ -19,5 +19,4 @@ module _ (d : ℕ) (tops k : ℕ → ℕ) (c : ℕ) where
   pub record Fits : Type 0 where
     pub inside : c < points_to tops d
     pub within : (t : ℕ) → t < d → k t ≤ tops t
-    pub times : ℕ → ℕ
-    pub aligned : (t : ℕ) → t < d → place_at tops c t ≡ times t * 2 ^ k t
+    pub aligned : (t : ℕ) → t < d → place_at tops c t % 2 ^ k t ≡ 0

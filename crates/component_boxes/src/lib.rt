@@ -13,13 +13,11 @@ pub fn widest_axis(levels: [u32; 8], axes: usize) -> usize
     requires { (1 ≤ axes) × (axes ≤ 8) }
     ensures { result ≡ widest (at levels) axes }
 {
-    let mut most: usize = 0;
-    let mut t: usize = 1;
-    while t < axes {
+    let mut most = 0;
+    for t in 1..axes {
         if levels[most] < levels[t] {
             most = t;
         }
-        t += 1;
     }
     most
 }
@@ -28,8 +26,7 @@ pub fn widest_axis(levels: [u32; 8], axes: usize) -> usize
 pub fn cut_at(from: usize, to: usize, r: usize) -> usize
     ensures { result ≡ cut from to r }
 {
-    let start = if from < r { r } else { from };
-    if start < to { start } else { to }
+    from.max(r).min(to)
 }
 
 // How many points an axis of a level has.

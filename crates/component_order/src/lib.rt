@@ -4,129 +4,117 @@
 ghost use Rattle.std.specs.Prelude.{◌≡◌, ◌<◌};
 ghost use Rattle.numbering.specs.Point.{at};
 ghost use Rattle.component_grids.specs.Component.{across, points_to};
-ghost use Rattle.component_boxes.specs.Order.{widest, centre, order_in};
-ghost use Rattle.component_sweeps.specs.Steps.{tops_of, Laid};
-ghost use Rattle.component_boxes.specs.Boxes.{Fits};
-ghost use Rattle.component_order.specs.InOrder.{Loaded, worked_in, in_order};
-ghost use Rattle.component_order.specs.Steps.{Mixed, Within, PartsOf};
+ghost use Rattle.component_boxes.specs.Order.{widest, centre};
+ghost use Rattle.component_sweeps.specs.Steps.{tops_of};
+ghost use Rattle.component_order.specs.InOrder.{Loaded, in_order};
+ghost use Rattle.component_order.specs.Steps.{MixedOn, worked_on, PartsOf};
 
-use component_sweeps::Layout;
+use component_sweeps::{GridBox, Layout};
 
 // Boxes of at most so many points are done axis by axis, which leaves what the steps in order leave.
 const SWEPT: u64 = 1024;
 
-// How many points are left in a box.
-fn points_left(layout: Layout, levels: [u32; 8]) -> u64
-    requires { Laid layout × Within layout levels }
-    ensures { result ≡ points_to (at levels) layout.axes }
+// How many points are left in a box. (A box is of another crate, so what works on it here are functions and not methods.)
+fn points_left(b: &GridBox) -> u64
+    ensures { result ≡ points_to (at b.now.levels) b.now.grid.now.axes }
 {
-    let axes = layout.axes;
-    let mut points: u64 = 1;
-    let mut t: usize = 0;
-    while t < axes {
-        points = points * component_boxes::points_across(levels[t]);
-        t += 1;
+    let mut points = 1;
+    for t in 0..b.grid.axes {
+        points *= component_boxes::points_across(b.levels[t]);
     }
     points
 }
 
 // Axes `from` + 1 to `to` of a box, one after the other.
-fn sweep_box(
-    layout: Layout,
-    levels: [u32; 8],
-    centre: usize,
-    from: usize,
-    to: usize,
-    table: &mut [i64],
-)
-    requires { Laid layout × Mixed layout.axes (tops_of layout) (at levels) centre from to table.old }
-    ensures { table.new ≡ worked_in layout.axes (tops_of layout) (order_in layout.axes (tops_of layout) from to (at levels) centre) table.old }
+fn sweep_box(b: &GridBox, from: usize, to: usize, table: &mut [i64])
+    requires { MixedOn b.now from to table.old }
+    ensures { table.new ≡ worked_on b.now from to table.old }
 {
-    let mut a = from;
-    while a < to {
-        component_sweeps::sweep(layout, levels, centre, a, table);
-        a += 1;
+    for a in from..to {
+        b.sweep(a, table);
     }
 }
 
-// The parts of a box that is split along its widest axis: the levels of the middle and of the halves, the middle points of the halves, and where the axes to do are cut.
+// The parts of a box that is split along its widest axis: the middle and the halves, which are boxes, and where the axes to do are cut.
 #[derive(Clone, Copy)]
-pub struct Parts {
-    pub middle: [u32; 8],
-    pub half: [u32; 8],
-    pub left: usize,
-    pub right: usize,
+pub struct Parts<'a> {
+    pub middle: GridBox<'a>,
+    pub left: GridBox<'a>,
+    pub right: GridBox<'a>,
     pub cut: usize,
 }
 
-fn parts_of(layout: Layout, levels: [u32; 8], centre: usize, from: usize, to: usize) -> Parts
-    requires { Laid layout × Fits layout.axes (tops_of layout) (at levels) centre × (1 < across (at levels (widest (at levels) layout.axes))) }
-    ensures { PartsOf layout levels centre from to result }
+fn parts_of<'a>(b: &GridBox<'a>, from: usize, to: usize) -> Parts<'a>
+    requires { 1 < across (at b.now.levels (widest (at b.now.levels) b.now.grid.now.axes)) }
+    ensures { PartsOf b.now from to result }
 {
-    let r = component_boxes::widest_axis(levels, layout.axes);
-    let level = levels[r] - 1;
-    let mut middle = levels;
+    let r = component_boxes::widest_axis(b.levels, b.grid.axes);
+    let level = b.levels[r] - 1;
+    let mut middle = b.levels;
     middle[r] = 0;
-    let mut half = levels;
+    let mut half = b.levels;
     half[r] = level;
-    let strides = layout.strides;
-    let away = (1 << level) * strides[r];
+    let away = (1 << level) * b.grid.strides[r];
     Parts {
-        middle: middle,
-        half: half,
-        left: centre - away,
-        right: centre + away,
+        middle: GridBox {
+            grid: b.grid,
+            levels: middle,
+            centre: b.centre,
+        },
+        left: GridBox {
+            grid: b.grid,
+            levels: half,
+            centre: b.centre - away,
+        },
+        right: GridBox {
+            grid: b.grid,
+            levels: half,
+            centre: b.centre + away,
+        },
         cut: component_boxes::cut_at(from, to, r),
     }
 }
 
 // Axes `from` + 1 to `to` of a box in the order of the splits: the middle up to the cut, the left half, the right half, the middle for the rest. The number of points
 // left falls at each call.
-fn work(layout: Layout, levels: [u32; 8], centre: usize, from: usize, to: usize, table: &mut [i64])
-    requires { Laid layout × Mixed layout.axes (tops_of layout) (at levels) centre from to table.old }
-    ensures { table.new ≡ worked_in layout.axes (tops_of layout) (order_in layout.axes (tops_of layout) from to (at levels) centre) table.old }
+fn work(b: &GridBox, from: usize, to: usize, table: &mut [i64])
+    requires { MixedOn b.now from to table.old }
+    ensures { table.new ≡ worked_on b.now from to table.old }
 {
     if from == to {
         return;
     }
-    if points_left(layout, levels) <= SWEPT {
-        sweep_box(layout, levels, centre, from, to, table);
+    if points_left(b) <= SWEPT {
+        sweep_box(b, from, to, table);
         return;
     }
-    let parts = parts_of(layout, levels, centre, from, to);
-    let middle = parts.middle;
-    let half = parts.half;
-    let left = parts.left;
-    let right = parts.right;
-    let cut = parts.cut;
-    work(layout, middle, centre, from, cut, table);
-    work(layout, half, left, from, to, table);
-    work(layout, half, right, from, to, table);
-    work(layout, middle, centre, cut, to, table);
+    let parts = parts_of(b, from, to);
+    work(&parts.middle, from, parts.cut, table);
+    work(&parts.left, from, to, table);
+    work(&parts.right, from, to, table);
+    work(&parts.middle, parts.cut, to, table);
 }
 
 // The position of the middle point of the grid.
-fn middle_point(layout: Layout) -> usize
-    requires { Laid layout }
-    ensures { result ≡ centre layout.axes (tops_of layout) }
+fn middle_point(grid: &Layout) -> usize
+    ensures { result ≡ centre grid.now.axes (tops_of grid.now) }
 {
-    let axes = layout.axes;
-    let tops = layout.tops;
-    let strides = layout.strides;
-    let mut p: usize = 0;
-    let mut t: usize = 0;
-    while t < axes {
-        p = p + ((1 << tops[t]) - 1) * strides[t];
-        t += 1;
+    let mut p = 0;
+    for t in 0..grid.axes {
+        p += ((1 << grid.tops[t]) - 1) * grid.strides[t];
     }
     p
 }
 
 // Rates to coefficients: every axis of the whole grid, in the order of the splits.
-pub fn in_order(layout: Layout, table: &mut [i64])
-    requires { Laid layout × Loaded layout.axes (tops_of layout) table.old }
-    ensures { table.new ≡ in_order layout.axes (tops_of layout) table.old }
+pub fn in_order(grid: &Layout, table: &mut [i64])
+    requires { Loaded grid.now.axes (tops_of grid.now) table.old }
+    ensures { table.new ≡ in_order grid.now.axes (tops_of grid.now) table.old }
 {
-    let tops = layout.tops;
-    work(layout, tops, middle_point(layout), 0, layout.axes, table);
+    let whole = GridBox {
+        grid,
+        levels: grid.tops,
+        centre: middle_point(grid),
+    };
+    work(&whole, 0, grid.axes, table);
 }

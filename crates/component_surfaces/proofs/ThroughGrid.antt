@@ -1,6 +1,7 @@
 -- The surface of the coefficients of rates accepted on a component grid passes through every rate, and no other whole coefficients have such a surface. From the same of
 -- any numbered points with a zero border, since positions are a numbering of the grid's points and levels of at most 8 have whole coordinates.
 -- Assumes nothing.
+use Rattle.std.specs.Prelude.{Ok}
 use mathlib.Core.Path.{◌≡◌, ap, sym, ◌∙◌}
 use mathlib.Core.List.{List}
 use Prim.Native.Nat.{ℕ, suc, ◌^◌, ◌<◌}
@@ -8,7 +9,6 @@ use native.Mathlib.Omega.{arith}
 use lib.IntN.{ℤ, pos, ◌*ℤ◌}
 use lib.ListN.{length, get_or}
 use lib.Seq.{ext_get_or}
-use Rattle.refusals.specs.declared.Verdict.TheVariants.{Passed}
 use Rattle.hierarchy.specs.Turns.{value_at}
 use Rattle.hierarchy.specs.Sets.{table_of, every_axis}
 use Rattle.hierarchy.proofs.Values.{value_zero, value_suc, values_length, values_at}
@@ -45,7 +45,7 @@ module _ (ls : List ℕ) where
   levels_whole range p t p_in axis = omega (arith, level_le (tops_in ls t) (place_at (tops_in ls) p t), range.tops t)
 
   -- The points of a grid that passes have hat functions.
-  pub component_hats : check_grid ls ≡ Passed →
+  pub component_hats : check_grid ls ≡ Ok tt →
       Hats (grid_points ls) (length ls) unit (neighbour (component (length ls) (tops_in ls))) (grid_weight unit (component (length ls) (tops_in ls)))
       (grid_same (component (length ls) (tops_in ls)))
   unfolding grid_points

@@ -6,7 +6,8 @@ use native.Mathlib.Omega.{arith}
 use lib.Pow.{pow_mono}
 use Rattle.component_grids.specs.Component.{points_to}
 use Rattle.component_boxes.proofs.Falling.{points_before}
-use Rattle.component_sweeps.specs.Steps.{Turn, Ground}
+use Rattle.component_sweeps.specs.declared.grid.GridBox.{GridBox}
+use Rattle.component_sweeps.specs.Steps.{Turn, Ground, turn_of}
 
 -- A product of two such numbers: the kit's law, with its numbers written out.
 pub times_most : (a b m n : ℕ) → a ≤ m → b ≤ n → a * b ≤ m * n
@@ -21,3 +22,14 @@ module _ (g : Turn) (ground : Ground g) where
 
   pub end_most : (u : ℕ) → 2 ^ suc (g.tops u) ≤ 512
   end_most u = pow_mono {i = suc (g.tops u)} {j = 9} (omega (arith, ground.low u))
+
+-- What the types of a box and its grid say.
+pub ground : (b : GridBox) (t : ℕ) → t < b.grid.now.axes → Ground (turn_of b t)
+ground b t axis =
+    record {
+      axis = axis;
+      fits = b.fits;
+      low = b.grid.now.low;
+      few = b.grid.now.few;
+      small = b.grid.now.small;
+    }

@@ -1,41 +1,61 @@
 -- The places of one reach on a band's lines, one after the other: those passed are turned, and all others are as they were. True since the places of one reach lie twice that
 -- reach apart, the first of them one reach after the box's low end, and no place has a neighbour of its own reach.
 -- Assumes nothing.
-use mathlib.Core.Bool.{Bool}
 use mathlib.Core.List.{List}
 use mathlib.Core.Logic.{inl, inr}
 use mathlib.Core.Path.{◌≡◌, ap, sym, ◌∙◌}
 use Prim.Native.Nat.{ℕ, suc, ◌+◌, ◌-◌, ◌*◌, ◌^◌, ◌≤◌, ◌<◌}
-use native.Mathlib.Nat.{add-mul, one-mul, zero-mul, mul_comm, mul_assoc}
+use native.Mathlib.Nat.{add-mul, one-mul, zero-mul}
 use native.Mathlib.Omega.{arith}
 use lib.IntN.{ℤ}
 use lib.Pow.{pow_pos, pow_mono}
 use Rattle.naturals.proofs.Cases.{le_or_lt, eq_or_not}
 use Rattle.numbering.specs.Parent.{twos}
 use Rattle.component_grids.proofs.Places.{place_low}
-use Rattle.component_sweeps.specs.Steps.{CanBand, LoweredOn, InBand, Turn, place_on, middle, Asked, Turned, Along, Reaches, ClassOf}
+use Rattle.component_boxes.proofs.Fitting.{times_on, on_multiple}
+use Rattle.component_sweeps.specs.declared.Parents.{Parents}
+use Rattle.component_sweeps.specs.declared.Sweep.{Sweep}
+use Rattle.component_sweeps.specs.Steps.{Band, CanBand, LoweredOn, Turn, place_on, middle, Asked, Turned, Along, Reaches, ParentsAt, turn, Class, InClass}
 use Rattle.component_sweeps.proofs.Apart.{Apart, turned_none, turned_same, limited_next, turned_both}
 use Rattle.component_sweeps.proofs.Reaching.{OddTimes, odd_times, reach_odd, odd_near, odd_next, even_times, odd_first, odd_after, reach_grows}
-use Rattle.component_sweeps.proofs.Lines.{Parents, box_high, kinds_apart, band_can, band_turned}
+use Rattle.component_sweeps.proofs.Lines.{box_low, box_high, kinds_apart, band_can, band_turned}
 use Rattle.component_sweeps.proofs.Bounds.{times_most, stride_most, half_most, end_most}
 
 -- The places of that reach before x.
 abbrev pub Passed : ℕ → ℕ → ℕ → Type 0
 Passed r x y = Reaches r y × (y < x)
 
-module _ (q width lines apart unit stride low high reach end : ℕ) (g : Turn) (xs : List ℤ) where
-  pub record Passing (ys : List ℤ) (x p : ℕ) : Type 0 where
+module _ (w : Sweep) (q reach : ℕ) (xs : List ℤ) where
+  abbrev g : Turn
+  g = turn w
+
+  abbrev low : ℕ
+  low = w.place - w.half
+
+  abbrev high : ℕ
+  high = w.place + w.half
+
+  pub record Passing (ys : List ℤ) (x : ℕ) : Type 0 where
     pub odd : OddTimes reach x
     pub least : low + reach ≤ x
-    pub at : p ≡ q + (x - low - 1) * stride
-    pub turned : Turned g (Along g g.from q (Passed reach x)) xs ys
+    pub turned : Turned g (Along g w.spread.from q (Passed reach x)) xs ys
 
-  module _ (of : ClassOf q width lines apart unit stride low high reach end g xs) where
+  module _ (of : Class w q reach xs) where
     abbrev t : ℕ
     t = g.axis
 
     axis : g.axis < g.axes
-    axis = of.numbers.ground.axis
+    axis = of.from.holds.ground.axis
+
+    low_is : low + 2 ^ g.levels t ≡ middle g t
+    low_is =
+        omega (arith, of.from.holds.place_is, of.from.holds.half_is, box_low g of.from.holds.ground t axis)
+
+    high_is : high ≡ middle g t + 2 ^ g.levels t
+    high_is = omega (arith, of.from.holds.place_is, of.from.holds.half_is)
+
+    pub half_fits : w.half ≤ w.place
+    half_fits = omega (arith, of.from.holds.place_is, of.from.holds.half_is, box_low g of.from.holds.ground t axis)
 
     pub reach_some : 1 ≤ reach
     reach_some = omega (arith, of.reach_is, pow_pos of.power)
@@ -47,24 +67,21 @@ module _ (q width lines apart unit stride low high reach end : ℕ) (g : Turn) (
         omega (
           arith,
           of.reach_is,
-          half_most g of.numbers.ground t axis,
+          half_most g of.from.holds.ground t axis,
           pow_mono {i = of.power} {j = g.levels t} (omega (arith, of.finer)),
         )
 
-    pub stride_small : stride ≤ 32768
-    stride_small = omega (arith, of.numbers.stride_is, stride_most g of.numbers.ground t axis)
+    pub stride_small : w.stride ≤ 32768
+    stride_small = omega (arith, of.from.holds.stride_is, stride_most g of.from.holds.ground t axis)
 
     pub high_most : high ≤ 512
-    high_most = omega (arith, of.high_is, box_high g of.numbers.ground t axis, end_most g of.numbers.ground t)
+    high_most = omega (arith, high_is, box_high g of.from.holds.ground t axis, end_most g of.from.holds.ground t)
 
-    pub far_most : stride * reach ≤ 8388608
-    far_most = times_most stride reach 32768 256 stride_small reach_most
-
-    pub start_most : (reach - 1) * stride ≤ 8388608
-    start_most = times_most (reach - 1) stride 256 32768 (omega (arith, reach_most)) stride_small
+    pub far_most : w.stride * reach ≤ 8388608
+    far_most = times_most w.stride reach 32768 256 stride_small reach_most
 
     pub first_most : q < 32768
-    first_most = omega (arith, of.first.near.inside, of.numbers.ground.small)
+    first_most = omega (arith, of.from.first.near.inside, of.from.holds.ground.small)
 
     -- ---- the loop
 
@@ -75,30 +92,29 @@ module _ (q width lines apart unit stride low high reach end : ℕ) (g : Turn) (
     odd_reaches y h = reach_odd of.power y (rw of.reach_is at h) ∙ sym of.reach_is
 
     pairs : ℕ
-    pairs = (of.numbers.ground.fits.times t - 1) * 2 ^ (g.levels t - suc of.power)
+    pairs = (times_on g.axes g.tops g.levels g.centre t - 1) * 2 ^ (g.levels t - suc of.power)
 
     low_even : low ≡ pairs * (reach + reach)
     unfolding pairs
     low_even =
-        let n = of.numbers.ground.fits.times t in
+        let n = times_on g.axes g.tops g.levels g.centre t in
         let k = g.levels t in
-        let whole = of.numbers.ground.fits.aligned t axis in
+        let whole = on_multiple g.axes g.tops g.levels g.centre of.from.holds.ground.fits t axis in
         let one : n ≡ n - 1 + 1 =
         eq_or_not n 0
         (λ e. absurd (omega (arith, whole, ap (λ (y : ℕ). y * 2 ^ k) e, zero-mul (2 ^ k), place_low g.tops g.centre t)))
         (λ ne. omega arith) in
         let start : low ≡ (n - 1) * 2 ^ k =
-        omega (arith, of.low_is, whole, ap (λ (y : ℕ). y * 2 ^ k) one, add-mul (n - 1) 1 (2 ^ k), one-mul (2 ^ k)) in
+        omega (arith, low_is, whole, ap (λ (y : ℕ). y * 2 ^ k) one, add-mul (n - 1) 1 (2 ^ k), one-mul (2 ^ k)) in
         start
         ∙ even_times of.power k (n - 1) of.finer
         ∙ ap (λ (y : ℕ). (n - 1) * 2 ^ (k - suc of.power) * (y + y)) (sym of.reach_is)
 
-    pub passing_starts : Passing xs (low + reach) (q + (reach - 1) * stride)
+    pub passing_starts : Passing xs (low + reach)
     passing_starts =
         record {
           odd = odd_first reach low pairs reach_some low_even;
           least = omega arith;
-          at = let same : reach - 1 ≡ low + reach - low - 1 = omega arith in ap (λ (y : ℕ). q + y * stride) same;
           turned =
               turned_none g.axes g.tops t xs
               (λ p l.
@@ -107,16 +123,16 @@ module _ (q width lines apart unit stride low high reach end : ℕ) (g : Turn) (
                 arith,
                 l.there.1,
                 odd_after reach low pairs reach_some low_even y (odd_means y (place_low g.tops p t) l.there.0)
-                    (omega (arith, l.row.near.low t axis, of.low_is)),
+                    (omega (arith, l.row.near.low t axis, low_is)),
               ));
         }
 
-    module _ (ys : List ℤ) (x p : ℕ) (s : Passing ys x p) where
-      pub passing_ends : high ≤ x → Turned g (Along g g.from q (Reaches reach)) xs ys
+    module _ (ys : List ℤ) (x : ℕ) (s : Passing ys x) where
+      pub passing_ends : high ≤ x → Turned g (InClass w q reach) xs ys
       passing_ends past =
           turned_same g.axes g.tops t
           (λ p l. record { row = l.row; there = l.there.0 })
-          (λ p l. record { row = l.row; there = (l.there, omega (arith, l.row.near.high t axis, of.high_is)) })
+          (λ p l. record { row = l.row; there = (l.there, omega (arith, l.row.near.high t axis, high_is)) })
           s.turned
 
       module _ (less : x < high) where
@@ -125,18 +141,17 @@ module _ (q width lines apart unit stride low high reach end : ℕ) (g : Turn) (
 
         h_is : x ≡ place_on g q t + h
         unfolding h
-        h_is = omega (arith, of.first.own, of.low_is, s.least, reach_some)
+        h_is = omega (arith, of.from.first.own, low_is, s.least, reach_some)
 
         inside : x < middle g t + 2 ^ g.levels t
-        inside = omega (arith, of.high_is)
+        inside = omega (arith, high_is)
 
-        pub passing_most : p ≤ 16809984
-        passing_most =
-            omega (arith, s.at, first_most, times_most (x - low - 1) stride 512 32768 (omega (arith, high_most)) stride_small)
+        pub passing_most : (x - low - 1) * w.stride ≤ 16777216
+        passing_most = times_most (x - low - 1) w.stride 512 32768 (omega (arith, high_most)) stride_small
 
-        separate : Apart g.axes g.tops t (Along g g.from q (Passed reach x)) (Along g g.from q (λ y. y ≡ x))
+        separate : Apart g.axes g.tops t (Along g w.spread.from q (Passed reach x)) (Along g w.spread.from q (λ y. y ≡ x))
         separate =
-            kinds_apart g of.numbers.ground g.from q
+            kinds_apart g of.from.holds.ground w.spread.from q
             (λ y same passed. omega (arith, passed.1))
             (λ b y some there same passed.
             omega (
@@ -147,21 +162,19 @@ module _ (q width lines apart unit stride low high reach end : ℕ) (g : Turn) (
               odd_reaches x s.odd,
             ))
 
-        asked : Asked g (Along g g.from q (λ y. y ≡ x)) ys
+        asked : Asked g (Along g w.spread.from q (λ y. y ≡ x)) ys
         asked =
             limited_next g.axes g.tops t separate s.turned
             (λ p l. record { row = l.row; there = l.there.0 })
             (λ p l. record { row = l.row; there = ap (λ (n : ℕ). 2 ^ twos n) l.there ∙ odd_reaches x s.odd })
-            of.asked
+            of.from.asked
 
-        module _ (left right : Bool) (parents : Parents x reach end left right) where
-          pub passing_can : CanBand p width lines apart unit (stride * reach) left right ys
+        module _ (a : Parents) (parents : ParentsAt w.stride w.end x reach a) where
+          pub passing_can : CanBand w.spread (q + (x - low - 1) * w.stride) a ys
           unfolding h
-          passing_can =
-              rw s.at
-              (band_can g width lines apart unit stride end of.numbers q of.first h x h_is inside reach (odd_reaches x s.odd) left right parents ys asked)
+          passing_can = band_can w of.from.holds q of.from.first h x h_is inside reach (odd_reaches x s.odd) a parents ys asked
 
-          pub passing_steps : (zs : List ℤ) → LoweredOn (stride * reach) left right (InBand p width lines apart unit) ys zs → Passing zs (x + 2 * reach) (p + 2 * (stride * reach))
+          pub passing_steps : (zs : List ℤ) → LoweredOn a (Band w.spread (q + (x - low - 1) * w.stride)) ys zs → Passing zs (x + 2 * reach)
           unfolding h
           passing_steps zs ran =
               record {
@@ -171,16 +184,6 @@ module _ (q width lines apart unit stride low high reach end : ℕ) (g : Turn) (
                       is = omega (arith, (odd_next reach x s.odd).is);
                     };
                 least = omega (arith, s.least);
-                at =
-                    let next : x + 2 * reach - low - 1 ≡ h + 2 * reach = omega (arith, s.least, reach_some) in
-                    omega (
-                      arith,
-                      s.at,
-                      ap (λ (y : ℕ). y * stride) next,
-                      add-mul h (2 * reach) stride,
-                      mul_assoc 2 reach stride,
-                      mul_comm reach stride,
-                    );
                 turned =
                     turned_both g.axes g.tops t separate s.turned
                     (λ p l. record { row = l.row; there = (l.there.0, omega (arith, l.there.1)) })
@@ -197,6 +200,6 @@ module _ (q width lines apart unit stride low high reach end : ℕ) (g : Turn) (
                           (omega (arith, l.there.1));
                     }))
                     (λ before. inl (record { row = l.row; there = (l.there.0, before) })))
-                    (band_turned g width lines apart unit stride end of.numbers q of.first h x h_is inside reach (odd_reaches x s.odd) left right parents ys zs
-                    (rw s.at at ran));
+                    (band_turned w of.from.holds q of.from.first h x h_is inside reach (odd_reaches x s.odd) a parents ys zs
+                    ran);
               }

@@ -1,5 +1,5 @@
 -- The first position of a box, one axis after the other: on the axes passed it has the box's lowest place, on the others the middle point's. True since the middle's
--- place is at least half the box's width, so that it can step down so far. And what the turns of that box ask and leave.
+-- place is at least half the box's width, so that it can step down so far.
 -- Assumes nothing.
 use mathlib.Core.List.{List}
 use mathlib.Core.Path.{◌≡◌, refl, ◌∙◌}
@@ -13,89 +13,71 @@ use Rattle.naturals.proofs.Cases.{eq_or_not}
 use Rattle.numbering.specs.Point.{at}
 use Rattle.component_grids.specs.Component.{across, points_to, place_at}
 use Rattle.component_grids.proofs.Places.{Shifted, across_is, shift_down}
-use Rattle.component_boxes.specs.Boxes.{Fits}
-use Rattle.component_sweeps.specs.declared.Layout.{Layout}
-use Rattle.component_sweeps.specs.Steps.{tops_of, Laid, Ground, turn_of, Corner}
+use Rattle.component_sweeps.specs.declared.grid.GridBox.{GridBox}
+use Rattle.component_sweeps.specs.Steps.{tops_of, turn_of, Corner, Sizes}
 use Rattle.component_sweeps.proofs.Lines.{box_low}
-use Rattle.component_sweeps.proofs.Bounds.{half_most, stride_most, times_most}
+use Rattle.component_sweeps.proofs.Bounds.{half_most, stride_most, times_most, ground}
 
-pub record Cornering (layout : Layout) (levels : List ℕ) (centre : ℕ) (sizes : List ℕ) (q t : ℕ) : Type 0 where
-  pub most : t ≤ layout.axes
+pub record Cornering (box : GridBox) (sizes : List ℕ) (q t : ℕ) : Type 0 where
   pub long : length sizes ≡ 8
-  pub inside : q < points_to (tops_of layout) layout.axes
-  pub lowest : (u : ℕ) → u < t → place_at (tops_of layout) q u + 2 ^ at levels u ≡ place_at (tops_of layout) centre u + 1
-  pub rest : (u : ℕ) → t ≤ u → u < layout.axes → place_at (tops_of layout) q u ≡ place_at (tops_of layout) centre u
-  pub sizes_are : (u : ℕ) → u < t → at sizes u ≡ across (at levels u)
+  pub inside : q < points_to (tops_of box.grid.now) box.grid.now.axes
+  pub lowest : (u : ℕ) → u < t → place_at (tops_of box.grid.now) q u + 2 ^ at box.levels u ≡ place_at (tops_of box.grid.now) box.centre u + 1
+  pub rest : (u : ℕ) → t ≤ u → u < box.grid.now.axes → place_at (tops_of box.grid.now) q u ≡ place_at (tops_of box.grid.now) box.centre u
+  pub sizes_are : (u : ℕ) → u < t → at sizes u ≡ across (at box.levels u)
 
-module _ (layout : Layout) (levels : List ℕ) (centre : ℕ) (laid : Laid layout) (fits : Fits layout.axes (tops_of layout) (at levels) centre) where
-  pub ground : (t from : ℕ) → t < layout.axes → Ground (turn_of layout levels centre t from)
-  ground t from axis =
-      record {
-        axis = axis;
-        fits = fits;
-        low = laid.low;
-        few = laid.few;
-        small = laid.small;
-      }
+module _ (box : GridBox) where
+  pub level_few : (t : ℕ) → t < box.grid.now.axes → at box.levels t ≤ 8
+  level_few t axis = omega (arith, box.fits.within t axis, box.grid.now.low t)
 
-  pub level_few : (t : ℕ) → t < layout.axes → at levels t ≤ 8
-  level_few t axis = omega (arith, fits.within t axis, laid.low t)
-
-  pub cornering_starts : (sizes : List ℕ) → length sizes ≡ 8 → Cornering layout levels centre sizes centre 0
+  pub cornering_starts : (sizes : List ℕ) → length sizes ≡ 8 → Cornering box sizes box.centre 0
   cornering_starts sizes long =
       record {
-        most = omega arith;
         long = long;
-        inside = fits.inside;
+        inside = box.fits.inside;
         lowest = λ u less. absurd (omega arith);
         rest = λ u from axis. refl;
         sizes_are = λ u less. absurd (omega arith);
       }
 
-  module _ (sizes : List ℕ) (q t : ℕ) (s : Cornering layout levels centre sizes q t) where
-    pub cornering_ends : layout.axes ≤ t → Corner layout levels centre sizes q
+  module _ (sizes : List ℕ) (q t : ℕ) (s : Cornering box sizes q t) where
+    pub cornering_ends : box.grid.now.axes ≤ t → Corner box q × Sizes box sizes
     cornering_ends past =
-        record {
-          inside = s.inside;
-          lowest = λ u lt. s.lowest u (omega arith);
-          sizes_are = λ u lt. s.sizes_are u (omega arith);
-        }
+        (record { inside = s.inside; lowest = λ u lt. s.lowest u (omega arith) }, λ u lt. s.sizes_are u (omega arith))
 
-    module _ (axis : t < layout.axes) (half stride : ℕ) (half_is : half ≡ 2 ^ at levels t) (stride_is : stride ≡ points_to (tops_of layout) t) where
-      half_fits : half ≤ place_at (tops_of layout) q t
+    module _ (axis : t < box.grid.now.axes) (half stride : ℕ) (half_is : half ≡ 2 ^ at box.levels t) (stride_is : stride ≡ points_to (tops_of box.grid.now) t) where
+      half_fits : half ≤ place_at (tops_of box.grid.now) q t
       half_fits =
           omega (
             arith,
-            box_low (turn_of layout levels centre t 0) (ground t 0 axis) t axis,
+            box_low (turn_of box t) (ground box t axis) t axis,
             s.rest t (omega arith) axis,
           )
 
       pub half_some : 1 ≤ half
-      half_some = omega (arith, pow_pos (at levels t))
+      half_some = omega (arith, pow_pos (at box.levels t))
 
       pub half_small : half ≤ 256
-      half_small = omega (arith, half_most (turn_of layout levels centre t 0) (ground t 0 axis) t axis)
+      half_small = omega (arith, half_most (turn_of box t) (ground box t axis) t axis)
 
       pub product_fits : (half - 1) * stride ≤ 8388608
       product_fits =
           times_most (half - 1) stride 256 32768 (omega (arith, half_small))
-          (omega (arith, stride_most (turn_of layout levels centre t 0) (ground t 0 axis) t axis))
+          (omega (arith, stride_most (turn_of box t) (ground box t axis) t axis))
 
       -- The step down on the axis.
       pub enough : (half - 1) * stride ≤ q
       enough =
           rw stride_is
-          (shift_down layout.axes (tops_of layout) t q (half - 1) axis s.inside (omega (arith, half_fits, half_some))).0
+          (shift_down box.grid.now.axes (tops_of box.grid.now) t q (half - 1) axis s.inside (omega (arith, half_fits, half_some))).0
 
-      stepped : Shifted layout.axes (tops_of layout) t q (q - (half - 1) * stride) (place_at (tops_of layout) q t - (half - 1))
+      stepped : Shifted box.grid.now.axes (tops_of box.grid.now) t q (q - (half - 1) * stride) (place_at (tops_of box.grid.now) q t - (half - 1))
       stepped =
           rw stride_is
-          (shift_down layout.axes (tops_of layout) t q (half - 1) axis s.inside (omega (arith, half_fits, half_some))).1
+          (shift_down box.grid.now.axes (tops_of box.grid.now) t q (half - 1) axis s.inside (omega (arith, half_fits, half_some))).1
 
-      pub cornering_steps : Cornering layout levels centre (set sizes t (2 * half - 1)) (q - (half - 1) * stride) (t + 1)
+      pub cornering_steps : Cornering box (set sizes t (2 * half - 1)) (q - (half - 1) * stride) (t + 1)
       cornering_steps =
           record {
-            most = omega arith;
             long = length-set sizes t (2 * half - 1) ∙ s.long;
             inside = stepped.inside;
             lowest =
@@ -111,7 +93,7 @@ module _ (layout : Layout) (levels : List ℕ) (centre : ℕ) (laid : Laid layou
                 eq_or_not u t
                 (λ e.
                 rw e
-                (get_or-set_same sizes t (2 * half - 1) 0 (omega (arith, s.long, s.most, laid.few))
-                ∙ omega (arith, across_is (at levels t), pow-suc 2 (at levels t))))
+                (get_or-set_same sizes t (2 * half - 1) 0 (omega (arith, s.long, box.grid.now.few))
+                ∙ omega (arith, across_is (at box.levels t), pow-suc 2 (at box.levels t))))
                 (λ ne. get_or-set_other sizes t u (2 * half - 1) 0 ne ∙ s.sizes_are u (omega arith));
           }

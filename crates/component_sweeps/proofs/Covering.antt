@@ -8,21 +8,25 @@ use native.Mathlib.Nat.{mul_comm, mul_assoc, mul-pos, mul-le-mul_right}
 use native.Mathlib.Numerals.{add-one}
 use native.Mathlib.Omega.{arith}
 use lib.Pow.{pow_mono}
+use Rattle.naturals.proofs.Cases.{eq_or_not}
 use Rattle.numbering.specs.Point.{at}
 use Rattle.component_grids.specs.Component.{across, points_to}
 use Rattle.component_grids.proofs.Places.{across_is, across_pos, points_to_zero, points_to_suc, points_to_pos}
-use Rattle.component_sweeps.specs.declared.Layout.{Layout}
+use Rattle.component_sweeps.specs.declared.grid.GridBox.{GridBox}
 use Rattle.component_sweeps.specs.declared.Spread.{Spread}
-use Rattle.component_sweeps.specs.Steps.{tops_of, Ground, Banded, turn_of, Boxed, Covers}
+use Rattle.component_sweeps.specs.Steps.{tops_of, Ground, Banded, turn_of, Sizes, Covers}
 use Rattle.component_boxes.proofs.Falling.{points_before}
-use Rattle.component_sweeps.proofs.Bounds.{times_most}
+use Rattle.component_sweeps.proofs.Bounds.{times_most, ground}
 use Rattle.component_sweeps.proofs.Widths.{no_axis_lem, turned_axis, single_axis, more_lines, next_lines, wider_run, next_run}
 
-module _ (layout : Layout) (levels : List ℕ) (axis : ℕ) where
-  abbrev tops : ℕ → ℕ
-  tops = tops_of layout
+module _ (box : GridBox) (axis : ℕ) (on : axis < box.grid.now.axes) where
+  known : Ground (turn_of box axis)
+  known = ground box axis on
 
-  pub covers_none : Covers layout levels axis (record { from = 0; width = 1; lines = 1; apart = 1; unit = 1 })
+  abbrev tops : ℕ → ℕ
+  tops = tops_of box.grid.now
+
+  pub covers_none : Covers box axis (record { from = 0; width = 1; lines = 1; apart = 1; unit = 1 })
   covers_none =
       record {
         few = omega arith;
@@ -31,11 +35,24 @@ module _ (layout : Layout) (levels : List ℕ) (axis : ℕ) where
         step = omega arith;
         short = omega (arith, points_to_zero tops);
         low = omega (arith, points_to_zero tops);
-        banded = λ c from ground. no_axis_lem _ ground;
+        banded = no_axis_lem _ known;
       }
 
-  module _ (sizes : List ℕ) (boxed : Boxed layout levels sizes axis) where
-    module _ (b : Spread) (so : Covers layout levels axis b) (less : b.from < layout.axes) where
+  pub unit_near : (b : Spread) → Covers box axis b → b.unit ≤ 32768
+  unit_near b so =
+      omega (
+        arith,
+        so.short,
+        mul-le-mul_right {m = 1} {n = b.width} b.unit so.banded.some,
+        points_before tops b.from box.grid.now.axes so.few,
+        box.grid.now.small,
+      )
+
+  module _ (sizes : List ℕ) (sizes_are : Sizes box sizes) where
+    pub left_over : (b : Spread) → Covers box axis b → (b.from ≡ box.grid.now.axes → ⊥) → b.from < box.grid.now.axes
+    left_over b so some = eq_or_not b.from box.grid.now.axes (λ e. absurd (some e)) (λ ne. omega (arith, so.few))
+
+    module _ (b : Spread) (so : Covers box axis b) (less : b.from < box.grid.now.axes) where
       abbrev u : ℕ
       u = b.from
 
@@ -43,16 +60,16 @@ module _ (layout : Layout) (levels : List ℕ) (axis : ℕ) where
       size = at sizes u
 
       abbrev stride : ℕ
-      stride = at layout.strides u
+      stride = at box.grid.now.strides u
 
       pub few : u < 8
-      few = omega (arith, boxed.laid.few)
+      few = omega (arith, box.grid.now.few)
 
-      size_is : size ≡ across (at levels u)
-      size_is = boxed.sizes_are u less
+      size_is : size ≡ across (at box.levels u)
+      size_is = sizes_are u less
 
       stride_is : stride ≡ points_to tops u
-      stride_is = boxed.laid.strides u less
+      stride_is = box.grid.now.laid u less
 
       grows : points_to tops u ≤ points_to tops (u + 1)
       grows = points_before tops u (u + 1) (omega arith)
@@ -70,24 +87,24 @@ module _ (layout : Layout) (levels : List ℕ) (axis : ℕ) where
                 (omega (
                   arith,
                   size_is,
-                  across_is (at levels u),
+                  across_is (at box.levels u),
                   across_is (tops u),
-                  pow_mono {i = suc (at levels u)} {j = suc (tops u)} (omega (arith, boxed.within u less)),
+                  pow_mono {i = suc (at box.levels u)} {j = suc (tops u)} (omega (arith, box.fits.within u less)),
                 )),
           )
 
       -- ---- how large the numbers are
 
       small : points_to tops u ≤ 32768
-      small = omega (arith, points_before tops u layout.axes (omega arith), boxed.laid.small)
+      small = omega (arith, points_before tops u box.grid.now.axes (omega arith), box.grid.now.small)
 
       size_most : size ≤ 32768
       size_most =
           omega (
             arith,
             within,
-            points_before tops (u + 1) layout.axes (omega arith),
-            boxed.laid.small,
+            points_before tops (u + 1) box.grid.now.axes (omega arith),
+            box.grid.now.small,
             mul-le-mul_right {m = 1} {n = stride} size (omega (arith, stride_is, points_to_pos tops u)),
           )
 
@@ -112,9 +129,8 @@ module _ (layout : Layout) (levels : List ℕ) (axis : ℕ) where
       -- ---- the steps
 
       -- The same band, with an axis that adds nothing.
-      covers_same : ((c from : ℕ) (ground : Ground (turn_of layout levels c axis from)) →
-          Banded (turn_of layout levels c axis from) (u + 1) b.width b.lines b.apart b.unit) →
-          Covers layout levels axis (record { from = u + 1; width = b.width; lines = b.lines; apart = b.apart; unit = b.unit })
+      covers_same : Banded (turn_of box axis) (u + 1) b.width b.lines b.apart b.unit →
+          Covers box axis (record { from = u + 1; width = b.width; lines = b.lines; apart = b.apart; unit = b.unit })
       covers_same banded =
           record {
             few = omega arith;
@@ -126,18 +142,18 @@ module _ (layout : Layout) (levels : List ℕ) (axis : ℕ) where
             banded = banded;
           }
 
-      pub covers_turned : u ≡ axis → Covers layout levels axis (record { from = u + 1; width = b.width; lines = b.lines; apart = b.apart; unit = b.unit })
-      covers_turned e = covers_same (λ c from ground. turned_axis _ ground u _ _ _ _ (so.banded c from ground) e)
+      pub covers_turned : u ≡ axis → Covers box axis (record { from = u + 1; width = b.width; lines = b.lines; apart = b.apart; unit = b.unit })
+      covers_turned e = covers_same (turned_axis _ known u _ _ _ _ so.banded e)
 
-      pub covers_single : size ≡ 1 → Covers layout levels axis (record { from = u + 1; width = b.width; lines = b.lines; apart = b.apart; unit = b.unit })
-      covers_single e = covers_same (λ c from ground. single_axis _ ground u _ _ _ _ (so.banded c from ground) less (sym size_is ∙ e))
+      pub covers_single : size ≡ 1 → Covers box axis (record { from = u + 1; width = b.width; lines = b.lines; apart = b.apart; unit = b.unit })
+      covers_single e = covers_same (single_axis _ known u _ _ _ _ so.banded less (sym size_is ∙ e))
 
       module _ (other : u ≡ axis → ⊥) where
         module _ (one : b.lines ≡ 1) where
-          banded_one : (c from : ℕ) (ground : Ground (turn_of layout levels c axis from)) → Banded (turn_of layout levels c axis from) u b.width 1 b.apart b.unit
-          banded_one c from ground = rw one at (so.banded c from ground)
+          banded_one : Banded (turn_of box axis) u b.width 1 b.apart b.unit
+          banded_one = rw one at so.banded
 
-          pub covers_run : b.width ≡ 1 → Covers layout levels axis (record { from = u + 1; width = size; lines = b.lines; apart = b.apart; unit = stride })
+          pub covers_run : b.width ≡ 1 → Covers box axis (record { from = u + 1; width = size; lines = b.lines; apart = b.apart; unit = stride })
           covers_run narrow =
               record {
                 few = omega arith;
@@ -147,12 +163,11 @@ module _ (layout : Layout) (levels : List ℕ) (axis : ℕ) where
                 short = omega (arith, within, mul_comm stride size);
                 low = omega (arith, so.low, grows);
                 banded =
-                    λ c from ground.
-                    rw (one, size_is, stride_is) (next_run _ ground u less other _ _ (rw narrow at (banded_one c from ground)));
+                    rw (one, size_is, stride_is) (next_run _ known u less other _ _ (rw narrow at banded_one));
               }
 
           pub covers_wider : b.width * b.unit ≡ stride →
-              Covers layout levels axis (record { from = u + 1; width = b.width * size; lines = b.lines; apart = b.apart; unit = b.unit })
+              Covers box axis (record { from = u + 1; width = b.width * size; lines = b.lines; apart = b.apart; unit = b.unit })
           covers_wider ends =
               record {
                 few = omega arith;
@@ -171,30 +186,28 @@ module _ (layout : Layout) (levels : List ℕ) (axis : ℕ) where
                     );
                 low = omega (arith, so.low, grows);
                 banded =
-                    λ c from ground.
-                    rw (one, size_is) (wider_run _ ground u less other _ _ _ (banded_one c from ground) (ends ∙ stride_is));
+                    rw (one, size_is) (wider_run _ known u less other _ _ _ banded_one (ends ∙ stride_is));
               }
 
-          pub covers_lines : Covers layout levels axis (record { from = u + 1; width = b.width; lines = size; apart = stride; unit = b.unit })
+          pub covers_lines : Covers box axis (record { from = u + 1; width = b.width; lines = size; apart = stride; unit = b.unit })
           covers_lines =
               record {
                 few = omega arith;
-                many = omega (arith, size_is, across_pos (at levels u));
+                many = omega (arith, size_is, across_pos (at box.levels u));
                 far = omega (arith, stride_is, points_to_pos tops u);
                 step = so.step;
                 short = omega (arith, so.short, grows);
                 low = omega (arith, within, mul_comm stride size);
                 banded =
-                    λ c from ground.
-                    rw (size_is, stride_is) (next_lines _ ground u less other _ _ _ (banded_one c from ground) so.short);
+                    rw (size_is, stride_is) (next_lines _ known u less other _ _ _ banded_one so.short);
               }
 
         pub covers_more : (b.lines ≡ 1 → ⊥) → b.lines * b.apart ≡ stride →
-            Covers layout levels axis (record { from = u + 1; width = b.width; lines = b.lines * size; apart = b.apart; unit = b.unit })
+            Covers box axis (record { from = u + 1; width = b.width; lines = b.lines * size; apart = b.apart; unit = b.unit })
         covers_more many ends =
             record {
               few = omega arith;
-              many = mul-pos so.many (omega (arith, size_is, across_pos (at levels u)));
+              many = mul-pos so.many (omega (arith, size_is, across_pos (at box.levels u)));
               far = so.far;
               step = so.step;
               short = omega (arith, so.short, grows);
@@ -208,8 +221,7 @@ module _ (layout : Layout) (levels : List ℕ) (axis : ℕ) where
                     ap (λ (y : ℕ). y * b.apart) (mul_comm b.lines size),
                   );
               banded =
-                  λ c from ground.
                   rw size_is
-                  (more_lines _ ground u _ _ _ _ (so.banded c from ground) less other (ends ∙ stride_is) so.many
-                  ((so.banded c from ground).wide (omega (arith, so.many))));
+                  (more_lines _ known u _ _ _ _ so.banded less other (ends ∙ stride_is) so.many
+                  (so.banded.wide (omega (arith, so.many))));
             }

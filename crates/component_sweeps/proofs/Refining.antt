@@ -1,8 +1,7 @@
 -- A band's lines, the finest places first: the places that reach less than so far are turned, and all others are as they were; last comes the middle, which stays where it has no
 -- parents. True since between the
--- ends of the box only its middle reaches as far as the box does, and a neighbour reaches further than the place itself.
+-- ends of the box only its middle reaches as far as the box does, and a neighbour reaches further than the w.place itself.
 -- Assumes nothing.
-use mathlib.Core.Bool.{Bool}
 use mathlib.Core.List.{List}
 use mathlib.Core.Logic.{inl, inr}
 use mathlib.Core.Path.{◌≡◌, refl, ap, sym, ◌∙◌}
@@ -16,61 +15,67 @@ use Rattle.numbering.specs.Parent.{twos}
 use Rattle.component_grids.proofs.Places.{place_low, place_high}
 use Rattle.component_grids.proofs.Beside.{reach_le}
 use Rattle.component_boxes.proofs.Reach.{reach_multiple}
-use Rattle.component_sweeps.specs.Steps.{CanBand, LoweredOn, InBand, Turn, place_on, middle, Turned, Row, Along, Reaches, ClassOf, LineOf}
+use Rattle.component_boxes.proofs.Fitting.{times_on, on_multiple}
+use Rattle.component_sweeps.specs.declared.Parents.{Parents}
+use Rattle.component_sweeps.specs.declared.Sweep.{Sweep}
+use Rattle.component_sweeps.specs.Steps.{Band, CanBand, LoweredOn, Turn, place_on, middle, Turned, Along, ParentsAt, turn, Class, InClass, Line, InLine}
 use Rattle.component_sweeps.proofs.Apart.{Apart, turned_none, limited_next, turned_both}
 use Rattle.component_sweeps.proofs.Reaching.{reach_grows, reach_less, middle_only}
-use Rattle.component_sweeps.proofs.Lines.{Parents, box_low, kinds_apart, band_can, band_turned, band_still}
+use Rattle.component_sweeps.proofs.Lines.{box_low, kinds_apart, band_can, band_turned, band_still}
 use Rattle.component_sweeps.proofs.Bounds.{times_most, stride_most, half_most, end_most}
 
--- A place that reaches less far.
+-- A w.place that reaches less far.
 abbrev pub Finer : ℕ → ℕ → Type 0
 Finer r y = 2 ^ twos y < r
 
-module _ (q width lines apart unit stride place half own end : ℕ) (g : Turn) (xs : List ℤ) where
+module _ (w : Sweep) (q : ℕ) (xs : List ℤ) where
+  abbrev g : Turn
+  g = turn w
+
   pub record Refining (ys : List ℤ) (r : ℕ) : Type 0 where
     pub power : ℕ
     pub is : r ≡ 2 ^ power
     pub most : power ≤ g.levels g.axis
-    pub turned : Turned g (Along g g.from q (Finer r)) xs ys
+    pub turned : Turned g (Along g w.spread.from q (Finer r)) xs ys
 
-  module _ (of : LineOf q width lines apart unit stride place half own end g xs) where
+  module _ (of : Line w q xs) where
     abbrev t : ℕ
     t = g.axis
 
     axis : g.axis < g.axes
-    axis = of.numbers.ground.axis
+    axis = of.holds.ground.axis
 
     -- ---- how large the numbers are
 
-    pub half_fits : (half ≤ place) × (half ≤ 256) × (place ≤ 512)
+    pub half_fits : (w.half ≤ w.place) × (w.half ≤ 256) × (w.place ≤ 512)
     half_fits = (
-      omega (arith, of.middle.half_is, of.middle.place_is, box_low g of.numbers.ground t axis),
-      omega (arith, of.middle.half_is, half_most g of.numbers.ground t axis),
-      omega (arith, of.middle.place_is, place_high g.tops g.centre t, end_most g of.numbers.ground t),
+      omega (arith, of.holds.half_is, of.holds.place_is, box_low g of.holds.ground t axis),
+      omega (arith, of.holds.half_is, half_most g of.holds.ground t axis),
+      omega (arith, of.holds.place_is, place_high g.tops g.centre t, end_most g of.holds.ground t),
     )
 
-    pub half_some : 1 ≤ half
-    half_some = omega (arith, of.middle.half_is, pow_pos (g.levels t))
+    pub half_some : 1 ≤ w.half
+    half_some = omega (arith, of.holds.half_is, pow_pos (g.levels t))
 
-    pub own_most : own ≤ place
+    pub own_most : w.reach ≤ w.place
     own_most =
         omega (
           arith,
-          of.middle.reach_is,
-          reach_le place (omega (arith, of.middle.place_is, place_low g.tops g.centre t)),
+          of.holds.reach_is,
+          reach_le w.place (omega (arith, of.holds.place_is, place_low g.tops g.centre t)),
         )
 
-    pub stride_small : stride ≤ 32768
-    stride_small = omega (arith, of.numbers.stride_is, stride_most g of.numbers.ground t axis)
+    pub stride_small : w.stride ≤ 32768
+    stride_small = omega (arith, of.holds.stride_is, stride_most g of.holds.ground t axis)
 
-    pub far_most : stride * own ≤ 16777216
-    far_most = times_most stride own 32768 512 stride_small (omega (arith, own_most, half_fits))
+    pub far_most : w.stride * w.reach ≤ 16777216
+    far_most = times_most w.stride w.reach 32768 512 stride_small (omega (arith, own_most, half_fits))
 
-    pub middle_most : (half - 1) * stride ≤ 8388608
-    middle_most = times_most (half - 1) stride 256 32768 (omega (arith, half_fits)) stride_small
+    pub middle_most : (w.half - 1) * w.stride ≤ 8388608
+    middle_most = times_most (w.half - 1) w.stride 256 32768 (omega (arith, half_fits)) stride_small
 
     pub first_most : q < 32768
-    first_most = omega (arith, of.first.near.inside, of.numbers.ground.small)
+    first_most = omega (arith, of.first.near.inside, of.holds.ground.small)
 
     -- ---- the loop
 
@@ -87,37 +92,38 @@ module _ (q width lines apart unit stride place half own end : ℕ) (g : Turn) (
       pub refining_some : 1 ≤ r
       refining_some = omega (arith, s.is, pow_pos s.power)
 
-      refining_most : r ≤ half
-      refining_most = omega (arith, s.is, of.middle.half_is, pow_mono {i = s.power} {j = g.levels t} s.most)
+      refining_most : r ≤ w.half
+      refining_most = omega (arith, s.is, of.holds.half_is, pow_mono {i = s.power} {j = g.levels t} s.most)
 
       -- One reach more.
-      module _ (less : r < half) where
+      module _ (less : r < w.half) where
         finer : s.power < g.levels t
         finer =
             le_or_lt (g.levels t) s.power
-            (λ le. absurd (omega (arith, s.is, of.middle.half_is, pow_mono {i = g.levels t} {j = s.power} le)))
+            (λ le. absurd (omega (arith, s.is, of.holds.half_is, pow_mono {i = g.levels t} {j = s.power} le)))
             (λ lt. lt)
 
-        separate : Apart g.axes g.tops t (Along g g.from q (Finer r)) (Along g g.from q (Reaches r))
+        separate : Apart g.axes g.tops t (Along g w.spread.from q (Finer r)) (InClass w q r)
         separate =
-            kinds_apart g of.numbers.ground g.from q
+            kinds_apart g of.holds.ground w.spread.from q
             (λ y same less. omega arith)
             (λ b y some there same less. omega (arith, reach_grows b y some there))
 
-        pub refining_class : ClassOf q width lines apart unit stride (place - half) (place + half) r end g ys
+        pub refining_class : Class w q r ys
         refining_class =
             record {
-              numbers = of.numbers;
-              first = of.first;
-              low_is = omega (arith, half_fits, of.middle.half_is, of.middle.place_is);
-              high_is = omega (arith, of.middle.half_is, of.middle.place_is);
+              from =
+                  record {
+                    holds = of.holds;
+                    first = of.first;
+                    asked = limited_next g.axes g.tops t separate s.turned (λ p l. l.row) (λ p l. l.row) of.asked;
+                  };
               power = s.power;
               reach_is = s.is;
               finer = finer;
-              asked = limited_next g.axes g.tops t separate s.turned (λ p l. l.row) (λ p l. l.row) of.asked;
             }
 
-        pub refining_steps : (zs : List ℤ) → Turned g (Along g g.from q (Reaches r)) ys zs → Refining zs (r * 2)
+        pub refining_steps : (zs : List ℤ) → Turned g (InClass w q r) ys zs → Refining zs (r * 2)
         refining_steps zs u =
             record {
               power = suc s.power;
@@ -146,64 +152,64 @@ module _ (q width lines apart unit stride place half own end : ℕ) (g : Turn) (
             }
 
       -- The middle.
-      module _ (all : half ≤ r) where
-        h_is : place ≡ place_on g q t + (half - 1)
-        h_is = omega (arith, of.first.own, of.middle.half_is, of.middle.place_is, half_some)
+      module _ (all : w.half ≤ r) where
+        h_is : w.place ≡ place_on g q t + (w.half - 1)
+        h_is = omega (arith, of.first.own, of.holds.half_is, of.holds.place_is, half_some)
 
-        inside : place < middle g t + 2 ^ g.levels t
-        inside = omega (arith, of.middle.place_is, pow_pos (g.levels t))
+        inside : w.place < middle g t + 2 ^ g.levels t
+        inside = omega (arith, of.holds.place_is, pow_pos (g.levels t))
 
-        far : half ≤ 2 ^ twos place
+        far : w.half ≤ 2 ^ twos w.place
         far =
             omega (
               arith,
-              of.middle.half_is,
-              reach_multiple (g.levels t) (of.numbers.ground.fits.times t) place
-                  (omega (arith, of.middle.place_is, place_low g.tops g.centre t))
-                  (of.middle.place_is ∙ of.numbers.ground.fits.aligned t axis),
+              of.holds.half_is,
+              reach_multiple (g.levels t) (times_on g.axes g.tops g.levels g.centre t) w.place
+                  (omega (arith, of.holds.place_is, place_low g.tops g.centre t))
+                  (of.holds.place_is ∙ on_multiple g.axes g.tops g.levels g.centre of.holds.ground.fits t axis),
             )
 
-        last_apart : Apart g.axes g.tops t (Along g g.from q (Finer r)) (Along g g.from q (λ y. y ≡ place))
+        last_apart : Apart g.axes g.tops t (Along g w.spread.from q (Finer r)) (Along g w.spread.from q (λ y. y ≡ w.place))
         last_apart =
-            kinds_apart g of.numbers.ground g.from q
+            kinds_apart g of.holds.ground w.spread.from q
             (λ y same less. omega (arith, far, refining_most, ap (λ (n : ℕ). 2 ^ twos n) same))
             (λ b y some there same less.
             omega (arith, reach_grows b y some there, far, refining_most, ap (λ (n : ℕ). 2 ^ twos n) same))
 
-        pub last_can : (left right : Bool) → Parents place own end left right → CanBand (q + (half - 1) * stride) width lines apart unit (stride * own) left right ys
-        last_can left right parents =
-            band_can g width lines apart unit stride end of.numbers q of.first (half - 1) place h_is inside own (sym of.middle.reach_is) left right parents ys
+        pub last_can : (a : Parents) → ParentsAt w.stride w.end w.place w.reach a → CanBand w.spread (q + (w.half - 1) * w.stride) a ys
+        last_can a parents =
+            band_can w of.holds q of.first (w.half - 1) w.place h_is inside w.reach (sym of.holds.reach_is) a parents ys
             (limited_next g.axes g.tops t last_apart s.turned (λ p l. l.row) (λ p l. l.row) of.asked)
 
-        with_middle : (zs : List ℤ) → Turned g (Along g g.from q (λ y. y ≡ place)) ys zs → Turned g (Row g g.from q) xs zs
+        with_middle : (zs : List ℤ) → Turned g (Along g w.spread.from q (λ y. y ≡ w.place)) ys zs → Turned g (InLine w q) xs zs
         with_middle zs turned =
             turned_both g.axes g.tops t last_apart s.turned (λ p l. l.row) (λ p l. l.row)
             (λ p row.
             let y = place_on g p t in
-            le_or_lt half (2 ^ twos y)
+            le_or_lt w.half (2 ^ twos y)
             (λ far.
             inr
             (record {
               row = row;
               there =
-                  middle_only (g.levels t) (of.numbers.ground.fits.times t) y (place_low g.tops p t)
-                  (omega (arith, row.near.low t axis, of.numbers.ground.fits.aligned t axis))
-                  (omega (arith, row.near.high t axis, of.numbers.ground.fits.aligned t axis))
-                  (omega (arith, of.middle.half_is))
-                  ∙ sym (of.numbers.ground.fits.aligned t axis)
-                  ∙ sym of.middle.place_is;
+                  middle_only (g.levels t) (times_on g.axes g.tops g.levels g.centre t) y (place_low g.tops p t)
+                  (omega (arith, row.near.low t axis, on_multiple g.axes g.tops g.levels g.centre of.holds.ground.fits t axis))
+                  (omega (arith, row.near.high t axis, on_multiple g.axes g.tops g.levels g.centre of.holds.ground.fits t axis))
+                  (omega (arith, of.holds.half_is))
+                  ∙ sym (on_multiple g.axes g.tops g.levels g.centre of.holds.ground.fits t axis)
+                  ∙ sym of.holds.place_is;
             }))
             (λ less. inl (record { row = row; there = omega arith })))
             turned
 
-        pub line_ends : (left right : Bool) → Parents place own end left right → (zs : List ℤ) →
-            LoweredOn (stride * own) left right (InBand (q + (half - 1) * stride) width lines apart unit) ys zs → Turned g (Row g g.from q) xs zs
-        line_ends left right parents zs s =
+        pub line_ends : (a : Parents) → ParentsAt w.stride w.end w.place w.reach a → (zs : List ℤ) →
+            LoweredOn a (Band w.spread (q + (w.half - 1) * w.stride)) ys zs → Turned g (InLine w q) xs zs
+        line_ends a parents zs s =
             with_middle zs
-            (band_turned g width lines apart unit stride end of.numbers q of.first (half - 1) place h_is inside own (sym of.middle.reach_is) left right
+            (band_turned w of.holds q of.first (w.half - 1) w.place h_is inside w.reach (sym of.holds.reach_is) a
             parents ys zs s)
 
-        pub line_still : place ≡ own → place + own ≡ end → Turned g (Row g g.from q) xs ys
+        pub line_still : w.place ≡ w.reach → w.place + w.reach ≡ w.end → Turned g (InLine w q) xs ys
         line_still left right =
             with_middle ys
-            (band_still g width lines apart unit stride end of.numbers q of.first (half - 1) place h_is inside own (sym of.middle.reach_is) left right ys)
+            (band_still w of.holds q of.first (w.half - 1) w.place h_is inside w.reach (sym of.holds.reach_is) left right ys)

@@ -2,97 +2,102 @@
 -- place would be given, are all its points.
 -- Assumes nothing.
 use mathlib.Core.List.{List}
-use mathlib.Core.Path.{◌≡◌, refl, ap, sym, ◌∙◌}
+use mathlib.Core.Path.{◌≡◌, ap, sym, ◌∙◌}
 use Prim.Native.Nat.{ℕ, suc, ◌+◌, ◌-◌, ◌*◌, ◌/◌, ◌%◌, ◌^◌, ◌≤◌, ◌<◌}
 use native.Mathlib.Nat.{pow-suc}
 use native.Mathlib.Omega.{arith}
+use lib.Count.{count_trailing_zeros}
 use lib.IntN.{ℤ}
 use lib.Pow.{pow_pos, pow_mono}
+use Rattle.naturals.proofs.Cases.{le_or_lt}
+use Rattle.naturals.proofs.Shifts.{one_shifted}
 use Rattle.numbering.specs.Point.{at}
 use Rattle.numbering.specs.Parent.{twos}
+use Rattle.numbering.proofs.Twos.{twos_are}
 use Rattle.component_grids.specs.Component.{across, points_to, place_at}
 use Rattle.component_grids.proofs.Places.{across_is, points_to_pos, place_is_lem, place_high}
-use Rattle.component_boxes.specs.Boxes.{Near, Fits}
-use Rattle.component_sweeps.specs.declared.Layout.{Layout}
-use Rattle.component_sweeps.specs.declared.Spread.{Spread}
-use Rattle.component_sweeps.specs.Steps.{tops_of, Laid, Limited, TurnedOn, Turned, Ground, Row, RowsOf, turn_of, Corner, Boxed, Covers}
+use Rattle.component_grids.proofs.Beside.{reach_le}
+use Rattle.component_sweeps.specs.declared.grid.GridBox.{GridBox}
+use Rattle.component_sweeps.specs.declared.Sweep.{Sweep}
+use Rattle.component_sweeps.specs.Steps.{tops_of, turn_of, InBox, Asked, Turned, Row, Corner, turn, Holds, Rows}
 use Rattle.component_sweeps.proofs.Apart.{turned_same, limited_part}
-use Rattle.component_sweeps.proofs.Cornering.{ground}
 
 -- The numbers of the turned axis.
-module _ (layout : Layout) (centre axis : ℕ) (laid : Laid layout) (on : axis < layout.axes) where
-  pub top_power : 2 ^ tops_of layout axis ≤ 256
-  top_power = pow_mono {i = tops_of layout axis} {j = 8} (laid.low axis)
+module _ (box : GridBox) (axis : ℕ) (on : axis < box.grid.now.axes) where
+  abbrev top : ℕ
+  top = tops_of box.grid.now axis
 
-  module _ (end : ℕ) (end_is : end ≡ 2 * 2 ^ tops_of layout axis) where
-    pub end_is_lem : end ≡ 2 ^ suc (tops_of layout axis)
-    end_is_lem = omega (arith, pow-suc 2 (tops_of layout axis))
+  pub top_power : 2 ^ top ≤ 256
+  top_power = pow_mono {i = top} {j = 8} (box.grid.now.low axis)
 
+  pub stride_some : 0 < at box.grid.now.strides axis
+  stride_some = omega (arith, box.grid.now.laid axis on, points_to_pos (tops_of box.grid.now) axis)
+
+  -- Two shifted by the top level, and one by the box's level.
+  pub end_shifted : 2 * 2 ^ top % 2 ^ 64 ≡ 2 ^ suc top
+  end_shifted = omega (arith, top_power, pow-suc 2 top)
+
+  pub half_shifted : 1 * 2 ^ at box.levels axis % 2 ^ 64 ≡ 2 ^ at box.levels axis
+  half_shifted = one_shifted 64 (at box.levels axis) (omega (arith, box.fits.within axis on, box.grid.now.low axis))
+
+  module _ (end : ℕ) (end_is : end ≡ 2 ^ suc top) where
     pub end_some : 2 ≤ end
-    end_some = omega (arith, pow_pos (tops_of layout axis))
+    end_some = omega (arith, pow-suc 2 top, pow_pos top)
 
-    pub stride_some : 0 < at layout.strides axis
-    stride_some = omega (arith, laid.strides axis on, points_to_pos (tops_of layout) axis)
+    abbrev place : ℕ
+    place = box.centre / at box.grid.now.strides axis % (end - 1) + 1
 
-    pub place_of : centre / at layout.strides axis % (end - 1) + 1 ≡ place_at (tops_of layout) centre axis
+    pub place_of : place ≡ place_at (tops_of box.grid.now) box.centre axis
     place_of =
-        let wide : end - 1 ≡ across (tops_of layout axis) = omega (arith, end_is_lem, across_is (tops_of layout axis)) in
-        ap (λ (y : ℕ). centre / y % (end - 1) + 1) (laid.strides axis on)
-        ∙ ap (λ (y : ℕ). centre / points_to (tops_of layout) axis % y + 1) wide
-        ∙ sym (place_is_lem (tops_of layout) centre axis)
+        let wide : end - 1 ≡ across top = omega (arith, across_is top) in
+        ap (λ (y : ℕ). box.centre / y % (end - 1) + 1) (box.grid.now.laid axis on)
+        ∙ ap (λ (y : ℕ). box.centre / points_to (tops_of box.grid.now) axis % y + 1) wide
+        ∙ sym (place_is_lem (tops_of box.grid.now) box.centre axis)
 
-    pub place_fits : (1 ≤ centre / at layout.strides axis % (end - 1) + 1) × (centre / at layout.strides axis % (end - 1) + 1 < 512)
+    pub place_fits : (1 ≤ place) × (place < 512)
     place_fits = (
       omega arith,
-      omega (arith, place_of, place_high (tops_of layout) centre axis, end_is_lem, top_power, end_is),
+      omega (arith, place_of, place_high (tops_of box.grid.now) box.centre axis, pow-suc 2 top, top_power),
     )
 
-module _ (layout : Layout) (levels : List ℕ) (centre axis : ℕ) (laid : Laid layout) (fits : Fits layout.axes (tops_of layout) (at levels) centre)
-    (on : axis < layout.axes) where
-  pub swept : (from q : ℕ) (xs ys : List ℤ) → Turned (turn_of layout levels centre axis from) (Row (turn_of layout levels centre axis from) layout.axes q) xs ys →
-      TurnedOn layout.axes (tops_of layout) axis (Near layout.axes (tops_of layout) (at levels) centre) xs ys
-  swept from q xs ys s =
-      turned_same layout.axes (tops_of layout) axis (λ p row. row.near)
+    -- The trailing zeros are the factors of two of the place, fewer than the width has bits.
+    pub reach_shifted : 1 * 2 ^ count_trailing_zeros 64 place % 2 ^ 64 ≡ 2 ^ twos place
+    reach_shifted =
+        let zeros : count_trailing_zeros 64 place ≡ twos place = twos_are 64 place place_fits.0 (omega (arith, place_fits.1)) in
+        let few : twos place < 9 =
+        le_or_lt 9 (twos place)
+        (λ le. absurd (omega (arith, pow_mono {i = 9} {j = twos place} le, reach_le place place_fits.0, place_fits.1)))
+        (λ lt. lt) in
+        one_shifted 64 (count_trailing_zeros 64 place) (omega (arith, zeros, few)) ∙ ap (λ (n : ℕ). 2 ^ n) zeros
+
+module _ (box : GridBox) (axis q : ℕ) (on : axis < box.grid.now.axes) where
+  pub swept : (xs ys : List ℤ) → Turned (turn_of box axis) (Row (turn_of box axis) box.grid.now.axes q) xs ys →
+      Turned (turn_of box axis) (InBox (turn_of box axis)) xs ys
+  swept xs ys s =
+      turned_same box.grid.now.axes (tops_of box.grid.now) axis (λ p row. row.near)
       (λ p near. record { near = near; same = λ u past lt ne. absurd (omega arith) })
       s
 
-  module _ (xs : List ℤ) (asked : Limited layout.axes (tops_of layout) axis (Near layout.axes (tops_of layout) (at levels) centre) xs) (sizes : List ℕ) (q : ℕ)
-      (corner : Corner layout levels centre sizes q) where
-    pub boxed : Boxed layout levels sizes axis
-    boxed = record { laid = laid; sizes_are = corner.sizes_are; within = fits.within; axis = on }
-
-    module _ (end : ℕ) (end_is : end ≡ 2 * 2 ^ tops_of layout axis) (place half reach : ℕ) (place_is : place ≡ place_at (tops_of layout) centre axis)
-        (half_is : half ≡ 2 ^ at levels axis) (reach_is : reach ≡ 2 ^ twos place) (b : Spread) (covers : Covers layout levels axis b) where
-      known : Ground (turn_of layout levels centre axis b.from)
-      known = ground layout levels centre laid fits axis b.from on
-
-      pub rows_of : RowsOf layout.strides sizes axis b.from b.width b.lines b.apart b.unit place half reach end layout.axes q (turn_of layout levels centre axis b.from) xs
-      rows_of =
+-- All rows.
+pub rows_of : (w : Sweep) (q : ℕ) (xs : List ℤ) → Holds w → Corner w.of q → Asked (turn w) (InBox (turn w)) xs → Rows w w.of.grid.now.axes q xs
+rows_of w q xs holds corner asked =
+    record {
+      from =
           record {
-            axis_is = refl;
-            from_is = refl;
-            numbers =
-                record {
-                  ground = known;
-                  banded = covers.banded centre b.from known;
-                  stride_is = refl;
-                  end_is = end_is_lem layout centre axis laid on end end_is;
-                };
-            middle = record { place_is = place_is; half_is = half_is; reach_is = reach_is };
-            strides_are = laid.strides;
-            sizes_are = corner.sizes_are;
-            least = covers.few;
-            most = omega arith;
+            holds = holds;
             first =
                 record {
                   near =
                       record {
                         inside = corner.inside;
                         low = λ u lt. omega (arith, corner.lowest u lt);
-                        high = λ u lt. omega (arith, corner.lowest u lt, pow_pos (at levels u));
+                        high = λ u lt. omega (arith, corner.lowest u lt, pow_pos (at w.of.levels u));
                       };
                   below = λ u less lt. corner.lowest u lt;
-                  own = corner.lowest axis on;
+                  own = corner.lowest w.axis holds.ground.axis;
                 };
-            asked = limited_part layout.axes (tops_of layout) axis (λ p row. row.near) asked;
-          }
+            asked = limited_part w.of.grid.now.axes (tops_of w.of.grid.now) w.axis (λ p row. row.near) asked;
+          };
+      least = holds.few;
+      most = omega arith;
+    }

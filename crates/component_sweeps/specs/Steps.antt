@@ -1,6 +1,6 @@
 -- What a turn of one axis in a box asks and leaves.
 -- Assumes nothing.
-use Rattle.std.specs.Prelude.{Bool, true, List, ◌≡◌, ℕ, suc, ◌+◌, ◌-◌, ◌*◌, ◌^◌, ◌≤◌, ◌<◌, ℤ, ◌+ℤ◌, ◌-ℤ◌, length, if◌then◌else◌}
+use Rattle.std.specs.Prelude.{true, List, ◌≡◌, ℕ, suc, ◌+◌, ◌-◌, ◌*◌, ◌^◌, ◌≤◌, ◌<◌, ℤ, ◌+ℤ◌, ◌-ℤ◌, length, Option, Some, None}
 use Rattle.integers.specs.Half.{half, in_limit}
 use Rattle.numbering.specs.Point.{at}
 use Rattle.numbering.specs.Parent.{twos}
@@ -8,20 +8,15 @@ use Rattle.hierarchy.specs.Turns.{value_at, forward}
 use Rattle.shapes.specs.Shapes.{most_points}
 use Rattle.component_grids.specs.Component.{across, points_to, place_at, neighbour}
 use Rattle.component_boxes.specs.Boxes.{Near, Fits}
+use Rattle.component_sweeps.specs.declared.Parents.{Parents}
 use Rattle.component_sweeps.specs.declared.Spread.{Spread}
-use Rattle.component_sweeps.specs.declared.Layout.{Layout}
+use Rattle.component_sweeps.specs.declared.Sweep.{Sweep}
+use Rattle.component_sweeps.specs.declared.grid.Layout.{Layout}
+use Rattle.component_sweeps.specs.declared.grid.GridBox.{GridBox}
 
 -- The top levels of a layout, by axis.
 abbrev pub tops_of : Layout → ℕ → ℕ
 tops_of g = at g.tops
-
--- The layout of a component grid of at most 32,768 points.
-pub record Laid (g : Layout) : Type 0 where
-  pub some : 1 ≤ g.axes
-  pub few : g.axes ≤ 8
-  pub low : (t : ℕ) → tops_of g t ≤ 8
-  pub strides : (t : ℕ) → t < g.axes → at g.strides t ≡ points_to (tops_of g) t
-  pub small : points_to (tops_of g) g.axes ≤ most_points
 
 module _ (d : ℕ) (tops : ℕ → ℕ) (t : ℕ) (set : ℕ → Type 0) where
   -- A table of the grid's points: its values are within the content limit, and those of the set are so after a forward turn on axis t.
@@ -38,39 +33,40 @@ module _ (d : ℕ) (tops : ℕ → ℕ) (t : ℕ) (set : ℕ → Type 0) where
 
 -- ---- one value, and a set of values
 
--- The codes of the positions so far behind and ahead of position p, and 0 where none is wanted.
-abbrev pub behind : ℕ → ℕ → Bool → ℕ
-behind p far some = if some then suc (p - far) else 0
+-- The codes of the positions so far behind and ahead of position p, and 0 where there is none.
+abbrev pub behind : ℕ → Option ℕ → ℕ
+behind p (Some far) = suc (p - far)
+behind p None = 0
 
-abbrev pub ahead : ℕ → ℕ → Bool → ℕ
-ahead p far some = if some then suc (p + far) else 0
+abbrev pub ahead : ℕ → Option ℕ → ℕ
+ahead p (Some far) = suc (p + far)
+ahead p None = 0
 
--- The value at position p less half the sum of those two.
-unfoldable pub lowered : List ℤ → ℕ → ℕ → Bool → Bool → ℤ
-lowered xs p far left right =
-    value_at xs (suc p) -ℤ half (value_at xs (behind p far left) +ℤ value_at xs (ahead p far right))
+-- The value at position p less half the sum of those of its parents.
+unfoldable pub lowered : List ℤ → ℕ → Parents → ℤ
+lowered xs p a = value_at xs (suc p) -ℤ half (value_at xs (behind p a.left) +ℤ value_at xs (ahead p a.right))
 
 -- One position.
-pub record CanStep (p far : ℕ) (left right : Bool) (xs : List ℤ) : Type 0 where
+pub record CanStep (p : ℕ) (a : Parents) (xs : List ℤ) : Type 0 where
   pub inside : p < length xs
-  pub before : left ≡ true → far ≤ p
-  pub after : right ≡ true → p + far < length xs
+  pub before : (far : ℕ) → a.left ≡ Some far → far ≤ p
+  pub after : (far : ℕ) → a.right ≡ Some far → p + far < length xs
   pub own : in_limit (value_at xs (suc p)) ≡ true
-  pub behind_in : in_limit (value_at xs (behind p far left)) ≡ true
-  pub ahead_in : in_limit (value_at xs (ahead p far right)) ≡ true
+  pub behind_in : in_limit (value_at xs (behind p a.left)) ≡ true
+  pub ahead_in : in_limit (value_at xs (ahead p a.right)) ≡ true
 
 -- A set of positions.
-module _ (far : ℕ) (left right : Bool) (set : ℕ → Type 0) where
+module _ (a : Parents) (set : ℕ → Type 0) where
   -- Each of its values can be lowered, by values that are not of the set.
   pub record CanLower (xs : List ℤ) : Type 0 where
-    pub each : (p : ℕ) → set p → CanStep p far left right xs
-    pub before : (p : ℕ) → set p → left ≡ true → set (p - far) → ⊥
-    pub after : (p : ℕ) → set p → right ≡ true → set (p + far) → ⊥
+    pub each : (p : ℕ) → set p → CanStep p a xs
+    pub before : (p far : ℕ) → set p → a.left ≡ Some far → set (p - far) → ⊥
+    pub after : (p far : ℕ) → set p → a.right ≡ Some far → set (p + far) → ⊥
 
   -- Its values are lowered, and all others are as they were.
   pub record LoweredOn (xs ys : List ℤ) : Type 0 where
     pub long : length ys ≡ length xs
-    pub on : (p : ℕ) → set p → value_at ys (suc p) ≡ lowered xs p far left right
+    pub on : (p : ℕ) → set p → value_at ys (suc p) ≡ lowered xs p a
     pub off : (p : ℕ) → (set p → ⊥) → value_at ys (suc p) ≡ value_at xs (suc p)
 
 -- So many positions, each a unit from the one before.
@@ -87,28 +83,39 @@ pub record InBand (first width lines apart unit p : ℕ) : Type 0 where
   pub inside : index < width
   pub is : p ≡ first + line * apart + index * unit
 
-pub record CanRun (first width unit far : ℕ) (left right : Bool) (xs : List ℤ) : Type 0 where
-  pub step : 1 ≤ unit
-  pub can : CanLower far left right (InRun first width unit) xs
+-- The positions of a spread's first run, and of all its runs.
+abbrev pub Run : Spread → ℕ → ℕ → Type 0
+Run b first = InRun first b.width b.unit
+
+abbrev pub Band : Spread → ℕ → ℕ → Type 0
+Band b first = InBand first b.width b.lines b.apart b.unit
+
+-- A step beyond the last position is still a number of the width.
+abbrev pub Room : Spread → List ℤ → Type 0
+Room b xs = length xs + b.unit < 2 ^ 64
+
+pub record CanRun (b : Spread) (first : ℕ) (a : Parents) (xs : List ℤ) : Type 0 where
+  pub room : Room b xs
+  pub step : 1 ≤ b.unit
+  pub can : CanLower a (Run b first) xs
 
 -- No two runs of a band overlap.
-pub record CanBand (first width lines apart unit far : ℕ) (left right : Bool) (xs : List ℤ) : Type 0 where
-  pub some : 1 ≤ width
-  pub step : 1 ≤ unit
-  pub wide : 1 < lines → width * unit ≤ apart
-  pub can : CanLower far left right (InBand first width lines apart unit) xs
+pub record CanBand (b : Spread) (first : ℕ) (a : Parents) (xs : List ℤ) : Type 0 where
+  pub room : Room b xs
+  pub some : 1 ≤ b.width
+  pub step : 1 ≤ b.unit
+  pub wide : 1 < b.lines → b.width * b.unit ≤ b.apart
+  pub can : CanLower a (Band b first) xs
 
 -- ---- the lines of a box
 
--- A turn of one axis in a box of a grid: the grid's axes and top levels, the box's levels and its middle point's position, the turned axis. The bands have all
--- the box's points on the axes below `from`, the turned one aside.
+-- A turn of one axis in a box of a grid: the grid's axes and top levels, the box's levels and its middle point's position, the turned axis.
 pub record Turn : Type 0 where
   pub axes : ℕ
   pub tops : ℕ → ℕ
   pub levels : ℕ → ℕ
   pub centre : ℕ
   pub axis : ℕ
-  pub from : ℕ
 
 module _ (g : Turn) where
   abbrev pub place_on : ℕ → ℕ → ℕ
@@ -162,111 +169,94 @@ module _ (g : Turn) where
     pub into : (q p : ℕ) → First j q → InBand q width lines apart unit p → Across j q p
     pub from : (q p : ℕ) → First j q → Across j q p → InBand q width lines apart unit p
 
-  -- What the code holds of the turned axis: what a band is, how far two places lie apart, and the axis's end.
-  pub record Numbers (width lines apart unit stride end : ℕ) : Type 0 where
-    pub ground : Ground
-    pub banded : Banded g.from width lines apart unit
-    pub stride_is : stride ≡ points_to g.tops g.axis
-    pub end_is : end ≡ 2 ^ suc (g.tops g.axis)
+-- The turn of axis t in a box.
+abbrev pub turn_of : GridBox → ℕ → Turn
+turn_of b t =
+    record {
+      axes = b.grid.now.axes;
+      tops = tops_of b.grid.now;
+      levels = at b.levels;
+      centre = b.centre;
+      axis = t;
+    }
 
-  -- Of the middle point there: its place, and how far the box and the point itself reach.
-  pub record Middle (place half reach : ℕ) : Type 0 where
-    pub place_is : place ≡ middle g.axis
-    pub half_is : half ≡ 2 ^ g.levels g.axis
-    pub reach_is : reach ≡ 2 ^ twos place
+-- So many points a box has on each axis.
+abbrev pub Sizes : GridBox → List ℕ → Type 0
+Sizes b sizes = (u : ℕ) → u < b.grid.now.axes → at sizes u ≡ across (at b.levels u)
 
 -- A place that reaches so far.
 abbrev pub Reaches : ℕ → ℕ → Type 0
 Reaches reach x = 2 ^ twos x ≡ reach
 
--- The places of one reach on the lines of a band.
-module _ (q width lines apart unit stride low high reach end : ℕ) where
-  pub record ClassOf (g : Turn) (xs : List ℤ) : Type 0 where
-    pub numbers : Numbers g width lines apart unit stride end
-    pub first : First g g.from q
-    pub low_is : low + 2 ^ g.levels g.axis ≡ middle g g.axis
-    pub high_is : high ≡ middle g g.axis + 2 ^ g.levels g.axis
+-- The parents of a place that reaches so far: none where that is an end of the axis.
+pub record ParentsAt (stride end x reach : ℕ) (a : Parents) : Type 0 where
+  pub left_some : (far : ℕ) → a.left ≡ Some far → (far ≡ stride * reach) × (x ≡ reach → ⊥)
+  pub left_none : a.left ≡ None → x ≡ reach
+  pub right_some : (far : ℕ) → a.right ≡ Some far → (far ≡ stride * reach) × (x + reach ≡ end → ⊥)
+  pub right_none : a.right ≡ None → x + reach ≡ end
+
+module _ (s : Sweep) where
+  abbrev pub turn : Turn
+  turn = turn_of s.of s.axis
+
+  -- What a sweep holds: what a band is; of the turned axis how far two places lie apart and where it ends; of the middle point there its place, and how far the box
+  -- and the point itself reach.
+  pub record Holds : Type 0 where
+    pub ground : Ground turn
+    pub few : s.spread.from ≤ s.of.grid.now.axes
+    pub near : s.spread.unit ≤ most_points
+    pub banded : Banded turn s.spread.from s.spread.width s.spread.lines s.spread.apart s.spread.unit
+    pub sizes_are : Sizes s.of s.sizes
+    pub stride_is : s.stride ≡ points_to (tops_of s.of.grid.now) s.axis
+    pub end_is : s.end ≡ 2 ^ suc (tops_of s.of.grid.now s.axis)
+    pub place_is : s.place ≡ middle turn s.axis
+    pub half_is : s.half ≡ 2 ^ at s.of.levels s.axis
+    pub reach_is : s.reach ≡ 2 ^ twos s.place
+
+  -- A set of points of the box to be turned, from position q on, which is the first that has its places on the axes from j on.
+  pub record From (j q : ℕ) (set : ℕ → Type 0) (xs : List ℤ) : Type 0 where
+    pub holds : Holds
+    pub first : First turn j q
+    pub asked : Asked turn set xs
+
+  -- The places of one reach on the lines of the band that starts at position q.
+  abbrev pub InClass : ℕ → ℕ → ℕ → Type 0
+  InClass q reach = Along turn s.spread.from q (Reaches reach)
+
+  pub record Class (q reach : ℕ) (xs : List ℤ) : Type 0 where
+    pub from : From s.spread.from q (InClass q reach) xs
     pub power : ℕ
     pub reach_is : reach ≡ 2 ^ power
-    pub finer : power < g.levels g.axis
-    pub asked : Asked g (Along g g.from q (Reaches reach)) xs
+    pub finer : power < at s.of.levels s.axis
 
-  pub record Class (xs : List ℤ) : Type 0 where
-    pub turn : Turn
-    pub of : ClassOf turn xs
+  -- All lines of the box's points that have the places of position q from axis j on; from that of the band on it is one band's lines.
+  abbrev pub InRows : ℕ → ℕ → ℕ → Type 0
+  InRows j q = Row turn j q
 
-  abbrev pub ClassTurned : List ℤ → List ℤ → Type 0
-  ClassTurned xs ys = (g : Turn) → ClassOf g xs → Turned g (Along g g.from q (Reaches reach)) xs ys
+  abbrev pub InLine : ℕ → ℕ → Type 0
+  InLine q = InRows s.spread.from q
 
--- All their places.
-module _ (q width lines apart unit stride place half reach end : ℕ) where
-  pub record LineOf (g : Turn) (xs : List ℤ) : Type 0 where
-    pub numbers : Numbers g width lines apart unit stride end
-    pub middle : Middle g place half reach
-    pub first : First g g.from q
-    pub asked : Asked g (Row g g.from q) xs
+  abbrev pub Line : ℕ → List ℤ → Type 0
+  Line q xs = From s.spread.from q (InLine q) xs
 
-  pub record Line (xs : List ℤ) : Type 0 where
-    pub turn : Turn
-    pub of : LineOf turn xs
-
-  abbrev pub LineTurned : List ℤ → List ℤ → Type 0
-  LineTurned xs ys = (g : Turn) → LineOf g xs → Turned g (Row g g.from q) xs ys
-
--- All lines of the box's points that have the places of position q from axis j on.
-module _ (strides sizes : List ℕ) (axis from width lines apart unit place half reach end j q : ℕ) where
-  pub record RowsOf (g : Turn) (xs : List ℤ) : Type 0 where
-    pub axis_is : axis ≡ g.axis
-    pub from_is : from ≡ g.from
-    pub numbers : Numbers g width lines apart unit (points_to g.tops g.axis) end
-    pub middle : Middle g place half reach
-    pub strides_are : (u : ℕ) → u < g.axes → at strides u ≡ points_to g.tops u
-    pub sizes_are : (u : ℕ) → u < g.axes → at sizes u ≡ across (g.levels u)
-    pub least : from ≤ j
-    pub most : j ≤ g.axes
-    pub first : First g j q
-    pub asked : Asked g (Row g j q) xs
-
-  pub record Rows (xs : List ℤ) : Type 0 where
-    pub turn : Turn
-    pub of : RowsOf turn xs
-
-  abbrev pub RowsTurned : List ℤ → List ℤ → Type 0
-  RowsTurned xs ys = (g : Turn) → RowsOf g xs → Turned g (Row g j q) xs ys
+  pub record Rows (j q : ℕ) (xs : List ℤ) : Type 0 where
+    pub from : From j q (InRows j q) xs
+    pub least : s.spread.from ≤ j
+    pub most : j ≤ s.of.grid.now.axes
 
 -- ---- the whole box
 
--- The turn of axis t in the box of a layout.
-abbrev pub turn_of : Layout → List ℕ → ℕ → ℕ → ℕ → Turn
-turn_of g levels centre t from =
-    record {
-      axes = g.axes;
-      tops = tops_of g;
-      levels = at levels;
-      centre = centre;
-      axis = t;
-      from = from;
-    }
+-- Position q is the box's first, with the lowest place on each axis.
+pub record Corner (b : GridBox) (q : ℕ) : Type 0 where
+  pub inside : q < points_to (tops_of b.grid.now) b.grid.now.axes
+  pub lowest : (u : ℕ) → u < b.grid.now.axes → place_at (tops_of b.grid.now) q u + 2 ^ at b.levels u ≡ place_at (tops_of b.grid.now) b.centre u + 1
 
--- Position q is the box's first, with the lowest place on each axis, and so many points the box has on each.
-pub record Corner (g : Layout) (levels : List ℕ) (centre : ℕ) (sizes : List ℕ) (q : ℕ) : Type 0 where
-  pub inside : q < points_to (tops_of g) g.axes
-  pub lowest : (u : ℕ) → u < g.axes → place_at (tops_of g) q u + 2 ^ at levels u ≡ place_at (tops_of g) centre u + 1
-  pub sizes_are : (u : ℕ) → u < g.axes → at sizes u ≡ across (at levels u)
-
--- What the bands of a box are made from.
-pub record Boxed (g : Layout) (levels sizes : List ℕ) (t : ℕ) : Type 0 where
-  pub laid : Laid g
-  pub sizes_are : (u : ℕ) → u < g.axes → at sizes u ≡ across (at levels u)
-  pub within : (u : ℕ) → u < g.axes → at levels u ≤ tops_of g u
-  pub axis : t < g.axes
-
--- They have the box's points on so many axes, wherever it lies; and neither a run nor the lines reach beyond the points of these axes.
-pub record Covers (g : Layout) (levels : List ℕ) (t : ℕ) (b : Spread) : Type 0 where
-  pub few : b.from ≤ g.axes
-  pub many : 1 ≤ b.lines
-  pub far : 1 ≤ b.apart
-  pub step : 1 ≤ b.unit
-  pub short : b.width * b.unit ≤ points_to (tops_of g) b.from
-  pub low : b.lines * b.apart ≤ points_to (tops_of g) b.from
-  pub banded : (c from : ℕ) → Ground (turn_of g levels c t from) → Banded (turn_of g levels c t from) b.from b.width b.lines b.apart b.unit
+-- A band has the box's points on so many axes; and neither a run nor the lines reach beyond the points of these axes.
+pub record Covers (b : GridBox) (t : ℕ) (s : Spread) : Type 0 where
+  pub few : s.from ≤ b.grid.now.axes
+  pub many : 1 ≤ s.lines
+  pub far : 1 ≤ s.apart
+  pub step : 1 ≤ s.unit
+  pub short : s.width * s.unit ≤ points_to (tops_of b.grid.now) s.from
+  pub low : s.lines * s.apart ≤ points_to (tops_of b.grid.now) s.from
+  pub banded : Banded (turn_of b t) s.from s.width s.lines s.apart s.unit

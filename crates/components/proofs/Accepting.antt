@@ -1,6 +1,7 @@
 -- Rates are accepted on a grid exactly where the check passes, since it tests just what the record says. Then the call passes: so nothing but 1, 2, 19, 3 and 4 is
 -- ever answered, and 10 never is.
 -- Assumes nothing.
+use Rattle.std.specs.Prelude.{Ok, Err}
 use mathlib.Core.Path.{◌≡◌, refl, ap, sym, ◌∙◌}
 use mathlib.Core.Bool.{Bool, true, false, ◌&&◌}
 use mathlib.Core.List.{List}
@@ -14,10 +15,8 @@ use Rattle.naturals.specs.Test.{all}
 use Rattle.naturals.specs.FirstFailing.{Passes, first_failing}
 use Rattle.refusals.specs.declared.Refusal.{Refusal}
 use Rattle.refusals.specs.declared.Refusal.TheVariants.{Axes, Level, TableLength, TooManyPoints, Rate, Contents}
-use Rattle.refusals.specs.declared.Verdict.{Verdict}
-use Rattle.refusals.specs.declared.Verdict.TheVariants.{Passed, Refused}
 use Rattle.refusals.specs.Refusals.{number_of}
-use Rattle.refusals.specs.Checks.{unless, ◌and_then◌}
+use Rattle.refusals.specs.Checks.{unless, ◌and_then◌, Verdict}
 use Rattle.refusals.proofs.Passing.{first_passed, next_passed, test_passed}
 use Rattle.shapes.specs.Shapes.{most_points}
 use Rattle.states.specs.After.{left, left_by}
@@ -30,7 +29,7 @@ module _ (ls : List ℕ) (rs : List ℤ) where
   abbrev long : Verdict
   long = unless (eqb (length rs) (grid_points ls)) TableLength
 
-  pub passed_accepted : check_component ls rs ≡ Passed → AcceptedOn ls rs
+  pub passed_accepted : check_component ls rs ≡ Ok tt → AcceptedOn ls rs
   unfolding check_component
   passed_accepted e =
       let rest = next_passed (check_grid ls) (long and_then check_rates rs) e in
@@ -45,7 +44,7 @@ module _ (ls : List ℕ) (rs : List ℤ) where
     pub accepted_rates : Passes (rate_at rs) (length rs)
     accepted_rates p h = rate_place rs p ∙ a.each p (omega (arith, a.long))
 
-    pub accepted_passed : check_component ls rs ≡ Passed
+    pub accepted_passed : check_component ls rs ≡ Ok tt
     unfolding check_component
     accepted_passed =
         rw (
@@ -55,7 +54,7 @@ module _ (ls : List ℕ) (rs : List ℤ) where
         )
 
     -- Accepted rates have coefficients.
-    pub component_accepted : component_coefficients ls rs ≡ left Passed (component_table ls rs)
+    pub component_accepted : component_coefficients ls rs ≡ left (Ok tt) (component_table ls rs)
     unfolding component_coefficients
     component_accepted = rw accepted_passed
 
@@ -63,11 +62,11 @@ module _ (ls : List ℕ) (rs : List ℤ) where
 
 -- The refusal has another number.
 abbrev NotTen : Verdict → Type 0
-NotTen v = v ≡ Refused Contents → ⊥
+NotTen v = v ≡ Err Contents → ⊥
 
 number : Verdict → ℕ
-number Passed = 0
-number (Refused r) = number_of r
+number (Ok _) = 0
+number (Err r) = number_of r
 
 unless_other : (b : Bool) (r : Refusal) → (number_of r ≡ 10 → ⊥) → NotTen (unless b r)
 unfolding number
@@ -75,12 +74,12 @@ unless_other true r other e = omega (arith, ap number e)
 unless_other false r other e = other (ap number e)
 
 then_other : (v w : Verdict) → NotTen v → NotTen w → NotTen (v and_then w)
-then_other Passed w first next = next
-then_other (Refused r) w first next = first
+then_other (Ok _) w first next = next
+then_other (Err r) w first next = first
 
 left_verdict : (xs ys : List ℤ) (v : Verdict) → (left_by xs v ys).verdict ≡ v
-left_verdict xs ys Passed = refl
-left_verdict xs ys (Refused r) = refl
+left_verdict xs ys (Ok _) = refl
+left_verdict xs ys (Err r) = refl
 
 module _ (ls : List ℕ) (xs : List ℤ) where
   grid_other : NotTen (check_grid ls)
@@ -100,7 +99,7 @@ module _ (ls : List ℕ) (xs : List ℤ) where
       unless_other (leb (length xs) first) (Rate first) (λ n. omega arith)
 
   -- The call is never refused with 10.
-  pub component_never_contents : (component_coefficients ls xs).verdict ≡ Refused Contents → ⊥
+  pub component_never_contents : (component_coefficients ls xs).verdict ≡ Err Contents → ⊥
   unfolding component_coefficients check_component
   component_never_contents e =
       then_other (check_grid ls) (long ls xs and_then check_rates xs) grid_other

@@ -1,5 +1,6 @@
 -- What a passed check of a grid tells: 1 to 8 axes, top levels of at most 8, and at most 32,768 points, which the count then counts. The checks are tests of just this.
 -- Assumes nothing.
+use Rattle.std.specs.Prelude.{Ok}
 use mathlib.Core.Path.{◌≡◌}
 use mathlib.Core.Bool.{true, ◌&&◌}
 use mathlib.Core.List.{List}
@@ -12,7 +13,6 @@ use Rattle.naturals.specs.Test.{all}
 use Rattle.naturals.proofs.Cases.{le_or_lt}
 use Rattle.naturals.proofs.Tests.{and_left, and_right, all_at}
 use Rattle.refusals.specs.declared.Refusal.TheVariants.{Axes, Level, TooManyPoints}
-use Rattle.refusals.specs.declared.Verdict.TheVariants.{Passed}
 use Rattle.refusals.specs.Checks.{unless}
 use Rattle.refusals.proofs.Passing.{first_passed, next_passed, test_passed}
 use Rattle.shapes.specs.Shapes.{most_points}
@@ -29,7 +29,7 @@ module _ (ls : List ℕ) where
   unfolding low_at
   low_level t low = leb-true (tops_in ls t) 8 low
 
-  pub levels_passed : check_levels ls ≡ Passed → LevelsIn ls
+  pub levels_passed : check_levels ls ≡ Ok tt → LevelsIn ls
   unfolding check_levels
   levels_passed e =
       let few = leb 1 (length ls) && leb (length ls) 8 in
@@ -48,8 +48,8 @@ module _ (ls : List ℕ) where
           (λ past. omega (arith, get_or-eq_default ls 0 past))
           (λ h. low_level t (all_at (low_at ls) (length ls) each t h))
 
-  module _ (e : check_grid ls ≡ Passed) where
-    pub grid_levels : check_levels ls ≡ Passed
+  module _ (e : check_grid ls ≡ Ok tt) where
+    pub grid_levels : check_levels ls ≡ Ok tt
     unfolding check_grid
     grid_levels = first_passed (check_levels ls) (unless (leb (grid_points ls) most_points) TooManyPoints) e
 

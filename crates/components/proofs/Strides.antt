@@ -1,21 +1,20 @@
 -- The strides of a layout: after t axes each of them has the points of the axes before it, and the running product is that of the next. At the end that is the
 -- layout of the grid.
 -- Assumes nothing.
-use mathlib.Core.Path.{◌≡◌, refl, subst, sym, ◌∙◌}
+use Rattle.std.specs.Prelude.{Ok}
+use mathlib.Core.Path.{◌≡◌, subst, sym, ◌∙◌}
 use mathlib.Core.List.{List}
 use Prim.Native.Nat.{ℕ, ◌+◌, ◌*◌, ◌≤◌, ◌<◌}
 use native.Mathlib.Omega.{arith}
 use lib.ListN.{length, set, length-set}
 use lib.Seq.{get_or-set_same, get_or-set_other}
 use Rattle.naturals.proofs.Cases.{eq_or_not}
-use Rattle.refusals.specs.declared.Verdict.TheVariants.{Passed}
 use Rattle.numbering.specs.Point.{at}
 use Rattle.component_grids.specs.Component.{across, points_to}
 use Rattle.shapes.specs.Shapes.{most_points}
 use Rattle.points.specs.Points.{eight}
 use Rattle.points.proofs.Eight.{padded_at}
 use Rattle.components.specs.Components.{tops_in, grid_points, check_grid}
-use Rattle.components.specs.Steps.{LaidOut}
 use Rattle.components.proofs.Checked.{LevelsIn, levels_passed, grid_levels, grid_small}
 use Rattle.components.proofs.Counting.{Counted, counted_starts, counted_steps, counted_small}
 
@@ -27,9 +26,19 @@ pub record Strided (ls strides : List ℕ) (t points : ℕ) : Type 0 where
 pub strided_starts : (ls strides : List ℕ) → length strides ≡ 8 → Strided ls strides 0 1
 strided_starts ls strides e = record { counted = counted_starts ls; long = e; each = λ u h. absurd (omega arith) }
 
-module _ (ls : List ℕ) (passed : check_grid ls ≡ Passed) where
+module _ (ls : List ℕ) (passed : check_grid ls ≡ Ok tt) where
   range : LevelsIn ls
   range = levels_passed ls (grid_levels ls passed)
+
+  tops : at (eight (at ls)) ≡ tops_in ls
+  tops = padded_at ls range.high
+
+  pub low_tops : (u : ℕ) → at (eight (at ls)) u ≤ 8
+  low_tops u = subst (λ (f : ℕ → ℕ). f u ≤ 8) (sym tops) (range.tops u)
+
+  pub few_points : points_to (at (eight (at ls))) (length ls) ≤ most_points
+  unfolding grid_points
+  few_points = subst (λ (f : ℕ → ℕ). points_to f (length ls) ≤ most_points) (sym tops) (grid_small ls passed)
 
   module _ (strides : List ℕ) (t points : ℕ) (strided : Strided ls strides t points) where
     pub strided_steps : (a : ℕ) → a ≡ across (tops_in ls t) → t < length ls → Strided ls (set strides t points) (t + 1) (points * a)
@@ -47,19 +56,5 @@ module _ (ls : List ℕ) (passed : check_grid ls ≡ Passed) where
             (λ same. rw same (get_or-set_same strides t points 0 (omega (arith, range.high, strided.long)) ∙ strided.counted.product))
             (λ other. get_or-set_other strides t u points 0 other ∙ strided.each u (omega arith))
 
-    pub strided_ends : length ls ≤ t → LaidOut ls (record { axes = length ls; tops = eight (at ls); strides = strides })
-    unfolding grid_points
-    strided_ends h =
-        let tops : at (eight (at ls)) ≡ tops_in ls = padded_at ls range.high in
-        record {
-          laid =
-              record {
-                some = range.low;
-                few = range.high;
-                low = λ u. subst (λ (f : ℕ → ℕ). f u ≤ 8) (sym tops) (range.tops u);
-                strides = λ u lt. subst (λ (f : ℕ → ℕ). at strides u ≡ points_to f u) (sym tops) (strided.each u (omega arith));
-                small = subst (λ (f : ℕ → ℕ). points_to f (length ls) ≤ most_points) (sym tops) (grid_small ls passed);
-              };
-          axes = refl;
-          tops = tops;
-        }
+    pub strides_laid : length ls ≤ t → (u : ℕ) → u < length ls → at strides u ≡ points_to (at (eight (at ls))) u
+    strides_laid h u lt = subst (λ (f : ℕ → ℕ). at strides u ≡ points_to f u) (sym tops) (strided.each u (omega arith))

@@ -3,8 +3,7 @@
 use Rattle.std.specs.Prelude.{Bool, ◌&&◌, List, ℕ, leb, eqb, ℤ, length}
 use Rattle.naturals.specs.Test.{all}
 use Rattle.refusals.specs.declared.Refusal.TheVariants.{Axes, Level, TableLength, TooManyPoints}
-use Rattle.refusals.specs.declared.Verdict.{Verdict}
-use Rattle.refusals.specs.Checks.{unless, ◌and_then◌}
+use Rattle.refusals.specs.Checks.{unless, ◌and_then◌, Verdict}
 use Rattle.numbering.specs.Point.{at}
 use Rattle.hierarchy.specs.Turns.{value_at, values_of}
 use Rattle.hierarchy.specs.Sets.{table_of, every_axis}

@@ -1,8 +1,8 @@
 -- What the steps of the call ask and answer: the number of points, counted until it is too large, and the layout of a grid.
 -- Assumes nothing.
 use Rattle.std.specs.Prelude.{List, ◌≡◌, ℕ, ◌≤◌, ◌<◌, length}
-use Rattle.component_sweeps.specs.declared.Layout.{Layout}
-use Rattle.component_sweeps.specs.Steps.{tops_of, Laid}
+use Rattle.component_sweeps.specs.declared.grid.Layout.{Layout}
+use Rattle.component_sweeps.specs.Steps.{tops_of}
 use Rattle.shapes.specs.Shapes.{most_points}
 use Rattle.components.specs.Components.{tops_in, grid_points}
 
@@ -13,6 +13,5 @@ pub record Counts (ls : List ℕ) (points : ℕ) : Type 0 where
 
 -- The layout of the grid of a list of top levels.
 pub record LaidOut (ls : List ℕ) (g : Layout) : Type 0 where
-  pub laid : Laid g
   pub axes : g.axes ≡ length ls
   pub tops : tops_of g ≡ tops_in ls

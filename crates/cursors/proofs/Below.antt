@@ -12,8 +12,8 @@ use Rattle.numbering.specs.Point.{at}
 use Rattle.numbering.specs.Number.{rank, first_of}
 use Rattle.numbering.specs.Parent.{update}
 use Rattle.numbering.proofs.Subspaces.{first_is}
-use Rattle.neighbours.specs.declared.Subspace.{Subspace}
-use Rattle.neighbours.specs.Steps.{Seen, Below}
+use Rattle.neighbours.specs.declared.subspaces.Subspace.{Subspace}
+use Rattle.neighbours.specs.Steps.{Below}
 use Rattle.cursors.specs.Steps.{passed, Cursors}
 use Rattle.cursors.proofs.Lowering.{sum_lowered, passed_lower}
 
@@ -27,14 +27,13 @@ first_lowered d t s j l axis sum high =
     ∙ ap (λ (s : ℕ). start d s + 2 ^ s * rank m d) (sym (sum_lowered d t s j axis low l sum high))
     ∙ sym (first_is d m)
 
-pub cursors_below : {v : Subspace} {sum : ℕ} {cs : List ℕ} → Seen v → sum_to (at v.levels) v.line.axes ≡ sum →
-    Cursors v.line sum (rank (at v.levels) v.line.axes) cs → Below v cs
-cursors_below {v} {sum} {cs} seen total cursors =
+pub cursors_below : {v : Subspace} {cs : List ℕ} → Cursors v.line v.sum (rank (at v.levels) v.line.axes) cs → Below v cs
+cursors_below {v} {cs} cursors =
     record { long = cursors.long; first = first }
   where
     first : (j : ℕ) → 1 ≤ j → j ≤ v.own → at cs j ≡ first_of v.line.axes (update (at v.levels) v.line.place (v.own - j))
     first j from to =
-        let own : j ≤ at v.levels v.line.place = omega (arith, seen.own) in
-        cursors.first j from (omega (arith, total, term_le (at v.levels) v.line.axes v.line.place seen.axis))
-        ∙ first_lowered v.line.axes v.line.place sum j (at v.levels) seen.axis total own
-        ∙ ap (λ (o : ℕ). first_of v.line.axes (update (at v.levels) v.line.place (o - j))) (sym seen.own)
+        let own : j ≤ at v.levels v.line.place = omega (arith, v.there) in
+        cursors.first j from (omega (arith, v.vector.total, term_le (at v.levels) v.line.axes v.line.place v.line.axis))
+        ∙ first_lowered v.line.axes v.line.place v.sum j (at v.levels) v.line.axis v.vector.total own
+        ∙ ap (λ (o : ℕ). first_of v.line.axes (update (at v.levels) v.line.place (o - j))) (sym v.there)

@@ -5,21 +5,16 @@ use mathlib.Core.Path.{◌≡◌, ap, sym, ◌∙◌}
 use Prim.Native.Nat.{ℕ, suc, ◌+◌, ◌-◌, ◌*◌, ◌^◌, ◌≤◌, ◌<◌}
 use native.Mathlib.Nat.{mul-zero}
 use native.Mathlib.Omega.{arith}
-use lib.ListN.{length, set, length-set}
+use lib.ListN.{set, length-set}
 use lib.Seq.{get_or-set_same, get_or-set_other}
 use Rattle.naturals.proofs.Cases.{eq_or_not}
 use Rattle.numbering.specs.Count.{vectors, start}
 use Rattle.numbering.specs.Point.{at}
 use Rattle.numbering.proofs.Numbering.{start_suc}
-use Rattle.neighbours.specs.declared.Line.{Line}
-use Rattle.cursors.specs.Steps.{OnLine, Starts, passed}
+use Rattle.neighbours.specs.declared.subspaces.Line.{Line}
+use Rattle.cursors.specs.declared.starts.Starts.{Starts}
+use Rattle.cursors.specs.Steps.{Filled, passed}
 use Rattle.cursors.proofs.Lowering.{passed_none, passed_all}
-
--- ---- a list that is filled in from place a on, up to place j, with the values of a function
-
-pub record Filled (value : ℕ → ℕ) (long a j : ℕ) (list : List ℕ) : Type 0 where
-  pub size : length list ≡ long
-  pub holds : (i : ℕ) → a ≤ i → i < j → at list i ≡ value i
 
 pub fills : {value : ℕ → ℕ} {long a : ℕ} {list : List ℕ} (j v : ℕ) → Filled value long a j list → j < long → v ≡ value j →
     Filled value long a (j + 1) (set list j v)
@@ -38,20 +33,24 @@ fills {value} {long} {a} {list} j v filled inside e =
 abbrev pub cursor_at : Line → ℕ → ℕ → ℕ → ℕ
 cursor_at line s b j = start line.axes (s - j) + 2 ^ (s - j) * passed line.axes line.place s j b
 
-module _ {line : Line} {starts : List ℕ} (held : Starts line starts) (s j : ℕ) (low : s ≤ line.level) (le : j ≤ s) where
-  pub before_first : at starts (s - j) ≡ cursor_at line s 0 j
+-- The place of a sum is where the next list of cursor j is, before the first list; the one after it, after the last.
+module _ (starts : Starts) (s j : ℕ) (low : s ≤ starts.line.level) (le : j ≤ s) where
+  pub before_first : at starts.places (s + 0 - j) ≡ cursor_at starts.line s 0 j
   before_first =
-      omega (
+      let same : s + 0 - j ≡ s - j = omega arith in
+      ap (at starts.places) same
+      ∙ omega (
         arith,
-        held.first (s - j) (omega arith),
-        ap (λ (r : ℕ). 2 ^ (s - j) * r) (passed_none line.axes line.place s j),
+        starts.first (s - j) (omega arith),
+        ap (λ (r : ℕ). 2 ^ (s - j) * r) (passed_none starts.line.axes starts.line.place s j),
         mul-zero (2 ^ (s - j)),
       )
 
-  pub after_last : OnLine line → at starts (s + 1 - j) ≡ cursor_at line s (vectors line.axes s) j
-  after_last on =
+  pub after_last : at starts.places (s + 1 - j) ≡ cursor_at starts.line s (vectors starts.line.axes s) j
+  after_last =
+      let line = starts.line in
       let next : s + 1 - j ≡ suc (s - j) = omega arith in
-      ap (at starts) next
-      ∙ held.first (suc (s - j)) (omega arith)
+      ap (at starts.places) next
+      ∙ starts.first (suc (s - j)) (omega arith)
       ∙ start_suc line.axes (s - j)
-      ∙ ap (λ (r : ℕ). start line.axes (s - j) + 2 ^ (s - j) * r) (sym (passed_all line.axes line.place s j on.place le))
+      ∙ ap (λ (r : ℕ). start line.axes (s - j) + 2 ^ (s - j) * r) (sym (passed_all line.axes line.place s j line.axis le))

@@ -17,9 +17,9 @@ use Rattle.numbering.specs.Point.{at}
 use Rattle.numbering.specs.Number.{rank}
 use Rattle.numbering.proofs.Numbering.{start_suc}
 use Rattle.shapes.proofs.Totals.{start_small}
-use Rattle.neighbours.specs.declared.Line.{Line}
-use Rattle.neighbours.specs.declared.Subspace.{Subspace}
-use Rattle.neighbours.specs.Steps.{Seen}
+use Rattle.neighbours.specs.declared.subspaces.Line.{Line}
+use Rattle.neighbours.specs.declared.subspaces.Subspace.{Subspace}
+use Rattle.neighbours.proofs.Seeing.{Seen}
 use Rattle.cursors.specs.Steps.{passed, Cursors}
 use Rattle.cursors.proofs.Lowering.{does_reach, does_not_reach, passed_step, passed_lower, lowered_rank_lt}
 use Rattle.cursors.proofs.Filling.{cursor_at}

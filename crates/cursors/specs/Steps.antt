@@ -1,23 +1,16 @@
--- Where the points of each level sum start, and cursors: while a turn goes through the level lists of one sum, the first numbers of those that are lower on the
--- axis.
+-- Cursors: while a turn goes through the level lists of one sum, the first numbers of those that are lower on the axis.
 -- Assumes nothing.
-use Rattle.std.specs.Prelude.{List, ◌≡◌, ℕ, suc, ◌+◌, ◌-◌, ◌*◌, ◌^◌, ◌≤◌, ◌<◌, leb, length, if◌then◌else◌}
+use Rattle.std.specs.Prelude.{List, ◌≡◌, ℕ, ◌+◌, ◌-◌, ◌*◌, ◌^◌, ◌≤◌, ◌<◌, leb, length, if◌then◌else◌}
 use Rattle.naturals.specs.Sum.{sum_to}
 use Rattle.numbering.specs.Count.{start}
 use Rattle.numbering.specs.Point.{at}
 use Rattle.numbering.specs.Inverse.{level_of}
-use Rattle.neighbours.specs.declared.Line.{Line}
+use Rattle.neighbours.specs.declared.subspaces.Line.{Line}
 
--- A shape within the limits, and one of its axes.
-pub record OnLine (line : Line) : Type 0 where
-  pub few : line.axes ≤ 8
-  pub low : line.level ≤ 8
-  pub place : line.place < line.axes
-
--- The number of the first point of each level sum from 0 to the top level; in the next place, N. Other places are not read.
-pub record Starts (line : Line) (starts : List ℕ) : Type 0 where
-  pub long : length starts ≡ 10
-  pub first : (s : ℕ) → s ≤ suc line.level → at starts s ≡ start line.axes s
+-- A list of so many places that is filled in from place a on, up to place j, with the values of a function.
+pub record Filled (value : ℕ → ℕ) (long a j : ℕ) (list : List ℕ) : Type 0 where
+  pub size : length list ≡ long
+  pub holds : (i : ℕ) → a ≤ i → i < j → at list i ≡ value i
 
 -- Of the level lists of d axes with the level sum s: 1 if the one that r others come before has a level of at least j on axis t, else 0; and how many of the
 -- first b have.

@@ -2,81 +2,64 @@
 // the order of level lists, so the lists of one sum that can be lowered by j become, one after the other, all lists of the sum that is smaller by j.
 #![tactic(auto)]
 
-ghost use Rattle.std.specs.Prelude.{◌≡◌, suc, ◌≤◌};
-ghost use Rattle.naturals.specs.Sum.{sum_to};
+mod starts;
+
+ghost use Rattle.std.specs.Prelude.{◌≡◌, suc, ◌+◌, ◌-◌, ◌≤◌};
 ghost use Rattle.numbering.specs.Count.{vectors};
 ghost use Rattle.numbering.specs.Number.{rank};
 ghost use Rattle.numbering.specs.Point.{at};
-ghost use Rattle.neighbours.specs.Steps.{Seen};
-ghost use Rattle.cursors.specs.Steps.{OnLine, Starts, Cursors};
+ghost use Rattle.cursors.specs.Steps.{Cursors, Filled};
 
-use neighbours::{Line, Subspace};
+use neighbours::Subspace;
+pub use starts::Starts;
 
-// Where each level sum starts.
-pub fn starts(line: Line) -> [u64; 10]
-    requires { OnLine line }
-    ensures { Starts line result }
-{
-    let rows = shapes::rows();
-    let mut starts = [0u64; 10];
-    let mut total: u64 = 0;
-    let mut s: u32 = 0;
-    while s <= line.level {
-        total += shapes::vector_count(&rows, line.axes, s) << s;
-        s += 1;
-        starts[s as usize] = total;
+impl Starts {
+    // Cursor j of a sum at the place that lies j before the one `past` after it.
+    fn back_from(&self, sum: u32, past: u32) -> [u64; 9]
+        requires { (sum ≤ self.now.line.level) × (past ≤ 1) }
+        ensures { Filled (λ j. at self.now.places (sum + past - j)) 9 1 (suc sum) result }
+    {
+        let mut cursors = [0u64; 9];
+        for j in 1..sum + 1 {
+            cursors[j as usize] = self.places[(sum + past - j) as usize];
+        }
+        cursors
     }
-    starts
+
+    // The cursors before the first level list of a sum.
+    pub fn before_first(&self, sum: u32) -> [u64; 9]
+        requires { sum ≤ self.now.line.level }
+        ensures { Cursors self.now.line sum 0 result }
+    {
+        self.back_from(sum, 0)
+    }
+
+    // The cursors after the last level list of a sum.
+    pub fn after_last(&self, sum: u32) -> [u64; 9]
+        requires { sum ≤ self.now.line.level }
+        ensures { Cursors self.now.line sum (vectors self.now.line.axes sum) result }
+    {
+        self.back_from(sum, 1)
+    }
 }
 
-// The cursors before the first level list of a sum.
-pub fn before_first(line: Line, sum: u32, starts: &[u64; 10]) -> [u64; 9]
-    requires { OnLine line × Starts line starts.now × (sum ≤ line.level) }
-    ensures { Cursors line sum 0 result }
+// One level list on: each cursor that stands at a list below this one steps over it. (By index, as is the step; its twin back is as short as a call with
+// a closure that adds or subtracts, whose contract would have to ask that the result fits.)
+pub fn pass(v: Subspace, cursors: &mut [u64; 9])
+    requires { Cursors v.line v.sum (rank (at v.levels) v.line.axes) cursors.old }
+    ensures { Cursors v.line v.sum (suc (rank (at v.levels) v.line.axes)) cursors.new }
 {
-    let mut cursors = [0u64; 9];
-    let mut j: u32 = 1;
-    while j <= sum {
-        cursors[j as usize] = starts[(sum - j) as usize];
-        j += 1;
-    }
-    cursors
-}
-
-// The cursors after the last level list of a sum.
-pub fn after_last(line: Line, sum: u32, starts: &[u64; 10]) -> [u64; 9]
-    requires { OnLine line × Starts line starts.now × (sum ≤ line.level) }
-    ensures { Cursors line sum (vectors line.axes sum) result }
-{
-    let mut cursors = [0u64; 9];
-    let mut j: u32 = 1;
-    while j <= sum {
-        cursors[j as usize] = starts[(sum + 1 - j) as usize];
-        j += 1;
-    }
-    cursors
-}
-
-// One level list on: each cursor that stands at a list below this one steps over it.
-pub fn pass(v: Subspace, sum: u32, cursors: &mut [u64; 9])
-    requires { Seen v × (sum_to (at v.levels) v.line.axes ≡ sum) × Cursors v.line sum (rank (at v.levels) v.line.axes) cursors.old }
-    ensures { Cursors v.line sum (suc (rank (at v.levels) v.line.axes)) cursors.new }
-{
-    let mut j: u32 = 1;
-    while j <= v.own {
-        cursors[j as usize] += 1 << (sum - j);
-        j += 1;
+    for j in 1..v.own + 1 {
+        cursors[j as usize] += 1 << (v.sum - j);
     }
 }
 
 // One level list back: each cursor that stands after a list below this one steps back to it.
-pub fn pass_back(v: Subspace, sum: u32, cursors: &mut [u64; 9])
-    requires { Seen v × (sum_to (at v.levels) v.line.axes ≡ sum) × Cursors v.line sum (suc (rank (at v.levels) v.line.axes)) cursors.old }
-    ensures { Cursors v.line sum (rank (at v.levels) v.line.axes) cursors.new }
+pub fn pass_back(v: Subspace, cursors: &mut [u64; 9])
+    requires { Cursors v.line v.sum (suc (rank (at v.levels) v.line.axes)) cursors.old }
+    ensures { Cursors v.line v.sum (rank (at v.levels) v.line.axes) cursors.new }
 {
-    let mut j: u32 = 1;
-    while j <= v.own {
-        cursors[j as usize] -= 1 << (sum - j);
-        j += 1;
+    for j in 1..v.own + 1 {
+        cursors[j as usize] -= 1 << (v.sum - j);
     }
 }

@@ -1,6 +1,7 @@
 -- What the estimate answers, by the first check that refuses, and what passed checks tell: all that the sum asks. Each case is the definition with its tests
 -- decided.
 -- Assumes nothing.
+use Rattle.std.specs.Prelude.{Ok, Err}
 use mathlib.Core.Path.{◌≡◌}
 use mathlib.Core.Bool.{true, false}
 use mathlib.Core.List.{List}
@@ -15,7 +16,6 @@ use Rattle.naturals.proofs.Tests.{all_at}
 use Rattle.naturals.proofs.FirstFailing.{none_first}
 use Rattle.refusals.specs.declared.Refusal.{Refusal}
 use Rattle.refusals.specs.declared.Refusal.TheVariants.{ListLength, Coordinate, Contents}
-use Rattle.refusals.specs.declared.Verdict.TheVariants as verdict
 use Rattle.refusals.specs.Checks.{unless}
 use Rattle.refusals.proofs.Passing.{first_passed, next_passed, test_passed}
 use Rattle.integers.specs.Half.{content_at}
@@ -28,7 +28,6 @@ use Rattle.states.specs.declared.State.{State}
 use Rattle.states.specs.States.{check_state}
 use Rattle.states.proofs.Checked.{Stands, state_passed}
 use Rattle.evaluation.specs.Steps.{Listed, Evaluable}
-use Rattle.estimates.specs.declared.Estimated.TheVariants.{Value, Refused}
 use Rattle.estimates.specs.Estimates.{check_forward, inside_at, first_outside, check_coordinates, check_estimate, estimate_in_unit, estimate}
 
 -- Where no coordinate is outside, each is at most the unit.
@@ -37,28 +36,28 @@ unfolding first_outside inside_at is_coordinate
 each_inside d cs le t h = leb-true (at cs t) unit (none_first (inside_at unit cs) d le t h)
 
 module _ (s : State) (xs : List ℤ) (cs : List ℕ) where
-  pub unchecked : (r : Refusal) → check_state s (length xs) ≡ verdict.Refused r → estimate s xs cs ≡ Refused r
+  pub unchecked : (r : Refusal) → check_state s (length xs) ≡ Err r → estimate s xs cs ≡ Err r
   unfolding estimate_in_unit check_estimate
   unchecked r e = rw e
 
-  module _ (e : check_state s (length xs) ≡ verdict.Passed) where
+  module _ (e : check_state s (length xs) ≡ Ok tt) where
     stands : Stands s (length xs)
     stands = state_passed s (length xs) e
 
     pub in_range : InRange s.shape
     in_range = stands.range
 
-    pub half_turned : (r : Refusal) → check_forward s ≡ verdict.Refused r → estimate s xs cs ≡ Refused r
+    pub half_turned : (r : Refusal) → check_forward s ≡ Err r → estimate s xs cs ≡ Err r
     unfolding estimate_in_unit check_estimate
     half_turned r f = rw (e, f)
 
-    module _ (f : check_forward s ≡ verdict.Passed) where
-      pub outside : (r : Refusal) → check_coordinates unit s.shape.axes cs ≡ verdict.Refused r → estimate s xs cs ≡ Refused r
+    module _ (f : check_forward s ≡ Ok tt) where
+      pub outside : (r : Refusal) → check_coordinates unit s.shape.axes cs ≡ Err r → estimate s xs cs ≡ Err r
       unfolding estimate_in_unit check_estimate
       outside r g = rw (e, f, g)
 
-      module _ (g : check_coordinates unit s.shape.axes cs ≡ verdict.Passed) where
-        pub past_limit : all (content_at xs) (length xs) ≡ false → estimate s xs cs ≡ Refused Contents
+      module _ (g : check_coordinates unit s.shape.axes cs ≡ Ok tt) where
+        pub past_limit : all (content_at xs) (length xs) ≡ false → estimate s xs cs ≡ Err Contents
         unfolding estimate_in_unit check_estimate
         past_limit h = rw (e, f, g, h)
 
@@ -89,6 +88,6 @@ module _ (s : State) (xs : List ℤ) (cs : List ℕ) where
                 listed = listed;
               }
 
-          pub estimated : estimate s xs cs ≡ Value (estimate_at s.shape (value_at xs) (at cs))
+          pub estimated : estimate s xs cs ≡ Ok (estimate_at s.shape (value_at xs) (at cs))
           unfolding estimate_in_unit check_estimate
           estimated = rw (e, f, g, h)

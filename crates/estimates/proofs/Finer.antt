@@ -1,6 +1,7 @@
 -- On one axis an old coordinate times 16 is answered as the old coordinate was, refusals alike: the unit is 16 times the old one. The checks compare each
 -- coordinate with the unit, both 16 times what they were, and the estimate over one axis is the same in every finer unit.
 -- Assumes nothing.
+use Rattle.std.specs.Prelude.{Ok, Err}
 use mathlib.Core.Path.{◌≡◌, refl, ap, sym, ◌∙◌, fun_ext}
 use mathlib.Core.List.{List}
 use Prim.Native.Nat.{ℕ, ◌*◌, ◌<◌}
@@ -20,7 +21,6 @@ use Rattle.surfaces.specs.Weights.{unit, is_coordinate}
 use Rattle.surfaces.proofs.Unit.{unit_is}
 use Rattle.surfaces.proofs.Finer.{finer, estimate_finer}
 use Rattle.states.specs.declared.State.{State}
-use Rattle.estimates.specs.declared.Estimated.TheVariants.{Value, Refused}
 use Rattle.estimates.specs.Estimates.{inside_at, first_outside, check_coordinates, check_estimate, estimate_in_unit, estimate}
 use Rattle.estimates.specs.Finer.{old_unit, each_times}
 
@@ -61,7 +61,7 @@ module _ (u f : ℕ) (some : 0 < u) (more : 0 < f) (s : State) (table : List ℤ
   unfolding estimate_in_unit
   answer_finer one =
       rw (same_checks, same_places)
-      (ap (λ (z : ℤ). answer Refused (check_estimate u s table xs) (Value z))
+      (ap (λ (z : ℤ). answer Err (check_estimate u s table xs) (Ok z))
       (estimate_finer u f some more (numbered s.shape) one (at xs) (value_at table)))
 
 -- The unit, which is two to its bits, is 16 times the old one.

@@ -1,11 +1,11 @@
 -- What the call for an estimate answers (document 01, "Estimates" and the two tables of refusals).
 -- Assumes nothing.
-use Rattle.std.specs.Prelude.{Bool, false, List, ℕ, suc, leb, eqb, ℤ, length}
+use Rattle.refusals.specs.declared.Refusal.{Refusal}
+use Rattle.std.specs.Prelude.{Bool, false, List, ℕ, suc, leb, eqb, ℤ, length, Result, Ok, Err}
 use Rattle.naturals.specs.Test.{all}
 use Rattle.naturals.specs.FirstFailing.{first_failing}
 use Rattle.refusals.specs.declared.Refusal.TheVariants.{ListLength, Coordinate, Contents, StillSampled}
-use Rattle.refusals.specs.declared.Verdict.{Verdict}
-use Rattle.refusals.specs.Checks.{unless, ◌and_then◌, answer}
+use Rattle.refusals.specs.Checks.{unless, ◌and_then◌, answer, Verdict}
 use Rattle.integers.specs.Half.{content_at}
 use Rattle.numbering.specs.Point.{at}
 use Rattle.hierarchy.specs.Turns.{value_at}
@@ -14,8 +14,6 @@ use Rattle.surfaces.specs.Weights.{unit, is_coordinate}
 use Rattle.surfaces.specs.Surface.{estimate_in}
 use Rattle.states.specs.declared.State.{State}
 use Rattle.states.specs.States.{check_axes, check_state}
-use Rattle.estimates.specs.declared.Estimated.{Estimated}
-use Rattle.estimates.specs.declared.Estimated.TheVariants.{Value, Refused}
 
 -- Every axis is forward, else refused with 17 and the first that is not.
 unfoldable pub check_forward : State → Verdict
@@ -46,10 +44,10 @@ check_estimate u s table xs =
     and_then unless (all (content_at table) (length table)) Contents
 
 -- The answer in the unit u: the estimate, or the refusal of the first check that refuses.
-unfoldable pub estimate_in_unit : ℕ → State → List ℤ → List ℕ → Estimated
+unfoldable pub estimate_in_unit : ℕ → State → List ℤ → List ℕ → Result ℤ Refusal
 estimate_in_unit u s table xs =
-    answer Refused (check_estimate u s table xs) (Value (estimate_in u (numbered s.shape) (value_at table) (at xs)))
+    answer Err (check_estimate u s table xs) (Ok (estimate_in u (numbered s.shape) (value_at table) (at xs)))
 
 -- What the call answers.
-abbrev pub estimate : State → List ℤ → List ℕ → Estimated
+abbrev pub estimate : State → List ℤ → List ℕ → Result ℤ Refusal
 estimate = estimate_in_unit unit

@@ -24,6 +24,7 @@ use Rattle.shapes.proofs.Totals.{start_small}
 use Rattle.surfaces.specs.Weights.{unit}
 use Rattle.surfaces.specs.Surface.{joint_at}
 use Rattle.vectors.specs.Steps.{NextVector}
+use Rattle.evaluation.specs.declared.Hat.{Hat}
 use Rattle.evaluation.specs.Steps.{Tabulated, joint_of, position_of, Evaluable}
 use Rattle.evaluation.proofs.Blocks.{count_is, taken_at, taken_joint}
 use Rattle.evaluation.proofs.Reading.{position_taken, joint_taken}
@@ -48,13 +49,13 @@ module _ {s : Shape} {xs : List ℤ} {cs : List ℕ} (ev : Evaluable s xs cs) {h
   pub vector_size : 1 * 2 ^ sum % 2 ^ 64 ≡ 2 ^ sum
   vector_size = one_shifted 64 sum (omega (arith, sum_small))
 
-  pub next_small : first + 1 * 2 ^ sum % 2 ^ 64 < 4294967296
-  next_small = omega (arith, vector_size, next_within w before_last ev.listed.coordinates, table_small)
+  pub vector_within : first + 2 ^ sum ≤ length xs
+  vector_within = omega (arith, next_within w before_last ev.listed.coordinates, ev.long)
 
-  module _ {ws cells : List ℕ} (table : Tabulated (at cs) (9 * s.axes) ws cells) {position joint : ℕ}
-      (found : (position ≡ position_of cells (at ls) s.axes) × (joint ≡ joint_of ws (at ls) s.axes)) where
+  module _ {hats : List (List Hat)} (table : Tabulated (at cs) s.axes hats) {position joint : ℕ}
+      (found : (position ≡ position_of hats (at ls) s.axes) × (joint ≡ joint_of hats (at ls) s.axes)) where
     taken : position ≡ taken_at (at cs) (at ls) s.axes
-    taken = found.0 ∙ position_taken (at cs) (at ls) s.axes ws cells table levels_small
+    taken = found.0 ∙ position_taken (at cs) (at ls) s.axes hats table levels_small
 
     pub place_read : first + position < length xs
     place_read = omega (arith, taken, taken_here w before_last ev.listed.coordinates, ev.long)
@@ -65,7 +66,7 @@ module _ {s : Shape} {xs : List ℤ} {cs : List ℕ} (ev : Evaluable s xs cs) {h
     weight_read : joint ≡ joint_at s (at cs) (first + position)
     weight_read =
         found.1
-        ∙ joint_taken (at cs) (at ls) s.axes ws cells table levels_small
+        ∙ joint_taken (at cs) (at ls) s.axes hats table levels_small
         ∙ sym (taken_joint s (at cs) (at ls) w.vector.rest (omega (arith, w.vector.total, sum_low w before_last)))
         ∙ ap₂ (λ (a q : ℕ). joint_at s (at cs) (a + q)) w.here (sym taken)
 

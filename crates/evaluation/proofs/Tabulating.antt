@@ -1,29 +1,35 @@
--- The walk that fills the tables of cells and weights, nine levels for each axis: after k entries the first k stand in their places. True since the
--- entry written is that of the axis and level at hand, and no other entry changes.
+-- Loops that write one place after another, and what their tables of hats give: hats of coordinates are bounded, and so are the first d of them.
 -- Assumes nothing.
-use mathlib.Core.List.{List}
-use mathlib.Core.Path.{◌≡◌}
-use Prim.Native.Nat.{ℕ, ◌*◌, ◌≤◌, ◌<◌}
+use mathlib.Core.List.{List, []}
+use mathlib.Core.Path.{ap, sym, subst}
+use Prim.Native.Nat.{ℕ, ◌+◌, ◌≤◌, ◌<◌}
 use native.Mathlib.Omega.{arith}
+use lib.ListN.{length, take, set, get_or}
+use Rattle.std.proofs.lemmas.List.{get_or-set_same, get_or-set_other, get_or-take}
+use Rattle.naturals.proofs.Cases.{eq_or_not}
 use Rattle.surfaces.specs.Weights.{unit}
 use Rattle.surfaces.proofs.Cells.{weight_le}
 use Rattle.axis_weights.specs.Steps.{cell_of, index_of_cell}
-use Rattle.evaluation.specs.Steps.{entry, Tabulated, Bounded}
 use Rattle.axis_weights.proofs.Weighing.{cell_below}
+use Rattle.evaluation.specs.declared.Hat.{Hat}
+use Rattle.evaluation.specs.Steps.{AxisHats, Tabulated, Bounded}
 
-pub record Tabulating (x : ℕ → ℕ) (d : ℕ) (ws cells : List ℕ) (k t level : ℕ) : Type 0 where
-  pub within : k ≤ 9 * d
-  pub low : level < 9
-  pub entered : k ≡ entry t level
-  pub done : Tabulated x k ws cells
+-- One place more, which holds what it should.
+pub place_more : {X : Type 0} (P : ℕ → X → Type 0) (xs : List X) (i : ℕ) (x d : X) → i < length xs →
+    ((k : ℕ) → k < i → P k (get_or xs k d)) → P i x → (k : ℕ) → k < i + 1 → P k (get_or (set xs i x) k d)
+place_more P xs i x d within below here k h =
+    eq_or_not k i
+    (λ same. subst (λ n. P n (get_or (set xs i x) n d)) (sym same) (subst (P i) (sym (get_or-set_same xs i x d within)) here))
+    (λ other. subst (P k) (sym (get_or-set_other xs i k x d other)) (below k (omega arith)))
 
--- Full tables are bounded.
-pub tabulated_bounded : {x : ℕ → ℕ} {d : ℕ} {ws cells : List ℕ} → d ≤ 8 → Tabulated x (9 * d) ws cells → Bounded d ws cells
+pub tabulated_bounded : {x : ℕ → ℕ} {d : ℕ} {hats : List (List Hat)} → d ≤ 8 → Tabulated x d hats → Bounded d hats
 tabulated_bounded {x} {d} few table =
     record {
       few = few;
-      long_weights = table.long_weights;
-      long_cells = table.long_cells;
-      weight = λ t l h small. rw (table.weight t l small (omega arith)) (weight_le unit (x t) l (index_of_cell (cell_of (x t) l)));
-      cell = λ t l h small. rw (table.cell t l small (omega arith)) (cell_below (x t) l);
+      weight = λ t l h small. rw (ap (λ (g : Hat). g.weight) (table.axis t h l small)) (weight_le unit (x t) l (index_of_cell (cell_of (x t) l)));
+      cell = λ t l h small. rw (ap (λ (g : Hat). g.cell) (table.axis t h l small)) (cell_below (x t) l);
     }
+
+pub tabulated_front : {x : ℕ → ℕ} {d : ℕ} {hats : List (List Hat)} → Tabulated x d hats → Tabulated x d (take d hats)
+tabulated_front {x} {d} {hats} table =
+    record { axis = λ t h. subst (AxisHats (x t)) (sym (get_or-take d hats t [] h)) (table.axis t h) }

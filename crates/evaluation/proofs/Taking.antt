@@ -12,79 +12,78 @@ use lib.Arith.{digits_lt}
 use lib.Pow.{pow_pos, pow_mono, shl_exact}
 use Rattle.naturals.specs.Sum.{sum_to}
 use Rattle.naturals.proofs.Sums.{sum_to_zero, sum_to_suc, sum_to_mono}
-use Rattle.numbering.specs.Point.{at}
 use Rattle.numbering.proofs.Position.{pow_sum}
 use Rattle.surfaces.specs.Weights.{unit}
 use Rattle.surfaces.proofs.Unit.{unit_bits, unit_is}
 use Rattle.surfaces.proofs.Joint.{joint_zero, joint_suc, joint_le}
-use Rattle.evaluation.specs.Steps.{entry, read, joint_of, step_of, position_of, Bounded}
+use Rattle.evaluation.specs.declared.Hat.{Hat}
+use Rattle.evaluation.specs.Steps.{cell_at, weight_at, joint_of, step_of, position_of, Bounded}
 
-pub position_zero : (cells : List ℕ) (l : ℕ → ℕ) → position_of cells l 0 ≡ 0
+pub position_zero : (hats : List (List Hat)) (l : ℕ → ℕ) → position_of hats l 0 ≡ 0
 unfolding position_of
-position_zero cells l = sum_to_zero (step_of cells l)
+position_zero hats l = sum_to_zero (step_of hats l)
 
-pub position_suc : (cells : List ℕ) (l : ℕ → ℕ) (k : ℕ) → position_of cells l (suc k) ≡ position_of cells l k + at cells (entry k (l k)) * 2 ^ sum_to l k
-unfolding position_of step_of read
-position_suc cells l k = sum_to_suc (step_of cells l) k
+pub position_suc : (hats : List (List Hat)) (l : ℕ → ℕ) (k : ℕ) → position_of hats l (suc k) ≡ position_of hats l k + cell_at hats l k * 2 ^ sum_to l k
+unfolding position_of step_of
+position_suc hats l k = sum_to_suc (step_of hats l) k
 
-module _ {d : ℕ} {ws cells : List ℕ} (bounded : Bounded d ws cells) (l : ℕ → ℕ) (few : sum_to l d ≤ 8) where
+module _ {d : ℕ} {hats : List (List Hat)} (bounded : Bounded d hats) (l : ℕ → ℕ) (few : sum_to l d ≤ 8) where
   level_le : (t : ℕ) → t < d → l t ≤ 8
   level_le t h = omega (arith, sum_to_mono l (suc t) d h, sum_to_suc l t)
 
-  cell_lt : (t : ℕ) → t < d → at cells (entry t (l t)) < 2 ^ l t
+  cell_lt : (t : ℕ) → t < d → cell_at hats l t < 2 ^ l t
   cell_lt t h = bounded.cell t (l t) h (omega (arith, level_le t h))
 
-  weight_le : (t : ℕ) → t < d → at ws (entry t (l t)) ≤ unit
+  weight_le : (t : ℕ) → t < d → weight_at hats l t ≤ unit
   weight_le t h = bounded.weight t (l t) h (omega (arith, level_le t h))
 
-  joint_small : (k : ℕ) → k ≤ d → joint_of ws l k ≤ unit
-  unfolding read
-  joint_small k h = joint_le unit (read ws l) k (λ t lt. weight_le t (omega arith))
+  joint_small : (k : ℕ) → k ≤ d → joint_of hats l k ≤ unit
+  joint_small k h = joint_le unit (weight_at hats l) k (λ t lt. weight_le t (omega arith))
 
-  pub position_lt : (k : ℕ) → k ≤ d → position_of cells l k < 2 ^ sum_to l k
-  position_lt zero h = omega (arith, position_zero cells l, pow_pos (sum_to l 0))
+  pub position_lt : (k : ℕ) → k ≤ d → position_of hats l k < 2 ^ sum_to l k
+  position_lt zero h = omega (arith, position_zero hats l, pow_pos (sum_to l 0))
   position_lt (suc k) h =
       omega (
         arith,
-        position_suc cells l k,
+        position_suc hats l k,
         pow_sum l k,
         mul_comm (2 ^ sum_to l k) (2 ^ l k),
         digits_lt (cell_lt k h) (position_lt k (omega arith)),
       )
 
-pub record Taken (ws cells : List ℕ) (l : ℕ → ℕ) (d t position joint sum : ℕ) : Type 0 where
+pub record Taken (hats : List (List Hat)) (l : ℕ → ℕ) (d t position joint sum : ℕ) : Type 0 where
   pub axis : t ≤ d
   pub total : sum ≡ sum_to l t
-  pub packed : position ≡ position_of cells l t
-  pub weighed : joint ≡ joint_of ws l t
+  pub packed : position ≡ position_of hats l t
+  pub weighed : joint ≡ joint_of hats l t
 
-pub taken_starts : (ws cells : List ℕ) (l : ℕ → ℕ) (d : ℕ) → Taken ws cells l d 0 0 (2 ^ unit_bits) 0
-taken_starts ws cells l d =
+pub taken_starts : (hats : List (List Hat)) (l : ℕ → ℕ) (d : ℕ) → Taken hats l d 0 0 (2 ^ unit_bits) 0
+taken_starts hats l d =
     record {
       axis = omega arith;
       total = sym (sum_to_zero l);
-      packed = sym (position_zero cells l);
-      weighed = sym (joint_zero unit (read ws l) ∙ unit_is);
+      packed = sym (position_zero hats l);
+      weighed = sym (joint_zero unit (weight_at hats l) ∙ unit_is);
     }
 
-module _ {d : ℕ} {ws cells : List ℕ} {l : ℕ → ℕ} {t position joint sum : ℕ} (bounded : Bounded d ws cells) (few : sum_to l d ≤ 8)
-    (state : Taken ws cells l d t position joint sum) (h : t < d) where
+module _ {d : ℕ} {hats : List (List Hat)} {l : ℕ → ℕ} {t position joint sum : ℕ} (bounded : Bounded d hats) (few : sum_to l d ≤ 8)
+    (state : Taken hats l d t position joint sum) (h : t < d) where
   pub level_small : l t ≤ 8
   level_small = level_le bounded l few t h
 
   pub sum_fits : sum + l t ≤ 8
   sum_fits = omega (arith, sum_to_mono l (suc t) d h, sum_to_suc l t)
 
-  turned : position + at cells (entry t (l t)) * 2 ^ sum % 2 ^ 64 ≡ position_of cells l (suc t)
+  turned : position + cell_at hats l t * 2 ^ sum % 2 ^ 64 ≡ position_of hats l (suc t)
   turned =
       omega (
         arith,
-        position_suc cells l t,
-        shl_exact {a = at cells (entry t (l t))} (l t) sum 64 (cell_lt bounded l few t h) (omega (arith, sum_fits)),
-        ap (λ (s : ℕ). at cells (entry t (l t)) * 2 ^ s) state.total,
+        position_suc hats l t,
+        shl_exact {a = cell_at hats l t} (l t) sum 64 (cell_lt bounded l few t h) (omega (arith, sum_fits)),
+        ap (λ (s : ℕ). cell_at hats l t * 2 ^ s) state.total,
       )
 
-  pub position_fits : position + at cells (entry t (l t)) * 2 ^ sum % 2 ^ 64 < 256
+  pub position_fits : position + cell_at hats l t * 2 ^ sum % 2 ^ 64 < 256
   position_fits =
       omega (
         arith,
@@ -93,19 +92,18 @@ module _ {d : ℕ} {ws cells : List ℕ} {l : ℕ → ℕ} {t position joint sum
         pow_mono {i = sum_to l (suc t)} {j = 8} (omega (arith, sum_to_mono l (suc t) d h)),
       )
 
-  pub joint_fits : joint * at ws (entry t (l t)) ≤ 2 ^ (unit_bits + unit_bits)
+  pub joint_fits : joint * weight_at hats l t ≤ 2 ^ (unit_bits + unit_bits)
   joint_fits =
       let small : joint ≤ unit = omega (arith, joint_small bounded l few t state.axis) in
       omega (arith, mul-le-mul small (weight_le bounded l few t h), ap₂ (λ (a b : ℕ). a * b) unit_is unit_is)
 
   -- One axis more.
   pub taken_steps :
-      Taken ws cells l d (t + 1) (position + at cells (entry t (l t)) * 2 ^ sum % 2 ^ 64) (joint * at ws (entry t (l t)) / unit) (sum + l t)
-  unfolding read
+      Taken hats l d (t + 1) (position + cell_at hats l t * 2 ^ sum % 2 ^ 64) (joint * weight_at hats l t / unit) (sum + l t)
   taken_steps =
       record {
         axis = omega arith;
         total = rw add-one (omega (arith, sum_to_suc l t));
         packed = rw add-one turned;
-        weighed = rw (add-one, joint_suc unit (read ws l) t, ← state.weighed) refl;
+        weighed = rw (add-one, joint_suc unit (weight_at hats l) t, ← state.weighed) refl;
       }

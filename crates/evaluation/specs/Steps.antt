@@ -1,6 +1,6 @@
 -- What the steps of an estimate ask and give: one point for each level vector, and its weight from a table of axis weights.
 -- Assumes nothing.
-use Rattle.std.specs.Prelude.{true, List, ◌≡◌, ℕ, suc, ◌+◌, ◌*◌, ◌^◌, ◌≤◌, ◌<◌, ℤ, length}
+use Rattle.std.specs.Prelude.{true, List, [], ◌≡◌, ℕ, suc, ◌*◌, ◌^◌, ◌≤◌, ◌<◌, ℤ, length, get_or}
 use Rattle.naturals.specs.Sum.{sum_to}
 use Rattle.integers.specs.Half.{in_limit}
 use Rattle.numbering.specs.Point.{at}
@@ -9,39 +9,49 @@ use Rattle.shapes.specs.declared.Shape.{Shape}
 use Rattle.shapes.specs.Shapes.{points_of}
 use Rattle.surfaces.specs.Weights.{unit, weight, joint}
 use Rattle.axis_weights.specs.Steps.{cell_of, index_of_cell}
+use Rattle.evaluation.specs.declared.Hat.{Hat}
 
--- Axis t and level l in a table of nine levels for each axis.
-abbrev pub entry : ℕ → ℕ → ℕ
-entry t l = 9 * t + l
+-- The hat of axis t and level l.
+abbrev pub no_hat : Hat
+no_hat = record { cell = 0; weight = 0 }
 
--- The cells in which the coordinates x lie and the weights of their points, for the first b entries.
-pub record Tabulated (x : ℕ → ℕ) (b : ℕ) (weights cells : List ℕ) : Type 0 where
-  pub long_weights : length weights ≡ 72
-  pub long_cells : length cells ≡ 72
-  pub cell : (t l : ℕ) → l < 9 → entry t l < b → at cells (entry t l) ≡ cell_of (x t) l
-  pub weight : (t l : ℕ) → l < 9 → entry t l < b → at weights (entry t l) ≡ weight unit (x t) l (index_of_cell (cell_of (x t) l))
+abbrev pub hat_of : List (List Hat) → ℕ → ℕ → Hat
+hat_of hats t l = get_or (get_or hats t []) l no_hat
 
--- What the tables hold for the level that a level vector has on axis t.
-unfoldable pub read : List ℕ → (ℕ → ℕ) → ℕ → ℕ
-read table l t = at table (entry t (l t))
+-- On an axis, the cell of level l in which the coordinate x lies and the weight of its point.
+abbrev pub hat_at : ℕ → ℕ → Hat
+hat_at x l = record { cell = cell_of x l; weight = weight unit x l (index_of_cell (cell_of x l)) }
+
+-- The hats of an axis at the coordinate x, one for each level.
+abbrev pub AxisHats : ℕ → List Hat → Type 0
+AxisHats x hats = (l : ℕ) → l < 9 → get_or hats l no_hat ≡ hat_at x l
+
+-- Those at the coordinates x on the first d axes.
+pub record Tabulated (x : ℕ → ℕ) (d : ℕ) (hats : List (List Hat)) : Type 0 where
+  pub axis : (t : ℕ) → t < d → AxisHats (x t) (get_or hats t [])
+
+-- What the hats hold for the level that a level vector has on axis t.
+abbrev pub cell_at : List (List Hat) → (ℕ → ℕ) → ℕ → ℕ
+cell_at hats l t = (hat_of hats t (l t)).cell
+
+abbrev pub weight_at : List (List Hat) → (ℕ → ℕ) → ℕ → ℕ
+weight_at hats l t = (hat_of hats t (l t)).weight
 
 -- Joint weight and position of the point of a level vector that they give, over the first k axes.
-abbrev pub joint_of : List ℕ → (ℕ → ℕ) → ℕ → ℕ
-joint_of weights l k = joint unit (read weights l) k
+abbrev pub joint_of : List (List Hat) → (ℕ → ℕ) → ℕ → ℕ
+joint_of hats l k = joint unit (weight_at hats l) k
 
-unfoldable pub step_of : List ℕ → (ℕ → ℕ) → ℕ → ℕ
-step_of cells l t = read cells l t * 2 ^ sum_to l t
+unfoldable pub step_of : List (List Hat) → (ℕ → ℕ) → ℕ → ℕ
+step_of hats l t = cell_at hats l t * 2 ^ sum_to l t
 
-unfoldable pub position_of : List ℕ → (ℕ → ℕ) → ℕ → ℕ
-position_of cells l k = sum_to (step_of cells l) k
+unfoldable pub position_of : List (List Hat) → (ℕ → ℕ) → ℕ → ℕ
+position_of hats l k = sum_to (step_of hats l) k
 
--- Weights of at most the unit, cells among those of their level.
-pub record Bounded (d : ℕ) (weights cells : List ℕ) : Type 0 where
+-- On the first d axes, weights of at most the unit and cells among those of their level.
+pub record Bounded (d : ℕ) (hats : List (List Hat)) : Type 0 where
   pub few : d ≤ 8
-  pub long_weights : length weights ≡ 72
-  pub long_cells : length cells ≡ 72
-  pub weight : (t l : ℕ) → t < d → l < 9 → at weights (entry t l) ≤ unit
-  pub cell : (t l : ℕ) → t < d → l < 9 → at cells (entry t l) < 2 ^ l
+  pub weight : (t l : ℕ) → t < d → l < 9 → (hat_of hats t l).weight ≤ unit
+  pub cell : (t l : ℕ) → t < d → l < 9 → (hat_of hats t l).cell < 2 ^ l
 
 -- A coordinate for each of at most eight axes.
 pub record Listed (d : ℕ) (cs : List ℕ) : Type 0 where

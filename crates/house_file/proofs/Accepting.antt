@@ -1,19 +1,18 @@
 -- What an accepted file holds: a shape in range, as many rates as it has points, at most as many as there are places, each a rate, and nothing after them.
 -- So no refusal 4 follows a file that was read. True since every number that can be filed gives a rate, and the definition reads nothing else.
 -- Assumes nothing.
+use Rattle.std.specs.Prelude.{Ok, Err}
 use mathlib.Core.Path.{◌≡◌, refl, ap, ◌∙◌}
 use mathlib.Core.Bool.{true}
 use mathlib.Core.List.{List, [], ◌∷◌}
-use Prim.Native.Nat.{ℕ, zero, suc, ◌≤◌, ◌<◌}
+use Prim.Native.Nat.{ℕ, zero, suc, ◌≤◌}
 use native.Mathlib.Omega.{arith}
 use lib.Dec.{leb, eqb}
-use lib.IntN.{ℤ, pos}
-use lib.ListN.{length, get_or}
+use lib.IntN.{ℤ}
+use lib.ListN.{length}
 use borrow.Author.Tests.{leb-true, eqb-true}
 use Rattle.refusals.specs.declared.Refusal.TheVariants.{TableLength, FiledNumber, BytesLeft}
-use Rattle.refusals.specs.declared.Verdict.{Verdict}
-use Rattle.refusals.specs.declared.Verdict.TheVariants as verdict
-use Rattle.refusals.specs.Checks.{unless}
+use Rattle.refusals.specs.Checks.{unless, Verdict}
 use Rattle.refusals.proofs.Passing.{test_passed}
 use Rattle.integers.specs.Half.{is_rate}
 use Rattle.shapes.specs.declared.Shape.{Shape}
@@ -22,11 +21,8 @@ use Rattle.house_numbers.specs.Reading.{Read, got, refused, ◌next◌, ◌then_
 use Rattle.house_numbers.specs.Numbers.{groups, largest, limited, read_number, rate_of}
 use Rattle.house_rates.specs.Rates.{prepended, read_rates}
 use Rattle.house_file.specs.Files.{read_head, Contents, ended, read_table, read_contents}
+use Rattle.house_file.specs.Written.{AllRates}
 use Rattle.house_numbers.proofs.Filing.{rate_filed}
-
--- Every place of a list holds a rate.
-abbrev pub AllRates : List ℤ → Type 0
-AllRates rates = (p : ℕ) → p < length rates → is_rate (get_or rates p (pos 0)) ≡ true
 
 -- What is read in two steps is read by the first and then by the second.
 pub record Through {A B : Type 0} (x : Read A) (f : A → List ℕ → Read B) (y : Read B) : Type 0 where
@@ -39,13 +35,13 @@ pub through : {A B : Type 0} (x : Read A) (f : A → List ℕ → Read B) {b : B
 through (got a middle) f e = record { value = a; middle = middle; first = refl; second = e }
 through (refused r) f e = let z : ◌≡◌ {A = ℕ} 0 1 = cc in absurd (omega arith)
 
-passed_first : {A : Type 0} (v : Verdict) (x : Read A) {a : A} {rest : List ℕ} → v then_read x ≡ got a rest → v ≡ verdict.Passed
-passed_first verdict.Passed x e = refl
-passed_first (verdict.Refused r) x e = cc
+passed_first : {A : Type 0} (v : Verdict) (x : Read A) {a : A} {rest : List ℕ} → v then_read x ≡ got a rest → v ≡ Ok tt
+passed_first (Ok _) x e = refl
+passed_first (Err r) x e = cc
 
 read_next : {A : Type 0} (v : Verdict) (x : Read A) {a : A} {rest : List ℕ} → v then_read x ≡ got a rest → x ≡ got a rest
-read_next verdict.Passed x e = e
-read_next (verdict.Refused r) x e = cc
+read_next (Ok _) x e = e
+read_next (Err r) x e = cc
 
 -- A number that is read is that of its groups, and is small enough.
 module _ (bytes : List ℕ) (u : ℕ) (rest : List ℕ) (e : read_number bytes ≡ got u rest) where
@@ -109,44 +105,65 @@ rates_rated (suc m) bytes rates rest e =
 pub record Whole (places : ℕ) (bytes : List ℕ) (s : Shape) (rates : List ℤ) (rest : List ℕ) : Type 0 where
   pub after : List ℕ
   pub head : read_head bytes ≡ got s after
-  pub shaped : check_shape s ≡ verdict.Passed
+  pub shaped : check_shape s ≡ Ok tt
   pub room : points_of s ≤ places
   pub filled : read_rates (points_of s) after ≡ got rates rest
   pub ends : length rest ≡ 0
 
-whole : (places : ℕ) (bytes : List ℕ) (s : Shape) (rates : List ℤ) (middle : List ℕ) (c : Contents) (rest : List ℕ) →
-    got (record { shape = s; rates = rates }) middle ≡ got c rest → Whole places bytes s rates middle → Whole places bytes c.shape c.rates rest
-whole places bytes s rates middle c rest e w =
-    let contents : c ≡ record { shape = s; rates = rates } = cc in
-    let after : rest ≡ middle = cc in
-    rw (contents, after) w
+-- What follows d and n, in its parts.
+pub record Fitted (places : ℕ) (s : Shape) (after : List ℕ) (c : Contents) (rest : List ℕ) : Type 0 where
+  pub same : s ≡ c.shape
+  pub shaped : check_shape c.shape ≡ Ok tt
+  pub room : points_of c.shape ≤ places
+  pub filled : read_rates (points_of c.shape) after ≡ got c.rates rest
+  pub ends : length rest ≡ 0
 
-pub contents_whole : (places : ℕ) (bytes : List ℕ) (c : Contents) (rest : List ℕ) → read_contents places bytes ≡ got c rest →
-    Whole places bytes c.shape c.rates rest
-unfolding read_contents read_table ended
-contents_whole places bytes c rest e =
-    let h = through (read_head bytes) (read_table places) e in
-    let s = h.value in
+fitted : (places : ℕ) (s : Shape) (after : List ℕ) (rates : List ℤ) (middle : List ℕ) (c : Contents) (rest : List ℕ) →
+    got (record { shape = s; rates = rates }) middle ≡ got c rest → Fitted places s after (record { shape = s; rates = rates }) middle →
+    Fitted places s after c rest
+fitted places s after rates middle c rest e f =
+    let contents : c ≡ record { shape = s; rates = rates } = cc in
+    let end : rest ≡ middle = cc in
+    rw (contents, end) f
+
+pub table_fitted : (places : ℕ) (s : Shape) (after : List ℕ) (c : Contents) (rest : List ℕ) → read_table places s after ≡ got c rest →
+    Fitted places s after c rest
+unfolding read_table ended
+table_fitted places s after c rest e =
     let n = points_of s in
-    let x = read_rates n h.middle next ended s in
+    let x = read_rates n after next ended s in
     let places_test = unless (leb n places) TableLength in
-    let roomy = read_next (check_shape s) (places_test then_read x) h.second in
-    let t = through (read_rates n h.middle) (ended s) (read_next places_test x roomy) in
+    let roomy = read_next (check_shape s) (places_test then_read x) e in
+    let t = through (read_rates n after) (ended s) (read_next places_test x roomy) in
     let end_test = unless (eqb (length t.middle) 0) BytesLeft in
     let all : Read Contents = got (record { shape = s; rates = t.value }) t.middle in
     let same : all ≡ got c rest = read_next end_test all t.second in
-    whole places bytes s t.value t.middle c rest same
+    fitted places s after t.value t.middle c rest same
     (record {
-      after = h.middle;
-      head = h.first;
-      shaped = passed_first (check_shape s) (places_test then_read x) h.second;
+      same = refl;
+      shaped = passed_first (check_shape s) (places_test then_read x) e;
       room = leb-true n places (test_passed (leb n places) TableLength (passed_first places_test x roomy));
       filled = t.first;
       ends = eqb-true (length t.middle) 0 (test_passed (eqb (length t.middle) 0) BytesLeft (passed_first end_test all t.second));
     })
 
+pub contents_whole : (places : ℕ) (bytes : List ℕ) (c : Contents) (rest : List ℕ) → read_contents places bytes ≡ got c rest →
+    Whole places bytes c.shape c.rates rest
+unfolding read_contents
+contents_whole places bytes c rest e =
+    let h = through (read_head bytes) (read_table places) e in
+    let f = table_fitted places h.value h.middle c rest h.second in
+    record {
+      after = h.middle;
+      head = h.first ∙ ap (λ (s : Shape). got s h.middle) f.same;
+      shaped = f.shaped;
+      room = f.room;
+      filled = f.filled;
+      ends = f.ends;
+    }
+
 pub record Accepted (places : ℕ) (s : Shape) (rates : List ℤ) (rest : List ℕ) : Type 0 where
-  pub shaped : check_shape s ≡ verdict.Passed
+  pub shaped : check_shape s ≡ Ok tt
   pub room : points_of s ≤ places
   pub rated : Rated (points_of s) rates
   pub ends : length rest ≡ 0

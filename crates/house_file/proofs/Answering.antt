@@ -3,15 +3,14 @@
 use mathlib.Core.Path.{◌≡◌, refl, sym, ap, ◌∙◌}
 use mathlib.Core.List.{List}
 use Prim.Native.Nat.{ℕ, ◌≤◌}
-use native.Mathlib.Omega.{arith}
-use lib.Dec.{leb}
+use lib.Dec.{leb, eqb}
+use lib.ListN.{length}
+use Rattle.std.specs.Prelude.{Result, Ok, Err}
 use lib.IntN.{ℤ}
 use borrow.Author.Tests.{leb-true}
 use Rattle.refusals.specs.declared.Refusal.{Refusal}
-use Rattle.refusals.specs.declared.Refusal.TheVariants.{TableLength}
-use Rattle.refusals.specs.declared.Verdict.{Verdict}
-use Rattle.refusals.specs.declared.Verdict.TheVariants as verdict
-use Rattle.refusals.specs.Checks.{unless, ◌and_then◌}
+use Rattle.refusals.specs.declared.Refusal.TheVariants.{TableLength, BytesLeft}
+use Rattle.refusals.specs.Checks.{unless, ◌and_then◌, Verdict}
 use Rattle.refusals.proofs.Passing.{first_passed, next_passed, test_passed}
 use Rattle.shapes.specs.declared.Shape.{Shape}
 use Rattle.shapes.specs.Shapes.{check_shape, points_of}
@@ -19,8 +18,10 @@ use Rattle.house_numbers.specs.Reading.{Read, got, refused, ◌next◌, ◌then_
 use Rattle.house_numbers.specs.Numbers.{read_number}
 use Rattle.house_rates.specs.Rates.{read_rates}
 use Rattle.house_file.specs.Files.{named, read_head, Contents, ended, read_table, read_contents}
-use Rattle.house_rates.specs.Steps.{checked_rates, rates_read}
-use Rattle.house_file.specs.Steps.{check_places, checked_rest}
+use Rattle.house_rates.specs.declared.CheckedRates.{CheckedRates}
+use Rattle.house_rates.specs.Steps.{closed}
+use Rattle.house_rates.specs.Held.{held}
+use Rattle.house_file.specs.Steps.{check_places, table_in}
 
 module _ (bytes : List ℕ) where
   pub first_refused : {r : Refusal} → read_number bytes ≡ refused r → read_head bytes ≡ refused r
@@ -41,17 +42,12 @@ module _ (bytes : List ℕ) where
   unfolding read_contents
   head_first places = refl
 
--- A table is read, of this shape and with these rates.
-pub record Opens (x : Read Contents) (s : Shape) (rates : List ℤ) : Type 0 where
-  pub left : List ℕ
-  pub is : x ≡ got (record { shape = s; rates = rates }) left
-
 -- What passed checks of the shape and of the places tell.
 pub record Fitting (s : Shape) (places : ℕ) : Type 0 where
-  pub shape : check_shape s ≡ verdict.Passed
+  pub shape : check_shape s ≡ Ok tt
   pub room : points_of s ≤ places
 
-pub places_passed : (s : Shape) (places : ℕ) → check_places s places ≡ verdict.Passed → Fitting s places
+pub places_passed : (s : Shape) (places : ℕ) → check_places s places ≡ Ok tt → Fitting s places
 unfolding check_places
 places_passed s places e =
     let n = points_of s in
@@ -63,53 +59,37 @@ places_passed s places e =
 
 module _ (places : ℕ) (s : Shape) (rest : List ℕ) where
   in_a_row : (a b : Verdict) (x : Read Contents) → a then_read (b then_read x) ≡ (a and_then b) then_read x
-  in_a_row verdict.Passed b x = refl
-  in_a_row (verdict.Refused r) b x = refl
+  in_a_row (Ok _) b x = refl
+  in_a_row (Err r) b x = refl
 
   checks_first : read_table places s rest ≡ check_places s places then_read (read_rates (points_of s) rest next ended s)
   unfolding read_table check_places
   checks_first = in_a_row (check_shape s) (unless (leb (points_of s) places) TableLength) _
 
-  pub unplaced : {r : Refusal} → check_places s places ≡ verdict.Refused r → read_table places s rest ≡ refused r
+  pub unplaced : {r : Refusal} → check_places s places ≡ Err r → read_table places s rest ≡ refused r
   unplaced e = checks_first ∙ rw e
 
-  pub placed : check_places s places ≡ verdict.Passed → read_table places s rest ≡ read_rates (points_of s) rest next ended s
+  pub placed : check_places s places ≡ Ok tt → read_table places s rest ≡ read_rates (points_of s) rest next ended s
   placed e = checks_first ∙ rw e
 
--- What the check of all that follows d and n decides.
-module _ (places : ℕ) (s : Shape) (rest : List ℕ) where
-  all_rates : Read (List ℤ)
-  all_rates = read_rates (points_of s) rest
+-- Rates of a shape.
+abbrev of_shape : Shape → List ℤ → List ℕ → Read Contents
+of_shape s rates rest = got (record { shape = s; rates = rates }) rest
 
-  end_refused : (x : Read (List ℤ)) {r : Refusal} → checked_rates x ≡ verdict.Refused r → x next ended s ≡ refused r
-  unfolding checked_rates ended
-  end_refused (got rates left) e = rw e
-  end_refused (refused q) e = ap refused (cc)
+-- What the check of the rates answers is what the table's rates are.
+module _ (s : Shape) where
+  shape_after : (v : Verdict) (rates : List ℤ) (rest : List ℕ) → v then_read of_shape s rates rest ≡ (v then_read got rates rest) next of_shape s
+  shape_after (Ok _) rates rest = refl
+  shape_after (Err r) rates rest = refl
 
-  pub table_refused : {r : Refusal} → checked_rest places s rest ≡ verdict.Refused r → read_table places s rest ≡ refused r
-  unfolding checked_rest all_rates
-  table_refused {r} e = go (check_places s places) refl
-    where
-      go : (v : Verdict) → check_places s places ≡ v → read_table places s rest ≡ refused r
-      go verdict.Passed h = placed places s rest h ∙ end_refused all_rates (sym (rw h refl) ∙ e)
-      go (verdict.Refused q) h = unplaced places s rest h ∙ ap refused (cc)
+  ended_closed : (x : Read (List ℤ)) → x next ended s ≡ x next closed next of_shape s
+  unfolding ended closed
+  ended_closed (got rates rest) = shape_after (unless (eqb (length rest) 0) BytesLeft) rates rest
+  ended_closed (refused r) = refl
 
-  module _ (e : checked_rest places s rest ≡ verdict.Passed) where
-    fits_first : check_places s places ≡ verdict.Passed
-    unfolding checked_rest
-    fits_first = first_passed (check_places s places) (checked_rates (read_rates (points_of s) rest)) e
+  table_held : (a : Result CheckedRates Refusal) → table_in s a ≡ held a next of_shape s
+  table_held (Ok rates) = refl
+  table_held (Err r) = refl
 
-    pub table_fits : Fitting s places
-    table_fits = places_passed s places fits_first
-
-    pub rates_checked : checked_rates (read_rates (points_of s) rest) ≡ verdict.Passed
-    unfolding checked_rest
-    rates_checked = next_passed (check_places s places) (checked_rates (read_rates (points_of s) rest)) e
-
-    end_passed : (x : Read (List ℤ)) → checked_rates x ≡ verdict.Passed → Opens (x next ended s) s (rates_read x)
-    unfolding checked_rates ended rates_read
-    end_passed (got rates left) h = record { left = left; is = rw h }
-    end_passed (refused q) h = let z : ◌≡◌ {A = ℕ} 0 1 = cc in absurd (omega arith)
-
-    pub table_opens : Opens (read_table places s rest) s (rates_read (read_rates (points_of s) rest))
-    table_opens = rw (placed places s rest fits_first) (end_passed (read_rates (points_of s) rest) rates_checked)
+  pub table_checked : (x : Read (List ℤ)) (a : Result CheckedRates Refusal) → held a ≡ x next closed → table_in s a ≡ x next ended s
+  table_checked x a e = table_held a ∙ ap (λ (y : Read (List ℤ)). y next of_shape s) e ∙ sym (ended_closed x)

@@ -1,6 +1,7 @@
 -- The first bytes decide, one more than 10 and 5 for each place of the buffer: what stands after them is not looked at, except that bytes are left. True
 -- since a number takes at most 5 bytes, so that no longer file is accepted.
 -- Assumes nothing.
+use Rattle.std.specs.Prelude.{Ok, Err}
 use mathlib.Core.Path.{◌≡◌, refl}
 use mathlib.Core.Bool.{Bool, true, false}
 use mathlib.Core.List.{List, [], ◌∷◌}
@@ -13,9 +14,7 @@ use borrow.Author.Tests.{leb-true, ne_eqb}
 use Rattle.naturals.proofs.Cases.{true_or_false}
 use Rattle.refusals.specs.declared.Refusal.{Refusal}
 use Rattle.refusals.specs.declared.Refusal.TheVariants.{FileEnds, FiledNumber, TableLength, BytesLeft}
-use Rattle.refusals.specs.declared.Verdict.{Verdict}
-use Rattle.refusals.specs.declared.Verdict.TheVariants as verdict
-use Rattle.refusals.specs.Checks.{unless}
+use Rattle.refusals.specs.Checks.{unless, Verdict}
 use Rattle.shapes.specs.declared.Shape.{Shape}
 use Rattle.shapes.specs.Shapes.{sparse, check_shape, points_of}
 use Rattle.house_numbers.specs.Reading.{Read, got, refused, ◌next◌, ◌then_read◌}
@@ -33,10 +32,10 @@ then_agree : {A B : Type 0} {m k : ℕ} {cut whole : Read A} → Agree m cut who
 then_agree (same a j rest h c w) f on = rw (c, w) (on a j rest h)
 then_agree (neither r c w) f on = neither r (rw c) (rw w)
 
-checked_agree : {A : Type 0} {m : ℕ} (v : Verdict) {cut whole : Read A} → (v ≡ verdict.Passed → Agree m cut whole) →
+checked_agree : {A : Type 0} {m : ℕ} (v : Verdict) {cut whole : Read A} → (v ≡ Ok tt → Agree m cut whole) →
     Agree m (v then_read cut) (v then_read whole)
-checked_agree verdict.Passed on = on refl
-checked_agree (verdict.Refused r) on = neither r refl refl
+checked_agree (Ok _) on = on refl
+checked_agree (Err r) on = neither r refl refl
 
 test_agree : {A : Type 0} {m : ℕ} (t : Bool) (r : Refusal) {cut whole : Read A} → (t ≡ true → Agree m cut whole) →
     Agree m (unless t r then_read cut) (unless t r then_read whole)

@@ -1,6 +1,7 @@
 -- How long a written file is: no longer than any file that holds the same, and at most 2 bytes and 5 for each rate. True since each number is written in the
 -- fewest bytes, which are at most 5, and d and n in one byte each.
 -- Assumes nothing.
+use Rattle.std.specs.Prelude.{Ok}
 use mathlib.Core.Path.{◌≡◌, sym, ap, ◌∙◌}
 use mathlib.Core.List.{List, [], ◌∷◌, ◌++◌, append_assoc}
 use Prim.Native.Nat.{ℕ, zero, suc, ◌+◌, ◌-◌, ◌*◌, ◌/◌, ◌≤◌, ◌<◌}
@@ -8,7 +9,6 @@ use native.Mathlib.Omega.{arith}
 use lib.IntN.{ℤ}
 use lib.ListN.{length, get_or, length-append}
 use Rattle.naturals.proofs.Cases.{le_or_lt}
-use Rattle.refusals.specs.declared.Verdict.TheVariants.{Passed}
 use Rattle.shapes.specs.declared.Shape.{Shape}
 use Rattle.shapes.specs.Shapes.{sparse, check_shape, points_of}
 use Rattle.shapes.proofs.Checked.{passed_in_range}
@@ -103,24 +103,6 @@ fewest_file places bytes byte c rest e =
     let row = append_assoc (written c.shape.axes) (written c.shape.level) (written_rates c.rates) in
     omega (arith, file.few, ap length row)
 
--- A head takes at least two bytes.
-some_byte : (n : ℕ) → 1 ≤ length (written n)
-unfolding written
-some_byte n =
-    le_or_lt 128 n
-    (λ large. omega (arith, ap length (more_groups 4 n large)))
-    (λ small. omega (arith, ap length (last_group 4 n small)))
-
-pub head_two : (bytes : List ℕ) → Bytes bytes → (s : Shape) (rest : List ℕ) → read_head bytes ≡ got s rest → 2 + length rest ≤ length bytes
-head_two bytes byte s rest e =
-    omega (
-      arith,
-      (head_takes bytes byte s rest e).few,
-      length-append (written s.axes) (written s.level),
-      some_byte s.axes,
-      some_byte s.level,
-    )
-
 -- ---- how many bytes at most
 
 groups_most : (k n : ℕ) → length (fewest k n) ≤ k
@@ -135,7 +117,7 @@ pub one_byte : (n : ℕ) → n ≤ 8 → length (written n) ≡ 1
 unfolding written
 one_byte n h = ap length (last_group 4 n (omega arith))
 
-pub number_most : (n : ℕ) → length (written n) ≤ 5
+number_most : (n : ℕ) → length (written n) ≤ 5
 unfolding written
 number_most n = groups_most 5 n
 
@@ -146,7 +128,7 @@ rates_most (rate ∷ rates) =
     omega (arith, length-append (written (filed rate)) (written_rates rates), number_most (filed rate), rates_most rates)
 
 -- A file of a shape in range has at most 2 bytes and 5 for each rate.
-pub file_most : (s : Shape) (rates : List ℤ) → check_shape s ≡ Passed → length (written_file s rates) ≤ 2 + 5 * length rates
+pub file_most : (s : Shape) (rates : List ℤ) → check_shape s ≡ Ok tt → length (written_file s rates) ≤ 2 + 5 * length rates
 unfolding written_file
 file_most s rates passed =
     let range = passed_in_range s passed in

@@ -1,6 +1,7 @@
 -- What is written is read back: a number in its fewest groups, the filed rates, and a whole file of accepted rates. True since a number is its lowest seven
 -- bits and 128 times the rest, and five groups hold every number that can be filed.
 -- Assumes nothing.
+use Rattle.std.specs.Prelude.{Ok}
 use mathlib.Core.Path.{◌≡◌, refl, sym, ap, ◌∙◌}
 use mathlib.Core.Bool.{true}
 use mathlib.Core.List.{List, [], ◌∷◌, ◌++◌, append_assoc, append-nil}
@@ -11,7 +12,6 @@ use lib.IntN.{ℤ, pos, negsuc}
 use lib.ListN.{length, get_or}
 use borrow.Author.Tests.{lt-ltb, le-ltb, le-leb, leb-true}
 use Rattle.naturals.proofs.Cases.{le_or_lt}
-use Rattle.refusals.specs.declared.Verdict.TheVariants.{Passed}
 use Rattle.integers.specs.Half.{is_rate}
 use Rattle.shapes.specs.declared.Shape.{Shape}
 use Rattle.shapes.specs.Shapes.{check_shape, points_of}
@@ -21,10 +21,10 @@ use Rattle.house_numbers.specs.Numbers.{below, groups, largest, limited, read_nu
 use Rattle.house_rates.specs.Rates.{prepended, read_rates}
 use Rattle.house_file.specs.Files.{ended, read_table, read_contents}
 use Rattle.house_file.specs.Steps.{check_places}
-use Rattle.house_file.specs.Written.{fewest, written, written_rates, written_file}
+use Rattle.house_file.specs.Written.{AllRates, fewest, written, written_rates, written_file}
 use Rattle.house_numbers.proofs.Gathering.{continued, finished}
 use Rattle.house_numbers.proofs.Filing.{rate_of_filed}
-use Rattle.house_file.proofs.Accepting.{AllRates, through, number_groups}
+use Rattle.house_file.proofs.Accepting.{through, number_groups}
 use Rattle.house_file.proofs.Answering.{head_first, head_named, placed}
 
 pub last_group : (k n : ℕ) → n < 128 → fewest (suc k) n ≡ n ∷ []
@@ -104,7 +104,7 @@ rates_back (rate ∷ rates) rest each =
     )
 
 -- A file of accepted rates.
-module _ (s : Shape) (rates : List ℤ) (places : ℕ) (passed : check_shape s ≡ Passed) (many : length rates ≡ points_of s)
+module _ (s : Shape) (rates : List ℤ) (places : ℕ) (passed : check_shape s ≡ Ok tt) (many : length rates ≡ points_of s)
     (room : length rates ≤ places) (each : AllRates rates) where
   axes_filed : s.axes ≤ largest
   unfolding largest
@@ -114,7 +114,7 @@ module _ (s : Shape) (rates : List ℤ) (places : ℕ) (passed : check_shape s �
   unfolding largest
   level_filed = omega (arith, passed_in_range s passed)
 
-  fits : check_places s places ≡ Passed
+  fits : check_places s places ≡ Ok tt
   unfolding check_places
   fits = rw (passed, le-leb (points_of s) places (omega arith))
 

@@ -1,6 +1,7 @@
 -- Numbers and files as they are written: each number in the fewest groups of seven bits (document 01, "House file"; document 02, a).
 -- Assumes nothing.
-use Rattle.std.specs.Prelude.{List, [], ◌∷◌, ◌++◌, ℕ, zero, suc, ◌+◌, ◌/◌, ◌%◌, ltb, ℤ, if◌then◌else◌}
+use Rattle.std.specs.Prelude.{◌≡◌, List, [], ◌∷◌, ◌++◌, ℕ, zero, suc, ◌+◌, ◌/◌, ◌%◌, ◌<◌, ltb, true, ℤ, pos, length, get_or, if◌then◌else◌}
+use Rattle.integers.specs.Half.{is_rate}
 use Rattle.shapes.specs.declared.Shape.{Shape}
 use Rattle.house_numbers.specs.Numbers.{filed}
 
@@ -16,6 +17,10 @@ written n = fewest 5 n
 unfoldable pub written_rates : List ℤ → List ℕ
 written_rates [] = []
 written_rates (rate ∷ rates) = written (filed rate) ++ written_rates rates
+
+-- Every place of a list holds a rate, which can be written.
+abbrev pub AllRates : List ℤ → Type 0
+AllRates rates = (p : ℕ) → p < length rates → is_rate (get_or rates p (pos 0)) ≡ true
 
 -- d, n and the rates.
 unfoldable pub written_file : Shape → List ℤ → List ℕ

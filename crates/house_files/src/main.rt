@@ -9,7 +9,9 @@ use std::io;
 fn report(rt: &HostRuntime, mut file: File) -> io::Result<()> {
     let mut bytes = [0u8; BYTES];
     let mut out = [0u8; MOST];
-    let length = streams::read_input(&mut file, &mut bytes).length;
+    let came = streams::read_input(&mut file, &mut bytes);
+    // Where a read fails, the report is that of the bytes that had come.
+    let length = came.unwrap_or_else(|failed| failed.length);
     let count = reports::text(&bytes[..length], &mut out);
     rt.write_all(&out[..count])
 }

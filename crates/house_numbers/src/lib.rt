@@ -1,18 +1,12 @@
-// The numbers of a house file: read with their checks, read once they were checked, and the rate of one.
+// The numbers of a house file: read from the front of some bytes with their checks, read once they were checked, and the rate of one.
 #![tactic(auto)]
 
-ghost use Rattle.std.specs.Prelude.{◌≡◌, ◌*◌, ◌^◌, ◌≤◌, ◌<◌, drop};
+ghost use Rattle.std.specs.Prelude.{◌≡◌, true, false, ltb, ◌*◌, ◌^◌, ◌≤◌, ◌<◌};
+ghost use Rattle.house_numbers.specs.Reading.{got};
 ghost use Rattle.house_numbers.specs.Numbers.{read_number, rate_of};
-ghost use Rattle.house_numbers.specs.Steps.{Reads, number_in, checked_in, limited_number};
+ghost use Rattle.house_numbers.specs.Steps.{Reads, read_in};
 
 use refusals::Refusal;
-
-// A number of a file with the index of the byte after it, or why it is refused.
-#[derive(Clone, Copy)]
-pub enum Number {
-    Got(u32, usize),
-    Refused(Refusal),
-}
 
 // The largest number that can be filed.
 const LARGEST: u64 = 4294967295;
@@ -25,106 +19,84 @@ fn placed(group: u64, shift: u32) -> u64
     group << shift
 }
 
-// A number with its next index, refused with 12 where it is too large.
-fn limited(value: u64, next: usize) -> Number
-    ensures { result ≡ limited_number value next }
+// Whether a test refuses a number. One that was checked is not tested again: it was not refused.
+fn refuses<const CHECKED: bool>(test: bool) -> bool
+    requires { CHECKED ≡ true → test ≡ false }
+    ensures { result ≡ test }
 {
-    if LARGEST < value {
-        return Number::Refused(Refusal::FiledNumber);
-    }
-    Number::Got(value as u32, next)
+    !CHECKED && test
 }
 
-// The filed number from an index on, byte by byte.
-fn long_number(bytes: &[u8], from: usize) -> Number
-    ensures { number_in bytes.now result ≡ read_number (drop from bytes.now) }
+// Whether a group is the last of its number. Of a number that was checked the fifth is, with no test.
+fn is_last<const CHECKED: bool>(group: u64, place: usize) -> bool
+    requires { CHECKED ≡ true → 4 ≤ place → group < 128 }
+    ensures { result ≡ ltb group 128 }
 {
-    let mut value: u64 = 0;
-    let mut shift: u32 = 0;
-    let mut at = from;
-    while shift < 35 {
-        if bytes.len() <= at {
-            return Number::Refused(Refusal::FileEnds);
-        }
-        let byte = bytes[at] as u64;
-        at += 1;
-        if byte < 128 {
-            return limited(value + placed(byte, shift), at);
-        }
-        value += placed(byte - 128, shift);
-        shift += 7;
+    if CHECKED && 4 <= place {
+        return true;
     }
-    Number::Refused(Refusal::FiledNumber)
+    group < 128
 }
 
-// The filed number from an index on. Most have one byte.
-pub fn number_at(bytes: &[u8], from: usize) -> Number
-    ensures { number_in bytes.now result ≡ read_number (drop from bytes.now) }
-{
-    if bytes.len() <= from {
-        return Number::Refused(Refusal::FileEnds);
-    }
-    let first = bytes[from];
-    if first < 128 {
-        return Number::Got(first as u32, from + 1);
-    }
-    long_number(bytes, from)
-}
-
-// A number of a file that was checked, with the index of the byte after it.
-#[derive(Clone, Copy)]
-pub struct Checked {
-    pub value: u32,
-    pub next: usize,
-}
-
-// The filed number from an index on, where it was checked, byte by byte. No byte is tested but for whether another follows.
-fn long_checked(bytes: &[u8], from: usize) -> Checked
-    requires { Reads (read_number (drop from bytes.now)) }
-    ensures { checked_in bytes.now result ≡ read_number (drop from bytes.now) }
+// The filed number at the front of some bytes, which were checked or not, byte by byte.
+fn long_number<const CHECKED: bool>(bytes: &[u8]) -> Result<(u32, &[u8]), Refusal>
+    requires { CHECKED ≡ true → Reads (read_number bytes.now) }
+    ensures { read_in result ≡ read_number bytes.now }
 {
     let mut value: u64 = 0;
-    let mut shift: u32 = 0;
-    let mut at = from;
-    while shift < 28 {
-        let byte = bytes[at] as u64;
-        at += 1;
-        if byte < 128 {
-            return Checked {
-                value: (value + placed(byte, shift)) as u32,
-                next: at,
-            };
+    for place in 0..5 {
+        if refuses::<CHECKED>(bytes.len() <= place) {
+            return Err(Refusal::FileEnds);
         }
-        value += placed(byte - 128, shift);
-        shift += 7;
+        let group = u64::from(bytes[place]);
+        let shift = 7 * place as u32;
+        if is_last::<CHECKED>(group, place) {
+            value += placed(group, shift);
+            if refuses::<CHECKED>(LARGEST < value) {
+                return Err(Refusal::FiledNumber);
+            }
+            return Ok((value as u32, &bytes[place + 1..]));
+        }
+        value += placed(group - 128, shift);
     }
-    let last = bytes[at] as u64;
-    Checked {
-        value: (value + placed(last, 28)) as u32,
-        next: at + 1,
-    }
+    Err(Refusal::FiledNumber)
 }
 
-// The filed number from an index on, where it was checked. Most have one byte.
-pub fn checked_number(bytes: &[u8], from: usize) -> Checked
-    requires { Reads (read_number (drop from bytes.now)) }
-    ensures { checked_in bytes.now result ≡ read_number (drop from bytes.now) }
+// The filed number at the front of some bytes, which were checked or not, with the bytes after it. Most have one byte.
+fn number<const CHECKED: bool>(bytes: &[u8]) -> Result<(u32, &[u8]), Refusal>
+    requires { CHECKED ≡ true → Reads (read_number bytes.now) }
+    ensures { read_in result ≡ read_number bytes.now }
 {
-    let first = bytes[from];
-    if first < 128 {
-        return Checked {
-            value: first as u32,
-            next: from + 1,
-        };
+    if refuses::<CHECKED>(bytes.is_empty()) {
+        return Err(Refusal::FileEnds);
     }
-    long_checked(bytes, from)
+    let first = bytes[0];
+    if first < 128 {
+        return Ok((u32::from(first), &bytes[1..]));
+    }
+    long_number::<CHECKED>(bytes)
+}
+
+// The filed number at the front of some bytes, with the bytes after it, or why it is refused.
+pub fn read_number(bytes: &[u8]) -> Result<(u32, &[u8]), Refusal>
+    ensures { read_in result ≡ read_number bytes.now }
+{
+    number::<false>(bytes)
+}
+
+// The filed number at the front of some bytes that were checked, with the bytes after it.
+pub fn checked_number(bytes: &[u8]) -> (u32, &[u8])
+    requires { Reads (read_number bytes.now) }
+    ensures { got result.0 result.1.now ≡ read_number bytes.now }
+{
+    number::<true>(bytes).unwrap()
 }
 
 // The rate of a filed number.
 pub fn rate_of(filed: u32) -> i64
     ensures { result ≡ rate_of filed }
 {
-    let half = (filed >> 1) as i64;
+    let half = i64::from(filed >> 1);
     if filed & 1 == 0 {
         return half;
     }

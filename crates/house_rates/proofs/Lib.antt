@@ -3,5 +3,5 @@ pub mod Checking
 pub mod Counting
 pub mod FiveBytes
 pub mod Together
-pub mod Walking
+pub mod Held
 pub mod Filling

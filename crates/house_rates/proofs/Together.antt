@@ -2,17 +2,17 @@
 -- four bytes before its end, and where it has four its fifth is below 16: so each is read, and is at most 15 * 2^28 + 2^28 - 1. After as many numbers
 -- as there are ends no byte is left.
 -- Assumes nothing.
+use Rattle.std.specs.Prelude.{Ok}
 use mathlib.Core.Path.{◌≡◌, ap, ◌∙◌}
 use mathlib.Core.List.{List, ◌∷◌}
 use Prim.Native.Nat.{ℕ, zero, suc, ◌+◌, ◌-◌, ◌*◌, ◌^◌, ◌≤◌, ◌<◌}
 use native.Mathlib.Nat.{one-le-pow}
 use native.Mathlib.Numerals.{add-one}
 use native.Mathlib.Omega.{arith}
-use lib.ListN.{length, get_or, drop}
+use lib.ListN.{length, get_or, drop, length-drop}
 use lib.Seq.{drop-cons}
 use borrow.Author.Tests.{le-leb}
 use Rattle.naturals.proofs.Cases.{le_or_lt}
-use Rattle.refusals.specs.declared.Verdict.TheVariants.{Passed}
 use Rattle.house_numbers.specs.Reading.{Read, got, ◌next◌}
 use Rattle.house_numbers.specs.Numbers.{below, groups, largest, limited, read_number, rate_of}
 use Rattle.house_rates.specs.Rates.{read_rates}
@@ -93,24 +93,24 @@ module _ (bytes : List ℕ) (byte : (i : ℕ) → get_or bytes i 0 < 256) (close
       let i : ℕ → ℕ = λ (k : ℕ). get_or bytes k 0 in
       omega (arith, fit a b (omega (arith, c, ap i two)) (omega (arith, d, ap i three)), ap i four)
 
-  module _ (from : ℕ) (fit : NoneLarge bytes from) where
-    number : (at : ℕ) → from ≤ at → at < length bytes → Taken bytes 4 at
-    number at h there = takes 4 at there (capped at (fit.at at h))
+  module _ (fit : NoneLarge bytes) where
+    number : (at : ℕ) → at < length bytes → Taken bytes 4 at
+    number at there = takes 4 at there (capped at (fit.at at))
 
     number_read : (at : ℕ) (t : Taken bytes 4 at) → read_number (drop at bytes) ≡ got t.value (drop t.after bytes)
     unfolding read_number limited largest
     number_read at t = rw (t.reads, le-leb t.value 4294967295 (omega (arith, t.small)))
 
-    pub all_pass : (m at : ℕ) → from ≤ at → ends (drop at bytes) ≡ m → checked_rates (read_rates m (drop at bytes)) ≡ Passed
-    all_pass zero at h none =
+    pub all_pass : (m at : ℕ) → ends (drop at bytes) ≡ m → checked_rates (read_rates m (drop at bytes)) ≡ Ok tt
+    all_pass zero at none =
         le_or_lt (length bytes) at
-        (λ past. none_left (checked_starts bytes at 0) (omega arith) past)
-        (λ there. absurd (omega (arith, none, (number at h there).fewer)))
-    all_pass (suc m) at h some =
+        (λ past. none_left (checked_starts (drop at bytes) 0) (omega arith) (omega (arith, length-drop at bytes)))
+        (λ there. absurd (omega (arith, none, (number at there).fewer)))
+    all_pass (suc m) at some =
         le_or_lt (length bytes) at
         (λ past. absurd (omega (arith, some, ends_past bytes at past)))
         (λ there.
-        let t = number at h there in
+        let t = number at there in
         ap checked_rates (one_more m (drop at bytes) (number_read at t))
         ∙ checked_after (read_rates m (drop t.after bytes)) (rate_of t.value)
-        ∙ all_pass m t.after (omega (arith, t.past)) (omega (arith, some, t.fewer)))
+        ∙ all_pass m t.after (omega (arith, some, t.fewer)))

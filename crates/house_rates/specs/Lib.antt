@@ -1,2 +1,3 @@
 pub mod Rates
 pub mod Steps
+pub mod Held

@@ -1,5 +1,5 @@
 pub mod Rates
-pub mod Forms
+pub mod CheckedForm
 pub mod Putting
 pub mod WholeFile
 pub mod WrittenBack

@@ -1,6 +1,7 @@
 -- Rewriting gives one form: two files give the same bytes just where they hold the same. The form is a house file that holds what the first did, is read as
 -- the first is by every buffer, and rewritten again is itself. True since a file is written from what it holds alone, and what is written is read back.
 -- Assumes nothing.
+use Rattle.std.specs.Prelude.{Ok, Err}
 use mathlib.Core.Path.{◌≡◌, refl, sym, ap, ap₂, ◌∙◌}
 use mathlib.Core.List.{List, [], ◌++◌}
 use Prim.Native.Nat.{ℕ, ◌+◌, ◌*◌, ◌≤◌}
@@ -15,7 +16,6 @@ use Rattle.house_file.proofs.Accepting.{contents_accepted}
 use Rattle.house_file.proofs.Undone.{file_back}
 use Rattle.house_file.proofs.Deciding.{Agree, same, neither, contents_agree}
 use Rattle.house_file.proofs.Parts.{accepted_parts, parts_read}
-use Rattle.house_writer.specs.declared.Filed.TheVariants.{Length, Refused}
 use Rattle.house_writer.specs.Writing.{after_writing, kept_out, put_file}
 use Rattle.house_writer.specs.Rewriting.{form_of, written_again, rewrite_file}
 use Rattle.house_writer.proofs.Putting.{Stands, stands_within, put_done, put_stands, put_refused}
@@ -30,7 +30,7 @@ module _ (places : ℕ) where
 
     -- An accepted file is rewritten to the form of what it holds.
     pub rewritten : (out : List ℕ) → length (form_of c) ≤ length out →
-        rewrite_file places bytes out ≡ after_writing (Length (length (form_of c))) (form_of c ++ drop (length (form_of c)) out)
+        rewrite_file places bytes out ≡ after_writing (Ok (length (form_of c))) (form_of c ++ drop (length (form_of c)) out)
     rewritten out room = put_again out ∙ put_done (form_of c) out room
 
     -- The form is a house file, and it holds the same.
@@ -72,7 +72,7 @@ module _ (places : ℕ) where
     not_again e = rw e
 
     -- A refusal leaves every byte as it was.
-    pub refused_stays : {r : Refusal} → (rewrite_file places bytes out).answer ≡ Refused r → (rewrite_file places bytes out).out ≡ out
+    pub refused_stays : {r : Refusal} → (rewrite_file places bytes out).answer ≡ Err r → (rewrite_file places bytes out).out ≡ out
     refused_stays {r} e = so (read_contents places bytes) refl
       where
         so : (x : Read Contents) → read_contents places bytes ≡ x → (rewrite_file places bytes out).out ≡ out
@@ -86,7 +86,7 @@ module _ (places : ℕ) where
     pub read : read_contents places bytes ≡ got holds rest
     pub form : Stands (form_of holds) out k (rewrite_file places bytes out).out
 
-  module _ (bytes out : List ℕ) (k : ℕ) (e : (rewrite_file places bytes out).answer ≡ Length k) where
+  module _ (bytes out : List ℕ) (k : ℕ) (e : (rewrite_file places bytes out).answer ≡ Ok k) where
     pub rewrites : Rewrites bytes out k
     rewrites = so (read_contents places bytes) refl
       where
@@ -95,7 +95,7 @@ module _ (places : ℕ) where
             let put = put_again bytes c rest is out in
             record { holds = c; rest = rest; read = is; form = rw put (put_stands (form_of c) out k (rw put at e)) }
         so (refused r) is =
-            let never : Refused r ≡ Length k = rw (not_again bytes out is) at e in
+            let never : Err r ≡ Ok k = rw (not_again bytes out is) at e in
             let z : ◌≡◌ {A = ℕ} 0 1 = cc in
             absurd (omega arith)
 
@@ -122,13 +122,13 @@ module _ (places : ℕ) where
 
     -- So the form is rewritten to itself, and no byte of it changes.
     pub form_stays : (other : List ℕ) → k ≤ length other →
-        rewrite_file places (the_form bytes out k) other ≡ after_writing (Length k) (the_form bytes out k ++ drop k other)
+        rewrite_file places (the_form bytes out k) other ≡ after_writing (Ok k) (the_form bytes out k ++ drop k other)
     form_stays other room =
         let w = rewrites in
         let once = rewritten bytes w.holds w.rest w.read other (omega (arith, w.form.long)) in
         again places other
         ∙ once
-        ∙ ap₂ (λ (n : ℕ) (f : List ℕ). after_writing (Length n) (f ++ drop n other)) (sym w.form.long) (sym w.form.front)
+        ∙ ap₂ (λ (n : ℕ) (f : List ℕ). after_writing (Ok n) (f ++ drop n other)) (sym w.form.long) (sym w.form.front)
 
     pub unchanged : (other : List ℕ) → k ≤ length other → take k (rewrite_file places (the_form bytes out k) other).out ≡ the_form bytes out k
     unchanged other room =
@@ -137,7 +137,7 @@ module _ (places : ℕ) where
 
   -- Files rewritten to the same bytes are read alike, for every number of places.
   pub same_bytes : (a b out other : List ℕ) (k m : ℕ) →
-      (rewrite_file places a out).answer ≡ Length k → (rewrite_file places b other).answer ≡ Length m →
+      (rewrite_file places a out).answer ≡ Ok k → (rewrite_file places b other).answer ≡ Ok m →
       the_form a out k ≡ the_form b other m → (q : ℕ) → read_contents q a ≡ read_contents q b
   same_bytes a b out other k m first second is q =
       sym (contents_the_same a out k first q) ∙ ap (read_contents q) is ∙ contents_the_same b other m second q

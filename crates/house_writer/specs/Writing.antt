@@ -1,27 +1,24 @@
 -- What the writer of house files answers, and what it leaves in the output buffer (document 02, a; manual, section 16).
 -- Assumes nothing.
-use Rattle.std.specs.Prelude.{List, ◌++◌, ℕ, leb, ℤ, length, drop}
+use Rattle.std.specs.Prelude.{List, ◌++◌, ℕ, leb, ℤ, length, drop, Result, Ok, Err}
 use Rattle.refusals.specs.declared.Refusal.{Refusal}
 use Rattle.refusals.specs.declared.Refusal.TheVariants.{TableLength}
-use Rattle.refusals.specs.declared.Verdict.{Verdict}
-use Rattle.refusals.specs.Checks.{unless, ◌and_then◌, answer}
+use Rattle.refusals.specs.Checks.{unless, ◌and_then◌, answer, Verdict}
 use Rattle.shapes.specs.declared.Shape.{Shape}
 use Rattle.tables.specs.Tables.{check_rated}
 use Rattle.house_file.specs.Written.{written_file}
-use Rattle.house_writer.specs.declared.Filed.{Filed}
-use Rattle.house_writer.specs.declared.Filed.TheVariants.{Length, Refused}
 
 -- What the writer leaves: its answer, and the contents of the output buffer.
 pub record AfterWriting : Type 0 where
-  pub answer : Filed
+  pub answer : Result ℕ Refusal
   pub out : List ℕ
 
-abbrev pub after_writing : Filed → List ℕ → AfterWriting
+abbrev pub after_writing : Result ℕ Refusal → List ℕ → AfterWriting
 after_writing a out = record { answer = a; out = out }
 
 -- A refusal leaves every byte as it was.
 abbrev pub kept_out : List ℕ → Refusal → AfterWriting
-kept_out out r = after_writing (Refused r) out
+kept_out out r = after_writing (Err r) out
 
 -- The output buffer has at least as many bytes as the file, else refused with 3.
 unfoldable pub check_room : List ℕ → List ℕ → Verdict
@@ -29,7 +26,7 @@ check_room file out = unless (leb (length file) (length out)) TableLength
 
 -- The answer is the file's length. Its bytes come first, and every byte after them is what it was.
 abbrev pub filled_out : List ℕ → List ℕ → AfterWriting
-filled_out file out = after_writing (Length (length file)) (file ++ drop (length file) out)
+filled_out file out = after_writing (Ok (length file)) (file ++ drop (length file) out)
 
 -- A file put into the output buffer.
 unfoldable pub put_file : List ℕ → List ℕ → AfterWriting

@@ -1,160 +1,102 @@
 // The writer of house files: a shape and its rates into a lent output buffer, and a file read and written again.
 #![tactic(auto)]
 
-ghost use Rattle.std.specs.Prelude.{◌++◌, ◌≡◌, ◌+◌, ◌≤◌, ◌<◌, leb, length, drop};
-ghost use Rattle.naturals.specs.FirstFailing.{Passes};
-ghost use Rattle.refusals.specs.declared.Verdict.TheVariants.{Passed};
+ghost use Rattle.std.specs.Prelude.{◌++◌, ◌≡◌, ◌+◌, ◌^◌, ◌≤◌, ◌<◌, leb, length, Ok};
 ghost use Rattle.shapes.specs.Shapes.{check_shape};
-ghost use Rattle.tables.specs.Tables.{rate_at};
 ghost use Rattle.buffers.specs.Put.{Put};
-ghost use Rattle.house_rates.specs.Rates.{read_rates};
 ghost use Rattle.house_file.specs.Files.{read_table};
-ghost use Rattle.house_rates.specs.Steps.{checked_rates, rates_read};
-ghost use Rattle.house_file.specs.Written.{written, written_rates};
-ghost use Rattle.house_writer.specs.Writing.{after_writing, write_file};
+ghost use Rattle.house_file.specs.Written.{written, written_rates, written_file};
+ghost use Rattle.house_writer.specs.Writing.{after_writing, put_file, write_file};
 ghost use Rattle.house_writer.specs.Rewriting.{written_again, rewrite_file};
 
-use house_file::Head;
-use refusals::{Refusal, Verdict};
-use shapes::Shape;
-use written_numbers::{filed_of, put_number, size_of};
+mod filed_rates;
 
-// What the writer answers: the length of the file, or why it is refused.
-#[derive(Clone, Copy)]
-pub enum Filed {
-    Length(usize),
-    Refused(Refusal),
-}
+use filed_rates::{FiledRates, TableRates};
+use refusals::Refusal;
+use shapes::Shape;
+use written_numbers::{put_number, size_of};
 
 // How many bytes rates take.
-fn rates_size(rates: &[i64]) -> usize
-    requires { Passes (rate_at rates.now) (length rates.now) × (length rates.now < 4294967296) }
-    ensures { result ≡ length (written_rates rates.now) }
+fn rates_size<R: FiledRates>(rates: R) -> usize
+    requires { length (written_rates (R.rates rates)) < 2 ^ 64 }
+    ensures { result ≡ length (written_rates (R.rates rates)) }
 {
     let mut total: usize = 0;
-    let mut p: usize = 0;
-    while p < rates.len() {
-        total += size_of(filed_of(rates[p]));
-        p += 1;
+    let mut left = rates;
+    while let Some((number, more)) = left.split_first() {
+        total += size_of(number);
+        left = more;
     }
     total
 }
 
-// A buffer of so many bytes has room for d, n and the rates. No number takes more than 5 bytes, so most often nothing has to be summed.
-fn has_room(rates: &[i64], room: usize) -> bool
-    requires { Passes (rate_at rates.now) (length rates.now) × (length rates.now < 4294967296) }
-    ensures { result ≡ leb (2 + length (written_rates rates.now)) room }
+// A buffer of so many bytes has room for d, n and the rates. Most often nothing has to be summed.
+fn has_room<R: FiledRates>(rates: R, room: usize) -> bool
+    ensures { result ≡ leb (2 + length (written_rates (R.rates rates))) room }
 {
-    if 2 + 5 * rates.len() <= room {
+    if rates.enough() <= room {
         return true;
     }
     2 + rates_size(rates) <= room
 }
 
-// Rates from a place on; the place after them is answered.
-fn put_rates(rates: &[i64], out: &mut [u8], place: usize) -> usize
-    requires { Passes (rate_at rates.now) (length rates.now) × (place + length (written_rates rates.now) ≤ length out.old) }
-    ensures { Put (written_rates rates.now) out.old place out.new result }
+// Rates at the front of a buffer; how many bytes they took is answered.
+fn put_rates<R: FiledRates>(rates: R, out: &mut [u8]) -> usize
+    requires { length (written_rates (R.rates rates)) ≤ length out.old }
+    ensures { Put (written_rates (R.rates rates)) out.old 0 out.new result }
 {
-    let mut at = place;
-    let mut p: usize = 0;
-    while p < rates.len() {
-        at = put_number(filed_of(rates[p]), out, at);
-        p += 1;
+    let mut at: usize = 0;
+    let mut left = rates;
+    while let Some((number, more)) = left.split_first() {
+        at = put_number(number, out, at);
+        left = more;
     }
     at
 }
 
-// d and n, at the start.
+// d and n, at the front of a buffer; how many bytes they took is answered.
 fn put_head(shape: Shape, out: &mut [u8]) -> usize
-    requires { (check_shape shape ≡ Passed) × (2 ≤ length out.old) }
+    requires { (check_shape shape ≡ Ok tt) × (2 ≤ length out.old) }
     ensures { Put (written shape.axes ++ written shape.level) out.old 0 out.new result }
 {
     let level = put_number(shape.axes, out, 0);
     put_number(shape.level, out, level)
 }
 
+// Once the shape and the rates are checked: first the room, then the file into the first bytes of the buffer.
+fn put_file<R: FiledRates>(shape: Shape, rates: R, out: &mut [u8]) -> Result<usize, Refusal>
+    requires { check_shape shape ≡ Ok tt }
+    ensures { after_writing result out.new ≡ put_file (written_file shape (R.rates rates)) out.old }
+{
+    if !has_room(rates, out.len()) {
+        return Err(Refusal::TableLength);
+    }
+    let head = put_head(shape, out);
+    Ok(head + put_rates(rates, &mut out[head..]))
+}
+
 // The writer: first all checks, then the file into the first bytes of the buffer.
-pub fn write(shape: Shape, rates: &[i64], out: &mut [u8]) -> Filed
+#[tactic(auto, using(crate::proofs::WholeFile::write_refused))]
+pub fn write(shape: Shape, rates: &[i64], out: &mut [u8]) -> Result<usize, Refusal>
     ensures { after_writing result out.new ≡ write_file shape rates.now out.old }
 {
-    if let Verdict::Refused(r) = tables::check_rated(shape, rates) {
-        return Filed::Refused(r);
-    }
-    if !has_room(rates, out.len()) {
-        return Filed::Refused(Refusal::TableLength);
-    }
-    let place = put_head(shape, out);
-    Filed::Length(put_rates(rates, out, place))
+    tables::check_rated(shape, rates)?;
+    put_file(shape, TableRates { rates }, out)
 }
 
-// How many bytes the rates of a checked file take when they are written again.
-fn form_size(bytes: &[u8], from: usize, count: usize) -> usize
-    requires { (checked_rates (read_rates count (drop from bytes.now)) ≡ Passed) × (count < 4294967296) }
-    ensures { result ≡ length (written_rates (rates_read (read_rates count (drop from bytes.now)))) }
+// Once d and n are read: first all checks, then the form into the first bytes of the buffer.
+fn rewrite_table(rest: &[u8], shape: Shape, places: usize, out: &mut [u8]) -> Result<usize, Refusal>
+    ensures { after_writing result out.new ≡ written_again out.old (read_table places shape rest.now) }
 {
-    let mut total: usize = 0;
-    let mut p: usize = 0;
-    let mut at = from;
-    while p < count {
-        let number = house_numbers::checked_number(bytes, at);
-        total += size_of(number.value);
-        at = number.next;
-        p += 1;
-    }
-    total
-}
-
-// A buffer of so many bytes has room for the form. It is never longer than the file, so most often nothing has to be summed.
-fn form_has_room(bytes: &[u8], from: usize, count: usize, room: usize) -> bool
-    requires { (checked_rates (read_rates count (drop from bytes.now)) ≡ Passed) × (count < 4294967296) × (2 + length (drop from bytes.now) ≤ length bytes.now) }
-    ensures { result ≡ leb (2 + length (written_rates (rates_read (read_rates count (drop from bytes.now))))) room }
-{
-    if bytes.len() <= room {
-        return true;
-    }
-    2 + form_size(bytes, from, count) <= room
-}
-
-// The rates of a checked file, written again from a place on; the place after them is answered.
-fn put_form(bytes: &[u8], from: usize, count: usize, out: &mut [u8], place: usize) -> usize
-    requires { (checked_rates (read_rates count (drop from bytes.now)) ≡ Passed) × (place + length (written_rates (rates_read (read_rates count (drop from bytes.now)))) ≤ length out.old) }
-    ensures { Put (written_rates (rates_read (read_rates count (drop from bytes.now)))) out.old place out.new result }
-{
-    let mut next = place;
-    let mut p: usize = 0;
-    let mut at = from;
-    while p < count {
-        let number = house_numbers::checked_number(bytes, at);
-        next = put_number(number.value, out, next);
-        at = number.next;
-        p += 1;
-    }
-    next
-}
-
-// Once d and n are read, which took at least two bytes: first all checks, then the form into the first bytes of the buffer.
-fn rewrite_table(bytes: &[u8], from: usize, shape: Shape, places: usize, out: &mut [u8]) -> Filed
-    requires { 2 + length (drop from bytes.now) ≤ length bytes.now }
-    ensures { after_writing result out.new ≡ written_again out.old (read_table places shape (drop from bytes.now)) }
-{
-    if let Verdict::Refused(r) = house_file::check_rest(bytes, from, shape, places) {
-        return Filed::Refused(r);
-    }
-    let count = shapes::points_of(shape) as usize;
-    if !form_has_room(bytes, from, count, out.len()) {
-        return Filed::Refused(Refusal::TableLength);
-    }
-    let place = put_head(shape, out);
-    Filed::Length(put_form(bytes, from, count, out, place))
+    let rates = house_file::check_rest(rest, shape, places)?;
+    put_file(shape, rates, out)
 }
 
 // A file read and written again, in its one form. It is refused as the reader refuses it for a table of that many places.
-pub fn rewrite(bytes: &[u8], places: usize, out: &mut [u8]) -> Filed
+#[tactic(auto, unfolding(crate::specs::Rewriting::rewrite_file, house_file::specs::Files::read_contents))]
+pub fn rewrite(bytes: &[u8], places: usize, out: &mut [u8]) -> Result<usize, Refusal>
     ensures { after_writing result out.new ≡ rewrite_file places bytes.now out.old }
 {
-    match house_file::read_head(bytes) {
-        Head::Refused(r) => Filed::Refused(r),
-        Head::Names(shape, next) => rewrite_table(bytes, next, shape, places, out),
-    }
+    let (shape, rest) = house_file::read_head(bytes)?;
+    rewrite_table(rest, shape, places, out)
 }

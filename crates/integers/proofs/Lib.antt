@@ -6,3 +6,6 @@ pub mod Products
 pub mod Totals
 pub mod Floors
 pub mod Nearest
+pub mod Gathering
+pub mod Ranges
+pub mod Tables

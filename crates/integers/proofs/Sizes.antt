@@ -1,14 +1,14 @@
 -- Values within the content limit leave room in 64 bits for their sums, and halves are no larger.
 -- Assumes nothing.
-use mathlib.Core.Path.{◌≡◌, refl, sym}
-use mathlib.Core.Bool.{true, false, false≢true}
+use mathlib.Core.Path.{◌≡◌, refl}
+use mathlib.Core.Bool.{true}
 use Prim.Native.Nat.{suc, ◌+◌, ◌^◌, ◌≤◌}
 use native.Mathlib.Omega.{arith}
 use lib.IntN.{ℤ, pos, negsuc, nat_abs, ◌+ℤ◌, ◌-ℤ◌}
-use lib.Signed.{shr_z, le_z, lt_z}
+use lib.Signed.{shr_z}
 use mir.Syntax.{w64}
 use mir.Val.{SFits}
-use borrow.Author.Tests.{leb-true, lt-leb, le-leb, ltb-true, ltb-false}
+use borrow.Author.Tests.{leb-true}
 use Rattle.integers.specs.Half.{half, limit, in_limit, is_rate}
 use Rattle.integers.proofs.Linear.{leaf, ◌⊕◌, ⊖◌, size, size_of}
 
@@ -36,28 +36,6 @@ pub shift_half : (z : ℤ) → shr_z z 2 ≡ half z
 unfolding half
 shift_half (pos n) = refl
 shift_half (negsuc n) = refl
-
--- The two ends of the limit.
-pub below_limit : (z : ℤ) → lt_z z (negsuc 140737488355327) ≡ true → in_limit z ≡ false
-unfolding in_limit
-below_limit (pos n) e = absurd (false≢true e)
-below_limit (negsuc n) e = lt-leb (suc n) limit (omega (arith, ltb-true 140737488355327 n e))
-
-pub above_limit : (z : ℤ) → lt_z z (negsuc 140737488355327) ≡ false → le_z z (pos 140737488355328) ≡ in_limit z
-unfolding in_limit
-above_limit (pos n) e = refl
-above_limit (negsuc n) e = sym (le-leb (suc n) limit (omega (arith, ltb-false 140737488355327 n e)))
-
--- The two ends of the rates.
-pub below_rates : (z : ℤ) → lt_z z (negsuc 2147483647) ≡ true → is_rate z ≡ false
-unfolding is_rate
-below_rates (pos n) e = absurd (false≢true e)
-below_rates (negsuc n) e = lt-leb (suc n) 2147483648 (omega (arith, ltb-true 2147483647 n e))
-
-pub above_rates : (z : ℤ) → lt_z z (negsuc 2147483647) ≡ false → le_z z (pos 2147483647) ≡ is_rate z
-unfolding is_rate
-above_rates (pos n) e = refl
-above_rates (negsuc n) e = sym (le-leb (suc n) 2147483648 (omega (arith, ltb-false 2147483647 n e)))
 
 -- A rate is small.
 pub rate_size : (z : ℤ) → is_rate z ≡ true → nat_abs z ≤ 2147483648

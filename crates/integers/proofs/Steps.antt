@@ -1,17 +1,19 @@
 -- Steps of a turn and odd sums. Half of a number up to 2b on either side of zero is up to b, so a step moves a value by at most half the bound of its sum; by
 -- zero it stays. What is up to 2^62 is a number of 64 bits. The lowest bit of a number is 1 where it is odd.
 -- Assumes nothing.
-use mathlib.Core.Path.{◌≡◌, refl, ◌∙◌}
+use mathlib.Core.Path.{◌≡◌, refl, ap, ◌∙◌}
 use mathlib.Core.Bool.{Bool, true, false}
 use Prim.Native.Nat.{ℕ, suc, ◌+◌, ◌-◌, ◌*◌, ◌%◌, ◌^◌, ◌≤◌, ◌<◌}
 use native.Mathlib.Omega.{arith}
 use lib.Bits.{bit_and, and_mask}
 use lib.Dec.{eqb}
 use lib.IntN.{ℤ, pos, negsuc, nat_abs, ◌+ℤ◌, ◌-ℤ◌, +ℤ_idr}
+use lib.Signed.{shr_z}
 use mir.Syntax.{w64}
-use mir.Val.{SFits, of_z}
+use mir.Val.{SFits, to_z, of_z}
+use mir.ValLaws.{to_z-of_z}
 use Rattle.integers.specs.Half.{half, is_even, odd_of, stepped}
-use Rattle.integers.proofs.Sizes.{sum_size, difference_size}
+use Rattle.integers.proofs.Sizes.{sum_size, difference_size, half_size, shift_half}
 
 -- ---- sizes
 
@@ -48,6 +50,12 @@ stepped_within false b c v s hv hs = omega (arith, sum_size v (half s), half_wit
 pub stepped_fits : (ahead : Bool) (v s : ℤ) → nat_abs v ≤ 2 ^ 62 → nat_abs s ≤ 2 ^ 62 → SFits w64 (stepped ahead v s)
 stepped_fits ahead v s hv hs =
     below_fits (stepped ahead v s) (omega (arith, stepped_within ahead (2 ^ 62) (2 ^ 61) v s hv (omega arith)))
+
+-- Half of a sum, as the shift by one bit has it.
+pub halved : (sum : ℤ) → SFits w64 sum → nat_abs sum ≤ 2 ^ 62 → to_z w64 (of_z w64 (shr_z (to_z w64 (of_z w64 sum)) 2)) ≡ half sum
+halved sum fits size =
+    ap (λ (z : ℤ). to_z w64 (of_z w64 z)) (ap (λ (z : ℤ). shr_z z 2) (to_z-of_z w64 sum fits) ∙ shift_half sum)
+    ∙ to_z-of_z w64 (half sum) (within_fits (half sum) (omega (arith, half_size sum)))
 
 -- A sum of zero moves nothing.
 pub stepped_zero : (ahead : Bool) (v : ℤ) → stepped ahead v (pos 0) ≡ v

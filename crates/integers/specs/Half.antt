@@ -1,6 +1,6 @@
 -- Halves of whole numbers, the content limit and rates (document 01, "Terms and limits" and "Parents and turns").
 -- Assumes nothing.
-use Rattle.std.specs.Prelude.{Bool, List, ℕ, suc, ◌/◌, ◌%◌, ◌^◌, leb, eqb, ℤ, pos, negsuc, nat_abs, ◌+ℤ◌, ◌-ℤ◌, get_or, if◌then◌else◌}
+use Rattle.std.specs.Prelude.{Bool, List, ℕ, suc, ◌/◌, ◌%◌, ◌^◌, ◌<◌, leb, eqb, ℤ, pos, negsuc, nat_abs, ◌+ℤ◌, ◌-ℤ◌, get_or, if◌then◌else◌}
 
 -- Half of a whole number, rounded down where it is odd.
 unfoldable pub half : ℤ → ℤ
@@ -33,3 +33,8 @@ content_at xs p = in_limit (get_or xs p (pos 0))
 unfoldable pub is_rate : ℤ → Bool
 is_rate (pos n) = leb n 2147483647
 is_rate (negsuc n) = leb (suc n) 2147483648
+
+-- From −2^b to 2^b − 1: a signed number of b + 1 bits.
+abbrev pub Within : ℕ → ℤ → Type 0
+Within b (pos n) = n < 2 ^ b
+Within b (negsuc n) = n < 2 ^ b

@@ -19,12 +19,14 @@ use Rattle.numbering.specs.Point.{at}
 use Rattle.numbering.proofs.Numbering.{points_is}
 use Rattle.hierarchy.specs.Turns.{value_at, sum_on}
 use Rattle.hierarchy.proofs.Values.{value_zero}
+use Rattle.shapes.specs.Shapes.{points_of}
 use Rattle.shapes.proofs.Totals.{start_small}
 use Rattle.grids.specs.Grids.{neighbour}
 use Rattle.grids.proofs.Sparse.{points_sparse}
-use Rattle.neighbours.specs.declared.Subspace.{Subspace}
-use Rattle.neighbours.specs.declared.Line.{Line}
+use Rattle.neighbours.specs.declared.subspaces.Subspace.{Subspace}
+use Rattle.neighbours.specs.declared.subspaces.Line.{Line}
 use Rattle.neighbours.specs.Steps.{sparse_of, code_from}
+use Rattle.neighbours.proofs.Seeing.{seen}
 use Rattle.neighbours.proofs.Beside.{bits, end_inside, first_small}
 use Rattle.neighbours.proofs.Runs as runs
 use Rattle.lists.specs.Steps.{OnAxis, value_in, RoomIn, RunStepped, Stepped, Workable, BlockAt}
@@ -32,7 +34,11 @@ use Rattle.lists.proofs.Running.{run_few}
 use Rattle.lists.proofs.Joining.{none_stepped, stepped_few, before_held, run_joins}
 use Rattle.lists.proofs.Sums.{Parents, Borders, near_at, all_digits, block_end, run_inside, first_left, last_right, near_left, near_right, far_left, far_right, run_before, sum_between, sum_from_border, sum_to_border}
 
--- A table of the shape is small.
+-- A table of the shape that a line lies in.
+pub on_line : (line : Line) {xs : List ℤ} → length xs ≡ points_of (sparse_of line) → OnAxis (sparse_of line) line.place xs
+on_line line long = record { few = line.few; low = line.top; place = line.axis; long = long }
+
+-- It is small.
 pub table_small : (line : Line) (xs : List ℤ) → OnAxis (sparse_of line) line.place xs → length xs < 2 ^ 32
 table_small line xs on =
     omega (
@@ -46,20 +52,17 @@ table_small line xs on =
 -- ---- the numbers that the code computes: no shift loses a bit
 
 module _ {v : Subspace} {starts : List ℕ} {first beyond : ℕ} {xs : List ℤ} (w : Workable v starts first xs) (b : BlockAt v first beyond) where
-  pub width_is : 1 * 2 ^ v.low % 2 ^ 64 ≡ 2 ^ v.low
-  width_is = one_shifted 64 v.low (omega (arith, bits w.seen))
-
   pairs_is : 1 * 2 ^ (v.own - 1) % 2 ^ 32 ≡ 2 ^ (v.own - 1)
-  pairs_is = one_shifted 32 (v.own - 1) (omega (arith, bits w.seen))
+  pairs_is = one_shifted 32 (v.own - 1) (omega (arith, bits (seen v)))
 
   pairs_small : 2 ^ (v.own - 1) ≤ 2 ^ 7
-  pairs_small = pow_mono {i = v.own - 1} {j = 7} (omega (arith, bits w.seen))
+  pairs_small = pow_mono {i = v.own - 1} {j = 7} (omega (arith, bits (seen v)))
 
   pub beyond_small : beyond < 2 ^ 8
-  beyond_small = runs.beyond_small w.seen beyond (omega (arith, b.first, b.inside))
+  beyond_small = runs.beyond_small (seen v) beyond (omega (arith, b.first, b.inside))
 
   pub shift_small : beyond * 2 ^ (v.low + v.own - 1) < 2 ^ 16
-  shift_small = omega (arith, beyond_small, mul-le-mul_left beyond (pow_mono {i = v.low + v.own - 1} {j = 8} (omega (arith, bits w.seen))))
+  shift_small = omega (arith, beyond_small, mul-le-mul_left beyond (pow_mono {i = v.low + v.own - 1} {j = 8} (omega (arith, bits (seen v)))))
 
   shift_is : beyond * 2 ^ (v.low + v.own - 1) % 2 ^ 64 ≡ beyond * 2 ^ (v.low + v.own - 1)
   shift_is = mod-eq_of_lt (omega (arith, shift_small))
@@ -68,7 +71,7 @@ module _ {v : Subspace} {starts : List ℕ} {first beyond : ℕ} {xs : List ℤ}
   near_is = omega (arith, shift_is)
 
   pub start_small_lem : at starts 1 < 2 ^ 32
-  start_small_lem = first_small w.seen w.below 1 (omega arith) w.moves
+  start_small_lem = first_small (seen v) w.below 1 (omega arith) w.moves
 
 -- ---- the next run
 
@@ -120,9 +123,9 @@ module _ {ahead : Bool} {v : Subspace} {first width : ℕ} {xs : List ℤ} {e x 
       omega (
         arith,
         r.here.wide,
-        run_inside w.seen w.below w.moves r.here.block e x r.digit r.done.place,
-        block_end w.seen w.below w.moves r.here.block,
-        end_inside w.seen,
+        run_inside (seen v) w.below w.moves r.here.block e x r.digit r.done.place,
+        block_end (seen v) w.below w.moves r.here.block,
+        end_inside (seen v),
         w.axis.long,
         r.done.stepped.long,
       )
@@ -205,7 +208,7 @@ module _ {v : Subspace} {starts : List ℕ} {first beyond width : ℕ} {xs : Lis
     next_run = record { starts = starts; beyond = beyond; here = h; done = done; digit = digit }
 
     behind : {side : Side} {a : ℕ} → Parents v side x a → a + width ≤ v.start
-    behind {side} {a} parents = omega (arith, h.wide, run_before w.seen w.below w.moves h.block e x digit done.place side a parents)
+    behind {side} {a} parents = omega (arith, h.wide, run_before (seen v) w.below w.moves h.block e x digit done.place side a parents)
 
     from_border : {a : ℕ} → Borders v Left x → Parents v Right x a → ByBorder ahead v first width xs e x a k ys
     from_border left right =
@@ -225,8 +228,8 @@ module _ {v : Subspace} {starts : List ℕ} {first beyond width : ℕ} {xs : Lis
       = record { place = omega arith; stepped = none_stepped ahead (sparse_of v.line) v.line.place first xs } in
       let digit : 0 < 2 ^ v.own = pow_pos v.own in
       from_border none digit
-      (first_left w.seen w.below w.moves h.block 0 first digit none.place refl)
-      (near_right w.seen w.below w.moves h.block 0 first digit none.place 0 (pow_pos (v.own - 1)) near near_at_lem refl)
+      (first_left (seen v) w.below w.moves h.block 0 first digit none.place refl)
+      (near_right (seen v) w.below w.moves h.block 0 first digit none.place 0 (pow_pos (v.own - 1)) near near_at_lem refl)
 
   pub one_pair : 1 ≤ 1 * 2 ^ (v.own - 1) % 2 ^ 32
   one_pair = omega (arith, pairs_is w h.block, pow_pos (v.own - 1))
@@ -258,14 +261,14 @@ module _ {v : Subspace} {starts : List ℕ} {first beyond width : ℕ} {xs : Lis
       up_run done near_at_lem =
           let digit : 2 * j - 1 < 2 ^ v.own = omega (arith, digits) in
           between done digit
-          (near_left w.seen w.below w.moves h.block (2 * j - 1) x digit done.place (j - 1) (omega (arith, in_row)) near near_at_lem (omega (arith, some)))
-          (far_right w.seen w.below w.moves h.block (2 * j - 1) x digit done.place j in_row some far found (omega (arith, some)))
+          (near_left (seen v) w.below w.moves h.block (2 * j - 1) x digit done.place (j - 1) (omega (arith, in_row)) near near_at_lem (omega (arith, some)))
+          (far_right (seen v) w.below w.moves h.block (2 * j - 1) x digit done.place j in_row some far found (omega (arith, some)))
 
       pub down_run : RunsDone ahead v first (2 * j) x xs k ys → near ≡ near_at v starts beyond j → Between ahead v first width xs (2 * j) x far near k ys
       down_run done near_at_lem =
           between done digits
-          (far_left w.seen w.below w.moves h.block (2 * j) x digits done.place j in_row some far found refl)
-          (near_right w.seen w.below w.moves h.block (2 * j) x digits done.place j in_row near near_at_lem refl)
+          (far_left (seen v) w.below w.moves h.block (2 * j) x digits done.place j in_row some far found refl)
+          (near_right (seen v) w.below w.moves h.block (2 * j) x digits done.place j in_row near near_at_lem refl)
 
   -- The last run has the border at its right.
   pub last_run : {ahead : Bool} {j x near k : ℕ} {ys : List ℤ} → 1 ≤ j → j ≤ 1 * 2 ^ (v.own - 1) % 2 ^ 32 → 1 * 2 ^ (v.own - 1) % 2 ^ 32 ≤ j →
@@ -279,8 +282,8 @@ module _ {v : Subspace} {starts : List ℕ} {first beyond width : ℕ} {xs : Lis
       let e : ℕ = 2 ^ v.own - 1 in
       let digit : e < 2 ^ v.own = omega (arith, some, all, full) in
       to_border done_now digit
-      (near_left w.seen w.below w.moves h.block e x digit done_now.place (j - 1) (omega (arith, some, all)) near near_at_lem (omega (arith, some, last)))
-      (last_right w.seen w.below w.moves h.block e x digit done_now.place (omega (arith, digit)))
+      (near_left (seen v) w.below w.moves h.block e x digit done_now.place (j - 1) (omega (arith, some, all)) near near_at_lem (omega (arith, some, last)))
+      (last_right (seen v) w.below w.moves h.block e x digit done_now.place (omega (arith, digit)))
 
 -- With it all runs are done, and they make the block.
 pub block_done : {ahead : Bool} {v : Subspace} {first width : ℕ} {xs : List ℤ} {x a k k' : ℕ} {sum : ℕ → ℤ} {ys zs : List ℤ} →

@@ -3,6 +3,5 @@ pub mod Running
 pub mod Joining
 pub mod Sums
 pub mod Blocks
-pub mod Points
 pub mod Lists
 pub mod Turned

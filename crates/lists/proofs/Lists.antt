@@ -1,19 +1,20 @@
 -- A level list, block after block from its first point on: all parents stand before the list, so the blocks join. A list of level 0 on the axis has no parents
 -- there: its steps move nothing and its sums are even.
 -- Assumes nothing.
-use mathlib.Core.Path.{◌≡◌, refl, ap₂, sym, ◌∙◌}
+use mathlib.Core.Path.{◌≡◌, refl, ap, ap₂, sym, ◌∙◌}
 use mathlib.Core.Logic.{inl, inr}
 use mathlib.Core.Bool.{Bool}
 use mathlib.Core.List.{List}
 use Prim.Native.Nat.{ℕ, zero, suc, ◌+◌, ◌-◌, ◌*◌, ◌%◌, ◌^◌, ◌≤◌, ◌<◌}
+use native.Mathlib.Nat.{mod-eq_of_lt, mul-le-mul_right}
 use native.Mathlib.Omega.{arith}
-use lib.IntN.{ℤ, pos}
+use lib.IntN.{ℤ, pos, nat_abs}
 use lib.ListN.{length}
-use lib.Pow.{pow_pos}
+use lib.Pow.{pow_pos, pow_mono, pow-add}
 use Rattle.naturals.specs.Sum.{sum_to}
 use Rattle.naturals.proofs.Cases.{le_or_lt}
 use Rattle.naturals.proofs.Shifts.{one_shifted}
-use Rattle.naturals.proofs.Sums.{sum_to_zero, sum_to_suc}
+use Rattle.naturals.proofs.Sums.{sum_to_zero, sum_to_suc, sum_to_mono}
 use Rattle.integers.specs.Half.{odd_of}
 use Rattle.integers.proofs.Steps.{stepped_zero, odd_zero}
 use Rattle.numbering.specs.declared.Side.{Side}
@@ -25,12 +26,12 @@ use Rattle.hierarchy.proofs.Sweeps.{list_of_values}
 use Rattle.shapes.specs.declared.Shape.{Shape}
 use Rattle.shapes.specs.Shapes.{points_of}
 use Rattle.grids.specs.Grids.{neighbour}
-use Rattle.neighbours.specs.declared.Subspace.{Subspace}
-use Rattle.neighbours.specs.Steps.{sparse_of, Seen}
-use Rattle.neighbours.proofs.Beside.{bits, end_inside, parent_before, flat}
-use Rattle.neighbours.proofs.Runs.{block_whole}
+use Rattle.neighbours.specs.declared.subspaces.Subspace.{Subspace}
+use Rattle.neighbours.specs.Steps.{sparse_of, Below}
+use Rattle.neighbours.proofs.Seeing.{Seen, seen}
+use Rattle.neighbours.proofs.Beside.{end_inside, parent_before, flat}
 use Rattle.lists.specs.Lists.{between, stepped_at, stepped_between, list_worked}
-use Rattle.lists.specs.Steps.{OnAxis, RunStepped, Stepped}
+use Rattle.lists.specs.Steps.{OnAxis, Within, RunStepped, Stepped, Workable, BlockAt}
 use Rattle.lists.proofs.Between.{between_low, between_inside, between_high}
 use Rattle.lists.proofs.Joining.{none_stepped, stepped_few, run_joins, part_joins}
 use Rattle.lists.proofs.Blocks.{table_small}
@@ -104,47 +105,76 @@ flat_stepped {v} s level ahead xs =
 
 -- ---- block after block
 
--- The blocks before number `first` are done; there are `beyond` of them.
-pub record BlocksDone (ahead : Bool) (v : Subspace) (beyond first : ℕ) (xs : List ℤ) (k : ℕ) (ys : List ℤ) : Type 0 where
-  pub place : first ≡ v.start + beyond * 2 ^ (v.low + v.own)
-  pub inside : first ≤ v.end
-  pub stepped : Stepped ahead (sparse_of v.line) v.line.place v.start first xs k ys
+-- The first point of a block, and how many blocks there are.
+abbrev pub block_at : Subspace → ℕ → ℕ
+block_at v beyond = v.start + beyond * 2 ^ (v.low + v.own)
 
-module _ {v : Subspace} {xs : List ℤ} (s : Seen v) (on : OnAxis (sparse_of v.line) v.line.place xs) where
-  -- The number of points of a block, as the code computes it: no bit is lost.
-  size_is_lem : 1 * 2 ^ (v.low + v.own) % 2 ^ 64 ≡ 2 ^ (v.low + v.own)
-  size_is_lem = one_shifted 64 (v.low + v.own) (omega (arith, bits s))
+abbrev pub blocks_of : Subspace → ℕ
+blocks_of v = 1 * 2 ^ (v.sum - (v.low + v.own)) % 2 ^ 64
 
-  list_small : v.end < 2 ^ 32
-  list_small = omega (arith, end_inside s, on.long, table_small v.line xs on)
+module _ (v : Subspace) where
+  pub bits_within : v.low + v.own ≤ v.sum
+  bits_within =
+      omega (
+        arith,
+        v.before,
+        v.there,
+        v.vector.total,
+        sum_to_suc (at v.levels) v.line.place,
+        sum_to_mono (at v.levels) (suc v.line.place) v.line.axes v.line.axis,
+      )
 
-  blocks_few : {ahead : Bool} {beyond first k : ℕ} {ys : List ℤ} → BlocksDone ahead v beyond first xs k ys → k ≤ 2 ^ 33
-  blocks_few done = omega (arith, stepped_few done.stepped, done.inside, list_small)
+  blocks_whole : blocks_of v * 2 ^ (v.low + v.own) ≡ 2 ^ v.sum
+  blocks_whole =
+      let rest : ℕ = v.sum - (v.low + v.own) in
+      let all : rest + (v.low + v.own) ≡ v.sum = omega (arith, bits_within) in
+      ap (λ (n : ℕ). n * 2 ^ (v.low + v.own)) (one_shifted 64 rest (omega (arith, v.inside, v.line.top)))
+      ∙ sym (pow-add 2 rest (v.low + v.own))
+      ∙ ap (λ (n : ℕ). 2 ^ n) all
 
-  module _ {ahead : Bool} {beyond first k : ℕ} {ys : List ℤ} (done : BlocksDone ahead v beyond first xs k ys) (more : first < v.end) where
-    abbrev size : ℕ
-    size = 1 * 2 ^ (v.low + v.own) % 2 ^ 64
+  -- After the last block the list ends.
+  pub last_block : block_at v (blocks_of v) ≡ v.end
+  last_block = omega (arith, blocks_whole, v.after)
 
-    block_inside : first + 2 ^ (v.low + v.own) ≤ v.end
-    block_inside = omega (arith, done.place, block_whole s beyond (omega (arith, done.place, more)))
+  module _ (beyond : ℕ) (more : beyond < blocks_of v) where
+    next_within : block_at v (suc beyond) ≤ v.end
+    next_within = omega (arith, mul-le-mul_right {m = suc beyond} {n = blocks_of v} (2 ^ (v.low + v.own)) more, blocks_whole, v.after)
 
-    pub next_small : first + size < 2 ^ 32
-    next_small = omega (arith, size_is_lem, block_inside, list_small)
+    pub block_there : BlockAt v (block_at v beyond) beyond
+    block_there = record { first = refl; inside = omega (arith, next_within, pow_pos (v.low + v.own)) }
 
-    pub next_nearer : v.end - (first + size) < v.end - first
-    next_nearer = omega (arith, size_is_lem, pow_pos (v.low + v.own), more)
+    -- Its first point, as the code has it: no bit is lost.
+    pub shift_exact : beyond * 2 ^ (v.low + v.own) % 2 ^ 64 ≡ beyond * 2 ^ (v.low + v.own)
+    shift_exact =
+        let small : 2 ^ v.sum ≤ 2 ^ 8 = pow_mono {i = v.sum} {j = 8} (omega (arith, v.inside, v.line.top)) in
+        mod-eq_of_lt (omega (arith, next_within, v.after, small, pow_pos (v.low + v.own)))
 
-    module _ {k' : ℕ} {zs : List ℤ} (next : Stepped ahead (sparse_of v.line) v.line.place first (first + 2 ^ (v.low + v.own)) ys k' zs) where
-      pub next_done : BlocksDone ahead v (beyond + 1) (first + size) xs (k + k') zs
-      next_done =
-          record {
-            place = omega (arith, done.place, size_is_lem);
-            inside = omega (arith, size_is_lem, block_inside);
-            stepped =
-                rw size_is_lem
-                (part_joins done.stepped (omega (arith, done.place)) (omega arith) next
-                (λ p from to b. list_before s p (omega (arith, done.place)) (omega (arith, block_inside)) b));
-          }
+    module _ {xs : List ℤ} (on : OnAxis (sparse_of v.line) v.line.place xs) where
+      list_small : v.end < 2 ^ 32
+      list_small = omega (arith, end_inside (seen v), on.long, table_small v.line xs on)
 
-      pub next_few : k + k' ≤ 2 ^ 33
-      next_few = blocks_few next_done
+      pub block_small : block_at v beyond < 2 ^ 32
+      block_small = omega (arith, next_within, list_small)
+
+      module _ {ahead : Bool} {k : ℕ} {ys : List ℤ} (done : Stepped ahead (sparse_of v.line) v.line.place v.start (block_at v beyond) xs k ys) where
+        -- What the next block asks.
+        pub workable : {starts : List ℕ} → Below v starts → 1 ≤ v.own → Within (2 ^ 60) xs → Workable v starts (block_at v beyond) ys
+        workable below moves within =
+            record {
+              below = below;
+              moves = moves;
+              axis = record { few = on.few; low = on.low; place = on.place; long = done.long ∙ on.long };
+              room = λ p outside. omega (arith, ap nat_abs (done.off p outside), within (suc p));
+            }
+
+        module _ {k' : ℕ} {zs : List ℤ} (next : Stepped ahead (sparse_of v.line) v.line.place (block_at v beyond) (block_at v beyond + 2 ^ (v.low + v.own)) ys k' zs) where
+          pub next_done : Stepped ahead (sparse_of v.line) v.line.place v.start (block_at v (beyond + 1)) xs (k + k') zs
+          next_done =
+              let end : block_at v beyond + 2 ^ (v.low + v.own) ≡ block_at v (beyond + 1) = omega arith in
+              rw end at (part_joins done (omega arith) (omega arith) next
+              (λ p from to b. list_before (seen v) p (omega arith) (omega (arith, next_within)) b))
+
+          pub next_few : k + k' ≤ 2 ^ 33
+          next_few =
+              let end : block_at v (beyond + 1) ≡ block_at v (suc beyond) = omega arith in
+              omega (arith, stepped_few next_done, end, next_within, list_small)

@@ -6,7 +6,7 @@ use mathlib.Core.Logic.{inl, inr, ⊎_elim}
 use mathlib.Core.Bool.{Bool}
 use mathlib.Core.List.{List}
 use Prim.Native.Nat.{ℕ, suc, ◌+◌, ◌*◌, ◌^◌, ◌≤◌, ◌<◌}
-use native.Mathlib.Nat.{suc_inj, add-zero, zero-add}
+use native.Mathlib.Nat.{suc_inj}
 use native.Mathlib.Numerals.{add-one}
 use native.Mathlib.Omega.{arith}
 use lib.IntN.{ℤ, pos, nat_abs, ◌+ℤ◌}
@@ -105,11 +105,3 @@ module _ {ahead : Bool} {x : ℕ} {sum : ℕ → ℤ} {xs : List ℤ} where
     pair_read w a b a_before b_before a_room b_room h =
         ap₂ (λ (v u : ℤ). to_z w64 (of_z w64 (v +ℤ u))) (behind_read w a a_before a_room h) (behind_read w b b_before b_room h)
         ∙ sum_is (value_in xs a i) (value_in xs b i) (a_room i h) (b_room i h)
-
--- A run of one point.
-pub run_of_one : {ahead : Bool} {x : ℕ} {s : ℤ} {xs : List ℤ} (v : ℤ) → x < length xs → v ≡ stepped ahead (value_at xs (suc x)) s →
-    RunStepped ahead x 1 (λ i. s) xs (odd_of s) (set xs x v)
-run_of_one {ahead} {x} {s} {xs} v inside step =
-    let one : RunStepped ahead x 1 (λ i. s) xs (0 + odd_of s) (set xs (x + 0) v)
-    = run_steps run_starts (odd_of s) v (omega (arith, inside)) refl (rw add-zero step) in
-    rw (zero-add, add-zero) at one

@@ -14,8 +14,9 @@ use Rattle.numbering.specs.declared.Side.TheVariants.{Left, Right}
 use Rattle.numbering.specs.Point.{at}
 use Rattle.hierarchy.specs.Turns.{sum_on}
 use Rattle.grids.specs.Grids.{neighbour}
-use Rattle.neighbours.specs.declared.Subspace.{Subspace}
-use Rattle.neighbours.specs.Steps.{sparse_of, Seen, Below, code_from, number_in}
+use Rattle.neighbours.specs.declared.subspaces.Subspace.{Subspace}
+use Rattle.neighbours.specs.Steps.{sparse_of, Below, code_from, number_in}
+use Rattle.neighbours.proofs.Seeing.{Seen}
 use Rattle.neighbours.proofs.Beside.{inner, parent_before}
 use Rattle.neighbours.proofs.Runs.{run_left, run_right, code_along, code_near, code_at_start, code_at_end, block_whole}
 use Rattle.lists.specs.Steps.{BlockAt}

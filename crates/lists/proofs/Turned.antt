@@ -22,8 +22,9 @@ use Rattle.shapes.specs.Shapes.{points_of}
 use Rattle.grids.specs.Grids.{neighbour, depth, height}
 use Rattle.grids.proofs.Instance.{grid, shallow}
 use Rattle.grids.proofs.Turned.{turned_holds, former_holds}
-use Rattle.neighbours.specs.declared.Subspace.{Subspace}
-use Rattle.neighbours.specs.Steps.{sparse_of, Seen}
+use Rattle.neighbours.specs.declared.subspaces.Subspace.{Subspace}
+use Rattle.neighbours.specs.Steps.{sparse_of}
+use Rattle.neighbours.proofs.Seeing.{Seen}
 use Rattle.neighbours.proofs.Beside.{end_inside}
 use Rattle.lists.specs.Lists.{whole_turn, between, came_to, ListTurned}
 use Rattle.lists.specs.Steps.{Stepped}

@@ -6,8 +6,8 @@ use Rattle.integers.specs.Half.{odd_of, stepped}
 use Rattle.hierarchy.specs.Turns.{value_at}
 use Rattle.shapes.specs.declared.Shape.{Shape}
 use Rattle.shapes.specs.Shapes.{points_of}
-use Rattle.neighbours.specs.declared.Subspace.{Subspace}
-use Rattle.neighbours.specs.Steps.{sparse_of, Seen, Below}
+use Rattle.neighbours.specs.declared.subspaces.Subspace.{Subspace}
+use Rattle.neighbours.specs.Steps.{sparse_of, Below}
 use Rattle.lists.specs.Lists.{odd_sums, stepped_at}
 
 -- Place t of a shape within the limits, and a table of its points.
@@ -47,7 +47,6 @@ pub record Stepped (ahead : Bool) (s : Shape) (t lo hi : ℕ) (xs : List ℤ) (k
 -- A level vector that moves on the axis, with the first numbers of those below it, and a table in which its points before number x may have moved: at the
 -- others and at the points before it, where their parents are, there is room for a step.
 pub record Workable (v : Subspace) (starts : List ℕ) (x : ℕ) (xs : List ℤ) : Type 0 where
-  pub seen : Seen v
   pub below : Below v starts
   pub moves : 1 ≤ v.own
   pub axis : OnAxis (sparse_of v.line) v.line.place xs

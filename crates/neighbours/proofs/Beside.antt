@@ -30,8 +30,9 @@ use Rattle.shapes.proofs.Totals.{start_small}
 use Rattle.grids.specs.Grids.{level_on, index_on, neighbour}
 use Rattle.grids.proofs.Sparse.{points_sparse, number_sparse, levels_sparse, indices_sparse}
 use Rattle.grids.proofs.Beside.{numerator_on, to_border, to_parent}
-use Rattle.neighbours.specs.declared.Subspace.{Subspace}
-use Rattle.neighbours.specs.Steps.{sparse_of, Seen, Below, code_from}
+use Rattle.neighbours.specs.declared.subspaces.Subspace.{Subspace}
+use Rattle.neighbours.specs.Steps.{sparse_of, Below, code_from}
+use Rattle.neighbours.proofs.Seeing.{Seen}
 
 -- The two cases of a code.
 pub code_at_border : (v : Subspace) (starts : List ℕ) (before beyond m : ℕ) → is_border v.own m ≡ true → code_from v starts before beyond m ≡ 0

@@ -11,8 +11,9 @@ use Rattle.std.proofs.Common.{Fits, w64}
 use Rattle.numbering.specs.Point.{at}
 use Rattle.numbering.specs.Parent.{twos, parent_level, parent_index}
 use Rattle.numbering.proofs.Parents.{Inside, twos_pos, twos_le, index_odd_up, index_below_up}
-use Rattle.neighbours.specs.declared.Subspace.{Subspace}
-use Rattle.neighbours.specs.Steps.{Seen, code_from}
+use Rattle.neighbours.specs.declared.subspaces.Subspace.{Subspace}
+use Rattle.neighbours.specs.Steps.{code_from}
+use Rattle.neighbours.proofs.Seeing.{Seen}
 use Rattle.neighbours.proofs.Beside.{code_inside, inner, bits}
 
 -- ---- within the width

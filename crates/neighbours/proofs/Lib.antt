@@ -1,4 +1,4 @@
+pub mod Seeing
 pub mod Beside
 pub mod Runs
 pub mod Coding
-pub mod Seeing

@@ -17,8 +17,9 @@ use Rattle.numbering.specs.Point.{at}
 use Rattle.numbering.specs.Parent.{is_border, twos, parent_level, parent_index}
 use Rattle.numbering.proofs.Parents.{border_low, border_high, Inside, index_times, twos_pos}
 use Rattle.grids.specs.Grids.{neighbour}
-use Rattle.neighbours.specs.declared.Subspace.{Subspace}
-use Rattle.neighbours.specs.Steps.{sparse_of, Seen, Below, code_from, number_in}
+use Rattle.neighbours.specs.declared.subspaces.Subspace.{Subspace}
+use Rattle.neighbours.specs.Steps.{sparse_of, Below, code_from, number_in}
+use Rattle.neighbours.proofs.Seeing.{Seen}
 use Rattle.neighbours.proofs.Beside.{code_at_border, code_inside, inner, own_digit, beyond_of, left_code, right_code}
 
 -- ---- every second numerator

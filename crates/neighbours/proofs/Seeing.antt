@@ -1,7 +1,8 @@
--- A level vector for a turn on an axis, as `subspace_on` puts it together: its first number is handed in, and it has 2^(level sum) points.
+-- What is known of a level vector that a turn meets, in the form that the other laws take; and one as `Subspace::on` puts it together: its first number is
+-- handed in, and it has 2^(level sum) points.
 -- Assumes nothing.
 use mathlib.Core.List.{List}
-use mathlib.Core.Path.{◌≡◌, refl, ap}
+use mathlib.Core.Path.{◌≡◌, ap}
 use Prim.Native.Nat.{ℕ, suc, ◌+◌, ◌*◌, ◌%◌, ◌^◌, ◌≤◌, ◌<◌}
 use native.Mathlib.Omega.{arith}
 use lib.Pow.{pow_pos, pow_mono}
@@ -14,12 +15,40 @@ use Rattle.numbering.proofs.Numbering.{points_is}
 use Rattle.numbering.proofs.Subspaces.{block_below}
 use Rattle.shapes.proofs.Totals.{start_small}
 use Rattle.vectors.specs.Steps.{VectorIn}
-use Rattle.neighbours.specs.Steps.{Seen}
+use Rattle.neighbours.specs.declared.subspaces.Line.{Line}
+use Rattle.neighbours.specs.declared.subspaces.Subspace.{Subspace}
 
-module _ (d n t sum : ℕ) (ls : List ℕ) (start : ℕ) (few : d ≤ 8) (top : n ≤ 8) (axis : t < d) (vector : VectorIn d sum ls) (low : sum ≤ n)
-    (first : start ≡ first_of d (at ls)) where
-  pub before_small : sum_to (at ls) t ≤ 8
-  before_small = omega (arith, vector.total, sum_to_mono (at ls) t d (omega arith))
+-- A level vector of the shape, with nothing past its axes, and its numbers are right: those of its points, its level sum before the axis and its level
+-- there.
+pub record Seen (v : Subspace) : Type 0 where
+  pub few : v.line.axes ≤ 8
+  pub top : v.line.level ≤ 8
+  pub axis : v.line.place < v.line.axes
+  pub rest : (u : ℕ) → v.line.axes ≤ u → at v.levels u ≡ 0
+  pub sum : sum_to (at v.levels) v.line.axes ≤ v.line.level
+  pub start : v.start ≡ first_of v.line.axes (at v.levels)
+  pub end : v.end ≡ first_of v.line.axes (at v.levels) + 2 ^ sum_to (at v.levels) v.line.axes
+  pub low : v.low ≡ sum_to (at v.levels) v.line.place
+  pub own : v.own ≡ at v.levels v.line.place
+
+pub seen : (v : Subspace) → Seen v
+seen v =
+    record {
+      few = v.line.few;
+      top = v.line.top;
+      axis = v.line.axis;
+      rest = v.vector.rest;
+      sum = omega (arith, v.vector.total, v.inside);
+      start = v.first;
+      end = omega (arith, v.after, v.first, ap (λ (s : ℕ). 2 ^ s) v.vector.total);
+      low = v.before;
+      own = v.there;
+    }
+
+module _ (line : Line) (sum : ℕ) (ls : List ℕ) (start : ℕ) (vector : VectorIn line.axes sum ls) (low : sum ≤ line.level)
+    (first : start ≡ first_of line.axes (at ls)) where
+  pub before_small : sum_to (at ls) line.place ≤ 8
+  before_small = omega (arith, vector.total, line.top, sum_to_mono (at ls) line.place line.axes (omega (arith, line.axis)))
 
   -- The end is small, since the level vector lies within the table.
   pub end_small : start + 1 * 2 ^ sum % 2 ^ 64 < 2 ^ 33
@@ -27,33 +56,13 @@ module _ (d n t sum : ℕ) (ls : List ℕ) (start : ℕ) (few : d ≤ 8) (top : 
       omega (
         arith,
         first,
-        one_shifted 64 sum (omega arith),
-        pow_mono {i = sum} {j = 8} (omega arith),
-        block_below d n (at ls) vector.rest (omega (arith, vector.total)) 0 (pow_pos (sum_to (at ls) d)),
-        points_is d n,
-        start_small d (omega arith) few (suc n) (omega arith),
+        line.top,
+        one_shifted 64 sum (omega (arith, line.top)),
+        pow_mono {i = sum} {j = 8} (omega (arith, line.top)),
+        block_below line.axes line.level (at ls) vector.rest (omega (arith, vector.total)) 0 (pow_pos (sum_to (at ls) line.axes)),
+        points_is line.axes line.level,
+        start_small line.axes (omega (arith, line.axis)) line.few (suc line.level) (omega (arith, line.top)),
       )
 
-  module _ (before : ℕ) (before_is : before ≡ sum_to (at ls) t) where
-    pub seen :
-        Seen (record {
-          line = record { axes = d; level = n; place = t };
-          levels = ls;
-          start = start;
-          end = start + 1 * 2 ^ sum % 2 ^ 64;
-          low = before;
-          own = at ls t;
-        })
-    seen =
-        record {
-          few = few;
-          top = top;
-          axis = axis;
-          long = vector.long;
-          rest = vector.rest;
-          sum = omega (arith, vector.total);
-          start = first;
-          end = omega (arith, first, one_shifted 64 sum (omega arith), ap (λ (s : ℕ). 2 ^ s) vector.total);
-          low = before_is;
-          own = refl;
-        }
+  pub end_is : start + 1 * 2 ^ sum % 2 ^ 64 ≡ start + 2 ^ sum
+  end_is = omega (arith, one_shifted 64 sum (omega (arith, low, line.top)))

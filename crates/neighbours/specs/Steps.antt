@@ -1,32 +1,17 @@
 -- A level vector as a turn on an axis meets it, the numbers of its points, and the codes of their parents.
 -- Assumes nothing.
-use Rattle.std.specs.Prelude.{List, ◌≡◌, ℕ, suc, ◌+◌, ◌-◌, ◌*◌, ◌/◌, ◌^◌, ◌≤◌, ◌<◌, length, if◌then◌else◌}
-use Rattle.naturals.specs.Sum.{sum_to}
+use Rattle.std.specs.Prelude.{List, ◌≡◌, ℕ, suc, ◌+◌, ◌-◌, ◌*◌, ◌/◌, ◌^◌, ◌≤◌, length, if◌then◌else◌}
 use Rattle.numbering.specs.Point.{at}
 use Rattle.numbering.specs.Number.{first_of}
 use Rattle.numbering.specs.Parent.{is_border, twos, parent_level, parent_index, update}
 use Rattle.shapes.specs.declared.Shape.{Shape}
 use Rattle.shapes.specs.Shapes.{sparse}
-use Rattle.neighbours.specs.declared.Line.{Line}
-use Rattle.neighbours.specs.declared.Subspace.{Subspace}
+use Rattle.neighbours.specs.declared.subspaces.Line.{Line}
+use Rattle.neighbours.specs.declared.subspaces.Subspace.{Subspace}
 
 -- The sparse table that a line lies in.
 abbrev pub sparse_of : Line → Shape
 sparse_of line = sparse line.axes line.level
-
--- A level vector of the shape, with nothing past its axes, and its numbers are right: those of its points, its level sum before the axis and its level
--- there.
-pub record Seen (v : Subspace) : Type 0 where
-  pub few : v.line.axes ≤ 8
-  pub top : v.line.level ≤ 8
-  pub axis : v.line.place < v.line.axes
-  pub long : length v.levels ≡ 8
-  pub rest : (u : ℕ) → v.line.axes ≤ u → at v.levels u ≡ 0
-  pub sum : sum_to (at v.levels) v.line.axes ≤ v.line.level
-  pub start : v.start ≡ first_of v.line.axes (at v.levels)
-  pub end : v.end ≡ first_of v.line.axes (at v.levels) + 2 ^ sum_to (at v.levels) v.line.axes
-  pub low : v.low ≡ sum_to (at v.levels) v.line.place
-  pub own : v.own ≡ at v.levels v.line.place
 
 -- A list with, for each j from 1 to the level on the axis, the first number of the level vector that is lower by j there and elsewhere has the same levels.
 -- Other places are not read.

@@ -11,7 +11,7 @@ use Rattle.naturals.proofs.Summed.{Summed, summed_starts, summed_steps, summed_s
 use Rattle.numbering.specs.Count.{vectors}
 use Rattle.numbering.specs.Number.{rank}
 use Rattle.numbering.proofs.Vectors.{vectors_more}
-use Rattle.numbering.proofs.Rank.{rank_zero, rank_step, rank_lt}
+use Rattle.numbering.proofs.Rank.{rank_zero, rank_suc, rank_step, rank_lt}
 use Rattle.shapes.proofs.Totals.{vectors_small}
 
 pub record Ranked (l : ℕ → ℕ) (d t r sum : ℕ) : Type 0 where
@@ -36,12 +36,12 @@ module _ {l : ℕ → ℕ} {d t r sum : ℕ} (ranked : Ranked l d t r sum) (h : 
       )
 
   -- the code's difference is one of natural numbers
-  pub ranked_sub : b ≤ r + a
-  ranked_sub = omega (arith, turned)
+  pub ranked_sub : b ≤ a
+  ranked_sub = omega (arith, turned, ranked.ranks, rank_suc l t)
 
-  pub ranked_steps : Ranked l d (t + 1) (r + a - b) (sum + l t)
+  pub ranked_steps : Ranked l d (t + 1) (r + (a - b)) (sum + l t)
   ranked_steps =
-      record { sums = summed_steps ranked.sums h; ranks = rw add-one (omega (arith, turned)) }
+      record { sums = summed_steps ranked.sums h; ranks = rw add-one (omega (arith, turned, ranked_sub)) }
 
 -- the code's sum fits
 pub ranked_fits : {l : ℕ → ℕ} {d t r sum : ℕ} → Ranked l d t r sum → t < d → d ≤ 8 → sum_to l d ≤ 8 → (a : ℕ) →

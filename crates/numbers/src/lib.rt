@@ -1,44 +1,34 @@
 // The number of a point, and the point of a number.
 #![tactic(auto)]
 
-ghost use Rattle.std.specs.Prelude.{◌≡◌, suc, ◌%◌, ◌^◌, ◌≤◌, ◌<◌};
+ghost use Rattle.std.specs.Prelude.{◌≡◌, ℕ, suc, ◌%◌, ◌^◌, ◌≤◌, ◌<◌};
 ghost use Rattle.naturals.specs.Sum.{sum_to};
 ghost use Rattle.numbering.specs.Count.{vectors, shell, points};
 ghost use Rattle.numbering.specs.Point.{at, IsPoint};
 ghost use Rattle.numbering.specs.Number.{first_of, number, rank, position, ending};
 ghost use Rattle.numbering.specs.Inverse.{level_of, sum_at, within, level_at};
 ghost use Rattle.shapes.specs.Shapes.{sparse};
-ghost use Rattle.shapes.specs.Rows.{Binomials};
 ghost use Rattle.points.specs.Points.{eight, point_at};
 ghost use Rattle.numbers.specs.Numbers.{number_of_point, point_of_number};
-ghost use Rattle.numbers.specs.Steps.{Lies, indices_of};
+ghost use Rattle.numbers.specs.Steps.{Lies, Sizes, indices_of};
 
-use points::{Located, Outcome, Point};
-use refusals::{Refusal, Verdict};
-use shapes::Shape;
-
-#[derive(Clone, Copy)]
-pub enum Numbered {
-    At(u64),
-    Refused(Refusal),
-}
+use points::Point;
+use refusals::Refusal;
+use shapes::{Rows, Shape};
 
 // ---- from point to number
 
 // The rank of a level vector: two entries of the table for each axis.
-fn vector_rank(rows: &[[u16; 9]; 8], axes: usize, levels: [u32; 8]) -> u64
-    requires { Binomials rows.now × (axes ≤ 8) × (sum_to (at levels) axes ≤ 8) }
+fn vector_rank(rows: &Rows, axes: u32, levels: [u32; 8]) -> u64
+    requires { (axes ≤ 8) × (sum_to (at levels) axes ≤ 8) }
     ensures { result ≡ rank (at levels) axes }
 {
     let mut rank: u64 = 0;
     let mut sum: u32 = 0;
-    let mut t: usize = 0;
-    while t < axes {
-        let next = sum + levels[t];
-        let row = t as u32 + 1;
-        rank = rank + shapes::vector_count(rows, row, next) - shapes::vector_count(rows, row, sum);
+    for t in 0..axes {
+        let next = sum + levels[t as usize];
+        rank += rows.vectors(t + 1, next) - rows.vectors(t + 1, sum);
         sum = next;
-        t += 1;
     }
     rank
 }
@@ -50,13 +40,11 @@ fn position_at(axes: usize, p: Point) -> u64
 {
     let mut position: u64 = 0;
     let mut sum: u32 = 0;
-    let mut t: usize = 0;
-    while t < axes {
+    for t in 0..axes {
         let half = (p.indices[t] - 1) / 2;
         let bits = p.levels[t];
-        position += (half as u64) << sum;
+        position += u64::from(half) << sum;
         sum += bits;
-        t += 1;
     }
     position
 }
@@ -66,11 +54,10 @@ pub fn first_of(axes: u32, levels: [u32; 8]) -> u64
     requires { (1 ≤ axes) × (axes ≤ 8) × (sum_to (at levels) axes ≤ 8) }
     ensures { result ≡ first_of axes (at levels) }
 {
-    let rows = shapes::rows();
-    let count = axes as usize;
-    let sum = vectors::level_sum(count, &levels);
-    let rank = vector_rank(&rows, count, levels);
-    shapes::start_of(&rows, axes, sum) + (rank << sum)
+    let rows = Rows::new();
+    let sum = vectors::level_sum(axes as usize, &levels);
+    let rank = vector_rank(&rows, axes, levels);
+    rows.start(axes, sum) + (rank << sum)
 }
 
 // The number of a point of these axes, whose levels sum to at most 8.
@@ -78,86 +65,49 @@ fn number_at(axes: u32, p: Point) -> u64
     requires { (1 ≤ axes) × (axes ≤ 8) × IsPoint axes 8 (at p.levels) (at p.indices) }
     ensures { result ≡ number axes (at p.levels) (at p.indices) }
 {
-    let levels = p.levels;
-    first_of(axes, levels) + position_at(axes as usize, p)
+    first_of(axes, p.levels) + position_at(axes as usize, p)
 }
 
 // The number of a point.
-pub fn number_of_point(shape: Shape, levels: &[u32], indices: &[u32]) -> Numbered
+#[tactic(auto, using(points::proofs::Handed::turned_away), unfolding(crate::specs::Numbers::number_of_point))]
+pub fn number_of_point(shape: Shape, levels: &[u32], indices: &[u32]) -> Result<u64, Refusal>
     ensures { result ≡ number_of_point shape levels.now indices.now }
 {
-    let given = points::point_from(shape, levels, indices);
-    let verdict = given.verdict;
-    match verdict {
-        Verdict::Refused(r) => Numbered::Refused(r),
-        Verdict::Passed => Numbered::At(number_at(shape.axes, given.point)),
-    }
+    let p = points::point_from(shape, levels, indices)?;
+    Ok(number_at(shape.axes, p))
 }
 
 // ---- from number to point
 
-// Where something lies among blocks: the block, and how much of it comes before.
-#[derive(Clone, Copy)]
-struct Place {
-    block: u32,
-    rest: u64,
-}
-
-// The level sum of a point number, and how many points of that sum come before it. The search ends by the top level, which the code does not read.
-fn shell_of(rows: &[[u16; 9]; 8], axes: u32, level: u32, number: u64) -> Place
-    requires { Binomials rows.now × (1 ≤ axes) × (axes ≤ 8) × (level ≤ 8) × (number < points axes level) }
-    ensures { Lies (shell axes) level number result.block result.rest }
+// Where a place lies among blocks 0 to `last` of these sizes: the block, and how many places of it come before.
+fn block_at<F: Fn(u32) -> u64>(last: u32, place: u64, size: F) -> (u32, u64)
+    requires { (j : ℕ) → j < last → F.pre size j }
+    ensures { (f : ℕ → ℕ) → Sizes (F.post size) last f → place < sum_to f (suc last) → Lies f last place result.0 result.1 }
 {
-    let mut sum: u32 = 0;
-    let mut rest = number;
-    loop {
-        let size = shapes::vector_count(rows, axes, sum) << sum;
-        if rest < size {
-            return Place {
-                block: sum,
-                rest: rest,
-            };
+    let mut rest = place;
+    for block in 0..last {
+        let places = size(block);
+        if rest < places {
+            return (block, rest);
         }
-        rest -= size;
-        sum += 1;
+        rest -= places;
     }
-}
-
-// The last level of the level vector of axes + 1 axes with this rank and level sum, and the rank of its other levels.
-fn last_level(rows: &[[u16; 9]; 8], axes: u32, sum: u32, rank: u64) -> Place
-    requires { Binomials rows.now × (1 ≤ axes) × (axes ≤ 8) × (sum ≤ 8) × (rank < vectors (suc axes) sum) }
-    ensures { Lies (ending axes sum) sum rank result.block result.rest }
-{
-    let mut level: u32 = 0;
-    let mut rest = rank;
-    loop {
-        let size = shapes::vector_count(rows, axes, sum - level);
-        if rest < size {
-            return Place {
-                block: level,
-                rest: rest,
-            };
-        }
-        rest -= size;
-        level += 1;
-    }
+    (last, rest)
 }
 
 // The level vector of this rank and level sum, from the last axis down.
-fn levels_of(rows: &[[u16; 9]; 8], axes: u32, sum: u32, rank: u64) -> [u32; 8]
-    requires { Binomials rows.now × (1 ≤ axes) × (axes ≤ 8) × (sum ≤ 8) × (rank < vectors axes sum) }
+fn levels_of(rows: &Rows, axes: u32, sum: u32, rank: u64) -> [u32; 8]
+    requires { (1 ≤ axes) × (axes ≤ 8) × (sum ≤ 8) × (rank < vectors axes sum) }
     ensures { result ≡ eight (level_of axes sum rank) }
 {
     let mut levels = [0u32; 8];
-    let mut k = axes;
     let mut left = sum;
     let mut rest = rank;
-    while 1 < k {
-        k -= 1;
-        let place = last_level(rows, k, left, rest);
-        levels[k as usize] = place.block;
-        left -= place.block;
-        rest = place.rest;
+    for k in (1..axes).rev() {
+        let (level, before) = block_at(left, rest, |level| rows.vectors(k, left - level));
+        levels[k as usize] = level;
+        left -= level;
+        rest = before;
     }
     levels[0] = left;
     levels
@@ -168,7 +118,7 @@ pub fn low_bits(x: u64, bits: u32) -> u64
     requires { bits ≤ 8 }
     ensures { result ≡ x % 2 ^ bits }
 {
-    x - ((x >> bits) << bits)
+    x % (1 << bits)
 }
 
 // The indices at a position among the points of a level vector: the digits of the position, axis 1 lowest, l_t bits for axis t.
@@ -178,18 +128,17 @@ fn indices_of(axes: u32, levels: [u32; 8], position: u64) -> [u32; 8]
 {
     let mut indices = [0u32; 8];
     let mut rest = position;
-    let mut t: usize = 0;
-    while t < axes as usize {
+    for t in 0..axes as usize {
         let bits = levels[t];
         let digit = low_bits(rest, bits);
         indices[t] = (2 * digit + 1) as u32;
-        rest = rest >> bits;
-        t += 1;
+        rest >>= bits;
     }
     indices
 }
 
-// The level vector that a point lies in: its level sum, its levels, and how many points of it come before the point.
+// The level vector that a point lies in: its level sum, its levels, and how many points of it come before the point. (A struct, since two of the three are
+// plain numbers.)
 #[derive(Clone, Copy)]
 pub struct Placed {
     pub sum: u32,
@@ -202,14 +151,11 @@ pub fn vector_at(axes: u32, level: u32, number: u64) -> Placed
     requires { (1 ≤ axes) × (axes ≤ 8) × (level ≤ 8) × (number < points axes level) }
     ensures { (result.sum ≡ sum_at axes level number) × (result.levels ≡ eight (level_at axes level number)) × (result.position ≡ within axes level number % 2 ^ sum_at axes level number) }
 {
-    let rows = shapes::rows();
-    let place = shell_of(&rows, axes, level, number);
-    let sum = place.block;
-    let rest = place.rest;
-    let levels = levels_of(&rows, axes, sum, rest >> sum);
+    let rows = Rows::new();
+    let (sum, rest) = block_at(level, number, |sum| rows.vectors(axes, sum) << sum);
     Placed {
-        sum: sum,
-        levels: levels,
+        sum,
+        levels: levels_of(&rows, axes, sum, rest >> sum),
         position: low_bits(rest, sum),
     }
 }
@@ -221,25 +167,20 @@ fn point_at(axes: u32, level: u32, number: u64) -> Point
 {
     let placed = vector_at(axes, level, number);
     let levels = placed.levels;
-    let indices = indices_of(axes, levels, placed.position);
     Point {
-        levels: levels,
-        indices: indices,
+        levels,
+        indices: indices_of(axes, levels, placed.position),
     }
 }
 
 // The point of a number.
-pub fn point_of_number(shape: Shape, number: u64) -> Located
+#[tactic(auto, unfolding(crate::specs::Numbers::point_of_number))]
+pub fn point_of_number(shape: Shape, number: u64) -> Result<Point, Refusal>
     ensures { result ≡ point_of_number shape number }
 {
-    if let Verdict::Refused(r) = shapes::check_shape(shape) {
-        return points::nowhere(Outcome::Refused(r));
-    }
+    shapes::check_shape(shape)?;
     if shapes::points_of(shape) <= number {
-        return points::nowhere(Outcome::Refused(Refusal::PointNumber));
+        return Err(Refusal::PointNumber);
     }
-    Located {
-        outcome: Outcome::Found,
-        point: point_at(shape.axes, shape.level, number),
-    }
+    Ok(point_at(shape.axes, shape.level, number))
 }

@@ -6,8 +6,6 @@ ghost use Rattle.house_writer.specs.Rewriting.{rewrite_file};
 ghost use Rattle.answers.specs.Returned.{returned};
 ghost use Rattle.answers.specs.Answers.{shape_of, of_reading, of_named, of_writing};
 
-use house_file::Opened;
-
 // A file's rates into the first places of the table, and its shape.
 #[unsafe(no_mangle)]
 pub extern "C" fn numolefays_read_house_file(
@@ -20,8 +18,8 @@ pub extern "C" fn numolefays_read_house_file(
     ensures { returned result place.new (axes.new, level.new, table.new) ≡ of_reading (axes.old, level.old) (read_file bytes.now table.old) }
 {
     match house_file::read(bytes, table) {
-        Opened::Refused(r) => answers::refuse(r, place),
-        Opened::Holds(shape) => {
+        Err(r) => answers::refuse(r, place),
+        Ok(shape) => {
             *axes = shape.axes;
             *level = shape.level;
             answers::succeed(place)
@@ -41,8 +39,8 @@ pub extern "C" fn numolefays_house_file_shape(
     ensures { returned result place.new (axes.new, level.new, points.new) ≡ of_named (axes.old, level.old, points.old) (shape_of_file bytes.now) }
 {
     match house_file::shape_of(bytes) {
-        Opened::Refused(r) => answers::refuse(r, place),
-        Opened::Holds(named) => {
+        Err(r) => answers::refuse(r, place),
+        Ok(named) => {
             *axes = named.axes;
             *level = named.level;
             *points = shapes::points_of(named);

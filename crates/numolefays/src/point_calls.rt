@@ -5,23 +5,15 @@ ghost use Rattle.numbers.specs.Numbers.{number_of_point, point_of_number};
 ghost use Rattle.successor.specs.Successor.{successor_of};
 ghost use Rattle.parents.specs.Parents.{parent_of};
 ghost use Rattle.answers.specs.Returned.{returned};
-ghost use Rattle.answers.specs.Answers.{shape_of, side_of, of_counted, of_numbered, of_point, of_located};
-
-use numbers::Numbered;
-use shapes::Counted;
+ghost use Rattle.answers.specs.Answers.{shape_of, side_of, of_value, of_point, of_located};
 
 // How many points the shape has.
 #[unsafe(no_mangle)]
 pub extern "C" fn numolefays_count(axes: u32, level: u32, points: &mut u64, place: &mut u64) -> u32
-    ensures { returned result place.new points.new ≡ of_counted points.old (counted (shape_of axes level)) }
+    ensures { returned result place.new points.new ≡ of_value points.old (counted (shape_of axes level)) }
 {
-    match shapes::count(answers::shape_of(axes, level)) {
-        Counted::Refused(r) => answers::refuse(r, place),
-        Counted::Points(count) => {
-            *points = count;
-            answers::succeed(place)
-        }
-    }
+    let answer = shapes::count(answers::shape_of(axes, level));
+    answers::hand(answer, points, place)
 }
 
 // The number of a point.
@@ -34,15 +26,10 @@ pub extern "C" fn numolefays_number_of_point(
     number: &mut u64,
     place: &mut u64,
 ) -> u32
-    ensures { returned result place.new number.new ≡ of_numbered number.old (number_of_point (shape_of axes level) levels.now indices.now) }
+    ensures { returned result place.new number.new ≡ of_value number.old (number_of_point (shape_of axes level) levels.now indices.now) }
 {
-    match numbers::number_of_point(answers::shape_of(axes, level), levels, indices) {
-        Numbered::Refused(r) => answers::refuse(r, place),
-        Numbered::At(p) => {
-            *number = p;
-            answers::succeed(place)
-        }
-    }
+    let answer = numbers::number_of_point(answers::shape_of(axes, level), levels, indices);
+    answers::hand(answer, number, place)
 }
 
 // The point of a number.
@@ -57,9 +44,8 @@ pub extern "C" fn numolefays_point_of_number(
 ) -> u32
     ensures { returned result place.new (levels.new, indices.new) ≡ of_point (levels.old, indices.old) (point_of_number (shape_of axes level) number) }
 {
-    let located = numbers::point_of_number(answers::shape_of(axes, level), number);
-    let mut none: u32 = 0;
-    answers::hand_point(located, levels, indices, &mut none, place)
+    let answer = numbers::point_of_number(answers::shape_of(axes, level), number);
+    answers::hand_point(answer, levels, indices, place)
 }
 
 // The successor of a point: `end` is 1 after the last point, else 0.
@@ -76,8 +62,8 @@ pub extern "C" fn numolefays_successor(
 ) -> u32
     ensures { returned result place.new (next_levels.new, next_indices.new, end.new) ≡ of_located (next_levels.old, next_indices.old, end.old) (successor_of (shape_of axes level) levels.now indices.now) }
 {
-    let located = successor::successor(answers::shape_of(axes, level), levels, indices);
-    answers::hand_point(located, next_levels, next_indices, end, place)
+    let answer = successor::successor(answers::shape_of(axes, level), levels, indices);
+    answers::hand_located(answer, next_levels, next_indices, end, place)
 }
 
 // The parent of a point on an axis, on side 0 the left one and else the right one: `border` is 1 where it is the border, else 0.
@@ -97,6 +83,6 @@ pub extern "C" fn numolefays_parent(
     ensures { returned result place.new (parent_levels.new, parent_indices.new, border.new) ≡ of_located (parent_levels.old, parent_indices.old, border.old) (parent_of (shape_of axes level) levels.now indices.now axis (side_of side)) }
 {
     let shape = answers::shape_of(axes, level);
-    let located = parents::parent(shape, levels, indices, axis, answers::side_of(side));
-    answers::hand_point(located, parent_levels, parent_indices, border, place)
+    let answer = parents::parent(shape, levels, indices, axis, answers::side_of(side));
+    answers::hand_located(answer, parent_levels, parent_indices, border, place)
 }

@@ -2,9 +2,7 @@
 ghost use Rattle.std.specs.Prelude.{◌≡◌};
 ghost use Rattle.estimates.specs.Estimates as surface;
 ghost use Rattle.answers.specs.Returned.{returned};
-ghost use Rattle.answers.specs.Answers.{state_of, of_estimated};
-
-use estimates::Estimated;
+ghost use Rattle.answers.specs.Answers.{state_of, of_value};
 
 // The estimate at a list of coordinates.
 #[unsafe(no_mangle)]
@@ -17,13 +15,8 @@ pub extern "C" fn numolefays_estimate(
     estimate: &mut i64,
     place: &mut u64,
 ) -> u32
-    ensures { returned result place.new estimate.new ≡ of_estimated estimate.old (surface.estimate (state_of axes level forward) table.now coordinates.now) }
+    ensures { returned result place.new estimate.new ≡ of_value estimate.old (surface.estimate (state_of axes level forward) table.now coordinates.now) }
 {
-    match estimates::estimate(answers::state_of(axes, level, forward), table, coordinates) {
-        Estimated::Refused(r) => answers::refuse(r, place),
-        Estimated::Value(value) => {
-            *estimate = value;
-            answers::succeed(place)
-        }
-    }
+    let answer = estimates::estimate(answers::state_of(axes, level, forward), table, coordinates);
+    answers::hand(answer, estimate, place)
 }

@@ -21,7 +21,7 @@ pub extern "C" fn numolefays_forward(
     answers::hand_state(answer, forward, place)
 }
 
-// Back on an axis.
+// Back on an axis. (C has a name for each direction.)
 #[unsafe(no_mangle)]
 pub extern "C" fn numolefays_back(
     axes: u32,

@@ -1,5 +1,6 @@
 -- A step along one axis as the code takes it: a place that is written in a list of eight is one axis changed.
 -- Assumes nothing.
+use Rattle.std.specs.Prelude.{Some}
 use mathlib.Core.Bool.{true, false}
 use mathlib.Core.List.{List}
 use mathlib.Core.Path.{◌≡◌, ap, sym, ◌∙◌}
@@ -12,7 +13,7 @@ use Rattle.numbering.specs.declared.Side.{Side}
 use Rattle.numbering.specs.Point.{at}
 use Rattle.numbering.specs.Parent.{numerator, is_border, parent_level, parent_index, update, border, parent}
 use Rattle.numbering.proofs.Parents.{update_same, update_other, parent_border, parent_inner}
-use Rattle.points.specs.Points.{eight, found}
+use Rattle.points.specs.Points.{eight}
 use Rattle.points.proofs.Eight.{eight_ext}
 use Rattle.parents.specs.Parents.{located}
 
@@ -31,7 +32,7 @@ module _ (t : ℕ) (side : Side) (ls is : List ℕ) (m : ℕ) (e : m ≡ numerat
   to_border there = ap located (sym (parent_border t side (at ls) (at is) (rw e at there)))
 
   pub to_parent : is_border (at ls t) m ≡ false → t < 8 → length ls ≡ 8 → length is ≡ 8 → (l i : ℕ) → l ≡ parent_level (at ls t) m → i ≡ parent_index m →
-      found (record { levels = set ls t l; indices = set is t i }) ≡ located (parent t side (at ls) (at is))
+      Some (record { levels = set ls t l; indices = set is t i }) ≡ located (parent t side (at ls) (at is))
   unfolding located
   to_parent inside h el ei l i level index =
       rw (parent_inner t side (at ls) (at is) (rw e at inside), ← e, level, index, written ls t (parent_level (at ls t) m) el h, written is t (parent_index m) ei h)

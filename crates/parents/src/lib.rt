@@ -2,15 +2,13 @@
 #![tactic(auto)]
 
 ghost use Rattle.std.specs.Prelude.{◌≡◌, ◌%◌, ◌^◌, ◌≤◌, ◌<◌, suc};
-ghost use Rattle.refusals.specs.Checks.{◌and_then◌};
 ghost use Rattle.numbering.specs.Point.{at};
 ghost use Rattle.numbering.specs.Parent.{numerator, is_border, parent_level, parent_index, parent};
-ghost use Rattle.shapes.specs.Shapes.{check_shape, check_axis};
 ghost use Rattle.parents.specs.Parents.{located, parent_of};
 
 use numbering::Side;
-use points::{Located, Outcome, Point};
-use refusals::Verdict;
+use points::Point;
+use refusals::Refusal;
 use shapes::Shape;
 
 // The numerator of the neighbour of an index.
@@ -29,13 +27,10 @@ pub fn is_border(level: u32, numerator: u32) -> bool
     requires { level ≤ 8 }
     ensures { result ≡ is_border level numerator }
 {
-    if numerator == 0 {
-        return true;
-    }
-    numerator == (2 << level)
+    numerator == 0 || numerator == (2 << level)
 }
 
-// The level and the odd index of a parent.
+// The level and the odd index of a parent. (A struct: a pair of two numbers would not say which is which.)
 #[derive(Clone, Copy)]
 pub struct Placed {
     pub level: u32,
@@ -47,7 +42,7 @@ pub fn reduce(level: u32, numerator: u32) -> Placed
     requires { (level ≤ 8) × (numerator % 2 ≡ 0) × (0 < numerator) × (numerator < 2 ^ suc level) }
     ensures { (result.level ≡ parent_level level numerator) × (result.index ≡ parent_index numerator) }
 {
-    let twos = u32::trailing_zeros(numerator);
+    let twos = numerator.trailing_zeros();
     Placed {
         level: level - twos,
         index: numerator >> twos,
@@ -55,46 +50,35 @@ pub fn reduce(level: u32, numerator: u32) -> Placed
 }
 
 // The parent on axis t (from 0) of a point whose level there is at most 8 and whose index is one of its level.
-fn parent_on(t: usize, side: Side, p: Point) -> Located
+fn parent_on(t: usize, side: Side, p: Point) -> Option<Point>
     requires { (t < 8) × (at p.levels t ≤ 8) × (at p.indices t % 2 ≡ 1) × (at p.indices t < 2 ^ suc (at p.levels t)) }
     ensures { result ≡ located (parent t side (at p.levels) (at p.indices)) }
 {
     let level = p.levels[t];
     let numerator = neighbour(side, p.indices[t]);
     if is_border(level, numerator) {
-        return points::nowhere(Outcome::Border);
+        return None;
     }
     let up = reduce(level, numerator);
     let mut parent = p;
     parent.levels[t] = up.level;
     parent.indices[t] = up.index;
-    Located {
-        outcome: Outcome::Found,
-        point: parent,
-    }
+    Some(parent)
 }
 
-// Refused with 1, 2 or 5, else for what the point was.
-fn check(shape: Shape, axis: u32, verdict: Verdict) -> Verdict
-    ensures { result ≡ check_shape shape and_then check_axis shape axis and_then verdict }
-{
-    match shapes::check_shape(shape) {
-        Verdict::Refused(r) => Verdict::Refused(r),
-        Verdict::Passed => match shapes::check_axis(shape, axis) {
-            Verdict::Refused(r) => Verdict::Refused(r),
-            Verdict::Passed => verdict,
-        },
-    }
-}
-
-// The parent of a point that is handed in as two lists. Its verdict tests the shape once more.
-pub fn parent(shape: Shape, levels: &[u32], indices: &[u32], axis: u32, side: Side) -> Located
+// The parent of a point that is handed in as two lists, or none, the border.
+#[tactic(auto, unfolding(crate::specs::Parents::parent_of))]
+pub fn parent(
+    shape: Shape,
+    levels: &[u32],
+    indices: &[u32],
+    axis: u32,
+    side: Side,
+) -> Result<Option<Point>, Refusal>
     ensures { result ≡ parent_of shape levels.now indices.now axis side }
 {
-    let given = points::point_from(shape, levels, indices);
-    let verdict = given.verdict;
-    match check(shape, axis, verdict) {
-        Verdict::Refused(r) => points::nowhere(Outcome::Refused(r)),
-        Verdict::Passed => parent_on((axis - 1) as usize, side, given.point),
-    }
+    shapes::check_shape(shape)?;
+    shapes::check_axis(shape, axis)?;
+    let p = points::point_from(shape, levels, indices)?; // tests the shape once more
+    Ok(parent_on((axis - 1) as usize, side, p))
 }

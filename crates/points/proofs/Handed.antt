@@ -1,13 +1,14 @@
 -- A point that was handed in and passed: by value it is a point of the shape, and has the levels and indices of the two lists.
 -- Assumes nothing.
+use Rattle.std.specs.Prelude.{Ok, Err}
 use mathlib.Core.Path.{◌≡◌, ap, sym, ◌∙◌}
 use mathlib.Core.List.{List}
 use Prim.Native.Nat.{ℕ}
-use Rattle.refusals.specs.declared.Verdict.TheVariants.{Passed}
 use Rattle.numbering.specs.Point.{at}
+use Rattle.refusals.specs.declared.Refusal.{Refusal}
+use Rattle.refusals.proofs.Passing.{result_passed, result_refused}
 use Rattle.shapes.specs.declared.Shape.{Shape}
 use Rattle.shapes.proofs.Checked.{InRange}
-use Rattle.points.specs.declared.Given.{Given}
 use Rattle.points.specs.declared.Point.{Point}
 use Rattle.points.specs.Points.{check_point, point_of, point_from}
 use Rattle.points.specs.Steps.{PointIn}
@@ -19,19 +20,23 @@ pub record Handed (s : Shape) (ls is : List ℕ) (p : Point) : Type 0 where
   pub levels : at p.levels ≡ at ls
   pub indices : at p.indices ≡ at is
 
-module _ (s : Shape) (ls is : List ℕ) {g : Given} (e : g ≡ point_from s ls is) where
-  pub verdict_is : g.verdict ≡ check_point s ls is
-  unfolding point_from
-  verdict_is = ap (λ (x : Given). x.verdict) e
+-- A point that was refused, by the check.
+pub turned_away : (s : Shape) (ls is : List ℕ) {r : Refusal} → point_from s ls is ≡ Err r → check_point s ls is ≡ Err r
+unfolding point_from
+turned_away s ls is {r} e = result_refused (check_point s ls is) (point_of (at ls) (at is)) r e
 
-  point_is : g.point ≡ point_of (at ls) (at is)
+module _ (s : Shape) (ls is : List ℕ) {p : Point} (e : point_from s ls is ≡ Ok p) where
+  both : (check_point s ls is ≡ Ok tt) × (point_of (at ls) (at is) ≡ p)
   unfolding point_from
-  point_is = ap (λ (x : Given). x.point) e
+  both = result_passed (check_point s ls is) (point_of (at ls) (at is)) p e
 
-  pub handed : g.verdict ≡ Passed → Handed s ls is g.point
-  handed passed =
-      let passes = point_passed s ls is (sym verdict_is ∙ passed) in
-      rw point_is
+  pub point_checked : check_point s ls is ≡ Ok tt
+  point_checked = both.0
+
+  pub handed : Handed s ls is p
+  handed =
+      let passes = point_passed s ls is point_checked in
+      rw (← both.1)
       (record {
         shape = passes.shape;
         inside = point_by_value passes;

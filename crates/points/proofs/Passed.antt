@@ -1,6 +1,7 @@
 -- What a passed check of a point tells: a shape in range, lists of a place for each axis, and a point of the shape in them. By value it is the same point
 -- and has the same number, since past its axes it has zeros.
 -- Assumes nothing.
+use Rattle.std.specs.Prelude.{Ok}
 use mathlib.Core.Path.{◌≡◌, ap, ◌∙◌}
 use mathlib.Core.Bool.{Bool, ◌&&◌}
 use mathlib.Core.List.{List}
@@ -11,7 +12,6 @@ use lib.ListN.{length, get_or-eq_default}
 use borrow.Author.Tests.{eqb-true, eq-eqb}
 use Rattle.naturals.proofs.Tests.{and_left, and_right}
 use Rattle.refusals.specs.declared.Refusal.TheVariants.{ListLength, NoPoint}
-use Rattle.refusals.specs.declared.Verdict.TheVariants.{Passed}
 use Rattle.refusals.specs.Checks.{unless}
 use Rattle.refusals.proofs.Passing.{first_passed, next_passed, test_passed}
 use Rattle.numbering.specs.Point.{at, is_point, IsPoint}
@@ -36,7 +36,7 @@ module _ (s : Shape) (ls is : List ℕ) where
   unfolding check_lists
   lists_tested el ei r e = simp (eq-eqb (length ls) s.axes el, eq-eqb (length is) s.axes ei, rw el at e)
 
-  lists_passed : check_lists s ls is ≡ Passed →
+  lists_passed : check_lists s ls is ≡ Ok tt →
       (length ls ≡ s.axes) × (length is ≡ s.axes) × IsPoint s.axes s.level (at ls) (at is)
   unfolding check_lists
   lists_passed e =
@@ -48,7 +48,7 @@ module _ (s : Shape) (ls is : List ℕ) where
       let named = test_passed point NoPoint (next_passed (unless lengths ListLength) (unless point NoPoint) e) in
       (eqb-true (length ls) s.axes left, eqb-true (length is) s.axes right, is_point_lem named)
 
-  pub point_passed : check_point s ls is ≡ Passed → Passes s ls is
+  pub point_passed : check_point s ls is ≡ Ok tt → Passes s ls is
   unfolding check_point
   point_passed e =
       let lists = lists_passed (next_passed (check_shape s) (check_lists s ls is) e) in

@@ -1,19 +1,14 @@
 -- Points by value and in lists: what the calls on them share (document 01, "Terms and limits" and refusals 7 and 9).
 -- Assumes nothing.
-use Rattle.std.specs.Prelude.{◌&&◌, List, [], ◌∷◌, ℕ, eqb, length}
+use Rattle.std.specs.Prelude.{◌&&◌, List, [], ◌∷◌, ℕ, eqb, length, Result, Ok, Err}
 use Rattle.refusals.specs.declared.Refusal.{Refusal}
 use Rattle.refusals.specs.declared.Refusal.TheVariants.{ListLength, NoPoint}
-use Rattle.refusals.specs.declared.Verdict.{Verdict}
-use Rattle.refusals.specs.Checks.{unless, ◌and_then◌}
+use Rattle.refusals.specs.Checks.{unless, ◌and_then◌, answer, Verdict}
 use Rattle.numbering.specs.Point.{at, is_point}
 use Rattle.shapes.specs.declared.Shape.{Shape}
 use Rattle.shapes.specs.Shapes.{check_shape}
 use Rattle.grids.specs.Grids.{level_on, index_on}
 use Rattle.points.specs.declared.Point.{Point}
-use Rattle.points.specs.declared.Outcome.{Outcome}
-use Rattle.points.specs.declared.Outcome.TheVariants.{Found, Refused}
-use Rattle.points.specs.declared.Located.{Located}
-use Rattle.points.specs.declared.Given.{Given}
 
 -- Levels and indices are lists of length d (else 7) that name a point of the shape (else 9).
 unfoldable pub check_lists : Shape → List ℕ → List ℕ → Verdict
@@ -33,24 +28,10 @@ eight f = f 0 ∷ f 1 ∷ f 2 ∷ f 3 ∷ f 4 ∷ f 5 ∷ f 6 ∷ f 7 ∷ []
 abbrev pub point_of : (ℕ → ℕ) → (ℕ → ℕ) → Point
 point_of l i = record { levels = eight l; indices = eight i }
 
--- A point handed in as two lists: by value (of longer lists the first eight numbers), with the verdict on it.
-unfoldable pub point_from : Shape → List ℕ → List ℕ → Given
-point_from s ls is = record { verdict = check_point s ls is; point = point_of (at ls) (at is) }
+-- A point handed in as two lists: by value.
+unfoldable pub point_from : Shape → List ℕ → List ℕ → Result Point Refusal
+point_from s ls is = answer Err (check_point s ls is) (Ok (point_of (at ls) (at is)))
 
 -- Point number p of a shape, places past axis d zero.
 unfoldable pub point_at : Shape → ℕ → Point
 point_at s p = point_of (level_on s p) (index_on s p)
-
--- Where there is no point: zero for every axis.
-abbrev pub none : ℕ → ℕ
-none t = 0
-
--- What a call answers that finds a point, and one that finds none, for this reason.
-abbrev pub found : Point → Located
-found p = record { outcome = Found; point = p }
-
-abbrev pub nowhere : Outcome → Located
-nowhere o = record { outcome = o; point = point_of none none }
-
-abbrev pub refused : Refusal → Located
-refused r = nowhere (Refused r)

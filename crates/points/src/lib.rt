@@ -3,9 +3,9 @@
 
 ghost use Rattle.std.specs.Prelude.{◌≡◌, ◌≤◌, length};
 ghost use Rattle.numbering.specs.Point.{at, is_index, is_point};
-ghost use Rattle.points.specs.Points.{eight, none, check_lists, check_point, point_from, point_of, nowhere};
+ghost use Rattle.points.specs.Points.{eight, check_lists, check_point, point_from};
 
-use refusals::{Refusal, Verdict};
+use refusals::Refusal;
 use shapes::Shape;
 
 // A level and an index on each axis; places past the last axis are 0.
@@ -13,29 +13,6 @@ use shapes::Shape;
 pub struct Point {
     pub levels: [u32; 8],
     pub indices: [u32; 8],
-}
-
-// What a call finds that answers a point.
-#[derive(Clone, Copy)]
-pub enum Outcome {
-    Found,
-    End,
-    Border,
-    Refused(Refusal),
-}
-
-// A point with the outcome beside it: all zeros where there is none.
-#[derive(Clone, Copy)]
-pub struct Located {
-    pub outcome: Outcome,
-    pub point: Point,
-}
-
-// A point that was handed in, with the verdict on it.
-#[derive(Clone, Copy)]
-pub struct Given {
-    pub verdict: Verdict,
-    pub point: Point,
 }
 
 // An odd index below 2^(l+1).
@@ -55,61 +32,56 @@ fn is_point(level: u32, levels: &[u32], indices: &[u32]) -> bool
     ensures { result ≡ is_point (length levels.now) level (at levels.now) (at indices.now) }
 {
     let mut left = level;
-    let mut t: usize = 0;
-    while t < levels.len() {
-        let l = levels[t];
-        if left < l {
+    for (t, l) in levels.iter().enumerate() {
+        if left < *l {
             return false;
         }
-        if !is_index(l, indices[t]) {
+        if !is_index(*l, indices[t]) {
             return false;
         }
-        left -= l;
-        t += 1;
+        left -= *l;
     }
     true
 }
 
 // Refused with 7 or 9.
-fn check_lists(shape: Shape, levels: &[u32], indices: &[u32]) -> Verdict
+fn check_lists(shape: Shape, levels: &[u32], indices: &[u32]) -> Result<(), Refusal>
     requires { (shape.axes ≤ 8) × (shape.level ≤ 8) }
     ensures { result ≡ check_lists shape levels.now indices.now }
 {
     let axes = shape.axes as usize;
     if levels.len() != axes {
-        return Verdict::Refused(Refusal::ListLength);
+        return Err(Refusal::ListLength);
     }
     if indices.len() != axes {
-        return Verdict::Refused(Refusal::ListLength);
+        return Err(Refusal::ListLength);
     }
     if is_point(shape.level, levels, indices) {
-        Verdict::Passed
+        Ok(())
     } else {
-        Verdict::Refused(Refusal::NoPoint)
+        Err(Refusal::NoPoint)
     }
 }
 
 // Refused with 1, 2, 7 or 9.
-fn check_point(shape: Shape, levels: &[u32], indices: &[u32]) -> Verdict
+#[tactic(auto, using(shapes::proofs::Checked::passed_in_range), unfolding(crate::specs::Points::check_point))]
+fn check_point(shape: Shape, levels: &[u32], indices: &[u32]) -> Result<(), Refusal>
     ensures { result ≡ check_point shape levels.now indices.now }
 {
-    match shapes::check_shape(shape) {
-        Verdict::Refused(r) => Verdict::Refused(r),
-        Verdict::Passed => check_lists(shape, levels, indices),
-    }
+    shapes::check_shape(shape)?;
+    check_lists(shape, levels, indices)
 }
 
-// A point that is handed in as two lists: by value, with the verdict on it.
-pub fn point_from(shape: Shape, levels: &[u32], indices: &[u32]) -> Given
+// A point that is handed in as two lists: by value.
+#[tactic(auto, unfolding(crate::specs::Points::point_from))]
+pub fn point_from(shape: Shape, levels: &[u32], indices: &[u32]) -> Result<Point, Refusal>
     ensures { result ≡ point_from shape levels.now indices.now }
 {
-    Given {
-        verdict: check_point(shape, levels, indices),
-        point: Point {
-            levels: padded(levels),
-            indices: padded(indices),
-        },
-    }
+    check_point(shape, levels, indices)?;
+    Ok(Point {
+        levels: padded(levels),
+        indices: padded(indices),
+    })
 }
 
 // What a list holds at a place, and 0 past its end.
@@ -136,24 +108,4 @@ pub fn padded(list: &[u32]) -> [u32; 8]
         place(list, 6),
         place(list, 7),
     ]
-}
-
-// No point, for this reason.
-pub fn nowhere(why: Outcome) -> Located
-    ensures { result ≡ nowhere why }
-{
-    Located {
-        outcome: why,
-        point: no_point(),
-    }
-}
-
-// All zeros.
-fn no_point() -> Point
-    ensures { result ≡ point_of none none }
-{
-    Point {
-        levels: [0; 8],
-        indices: [0; 8],
-    }
 }

@@ -1,22 +1,24 @@
 -- Checks in a row: the first that refuses decides (document 01, "First match wins").
 -- Assumes nothing.
-use Rattle.std.specs.Prelude.{Bool, true, false}
+use Rattle.std.specs.Prelude.{Bool, true, false, Result, Ok, Err, ⊤}
 use Rattle.refusals.specs.declared.Refusal.{Refusal}
-use Rattle.refusals.specs.declared.Verdict.{Verdict}
-use Rattle.refusals.specs.declared.Verdict.TheVariants.{Passed, Refused}
+
+-- What a check says: passed, which is `Ok tt`, or the first refusal that matches.
+abbrev pub Verdict : Type 0
+Verdict = Result ⊤ Refusal
 
 -- Refused, unless the test holds.
 abbrev pub unless : Bool → Refusal → Verdict
-unless true r = Passed
-unless false r = Refused r
+unless true r = Ok tt
+unless false r = Err r
 
 infixr 10 ◌and_then◌
 -- The first check, and where it passes the second.
 abbrev pub ◌and_then◌ : Verdict → Verdict → Verdict
-Passed and_then next = next
-Refused r and_then next = Refused r
+Ok _ and_then next = next
+Err r and_then next = Err r
 
 -- What a call answers: its refusal, or where the checks pass its result.
 abbrev pub answer : {A : Type 0} → (Refusal → A) → Verdict → A → A
-answer refused Passed result = result
-answer refused (Refused r) result = refused r
+answer refused (Ok _) result = result
+answer refused (Err r) result = refused r

@@ -1,6 +1,7 @@
 -- The report of a file that is read is that of its coefficients: what it holds are accepted rates, so rates to coefficients does not refuse them. And a
 -- report has room in the program's buffer.
 -- Assumes nothing.
+use Rattle.std.specs.Prelude.{Result, Ok, Err}
 use mathlib.Core.Path.{◌≡◌, refl, sym, ap}
 use mathlib.Core.List.{List, ◌++◌}
 use Prim.Native.Nat.{ℕ, ◌≤◌}
@@ -9,7 +10,6 @@ use lib.IntN.{ℤ}
 use lib.ListN.{length, take, drop, length-append}
 use lib.Seq.{take-append_seam}
 use Rattle.refusals.specs.declared.Refusal.{Refusal}
-use Rattle.refusals.specs.declared.Verdict.TheVariants as verdict
 use Rattle.hierarchy.proofs.Values.{value_suc}
 use Rattle.shapes.specs.declared.Shape.{Shape}
 use Rattle.shapes.specs.Shapes.{points_of}
@@ -18,11 +18,10 @@ use Rattle.tables.specs.Tables.{rate_at, check_table, check_rates}
 use Rattle.tables.proofs.Checking.{rates_pass}
 use Rattle.whole.specs.Whole.{coefficients_of, rates_to_coefficients}
 use Rattle.whole.proofs.Inverse.{coefficients_length}
-use Rattle.house_file.specs.declared.Opened.{Opened}
-use Rattle.house_file.specs.declared.Opened.TheVariants.{Holds, Refused}
 use Rattle.house_numbers.specs.Reading.{Read, got, refused}
 use Rattle.house_file.specs.Files.{Contents, read_contents, AfterReading, after_reading, filled_with, read_file}
-use Rattle.house_file.proofs.Accepting.{AllRates, Accepted, contents_accepted}
+use Rattle.house_file.specs.Written.{AllRates}
+use Rattle.house_file.proofs.Accepting.{Accepted, contents_accepted}
 use Rattle.texts.specs.Text.{heading, point_lines, refused_line}
 use Rattle.reports.specs.Report.{table_text, reported, report}
 use Rattle.reports.specs.Steps.{turned_text, rates_text}
@@ -41,7 +40,7 @@ contents_read places bytes = so (read_contents places bytes) refl
     so (refused r) e = tt
 
 -- Rates are refused nothing.
-rates_checked : (xs : List ℤ) → AllRates xs → check_rates xs ≡ verdict.Passed
+rates_checked : (xs : List ℤ) → AllRates xs → check_rates xs ≡ Ok tt
 unfolding rate_at
 rates_checked xs each = rates_pass xs (λ p h. rw (value_suc xs p) (each p h))
 
@@ -56,31 +55,31 @@ accepted_text places c rest xs h =
     rw (t, h.shaped, length_passes c.shape (length c.rates) count, rates_checked c.rates h.rated.each)
 
 -- What was read, as the reader leaves it.
-abbrev answer_of : AfterReading → Opened
+abbrev answer_of : AfterReading → Result Shape Refusal
 answer_of a = a.answer
 
 abbrev table_of_read : AfterReading → List ℤ
 table_of_read a = a.table
 
-held_text : (table : List ℤ) (s : Shape) (xs : List ℤ) (read : Read Contents) → Got 8192 read → after_reading (Holds s) xs ≡ filled_with table read
+held_text : (table : List ℤ) (s : Shape) (xs : List ℤ) (read : Read Contents) → Got 8192 read → after_reading (Ok s) xs ≡ filled_with table read
     → rates_text s xs ≡ reported read
 held_text table s xs (got c rest) h e =
-    let a : Holds s ≡ Holds c.shape = ap answer_of e in
+    let a : Ok s ≡ Ok c.shape = ap answer_of e in
     let shape : s ≡ c.shape = cc in
     let rates : xs ≡ c.rates ++ drop (length c.rates) table = ap table_of_read e in
     rw (shape, rates) (accepted_text 8192 c rest (drop (length c.rates) table) h)
-held_text table s xs (refused r) h e = let a : Holds s ≡ Refused r = ap answer_of e in cc
+held_text table s xs (refused r) h e = let a : Ok s ≡ Err r = ap answer_of e in cc
 
-refused_read : (table : List ℤ) (r : Refusal) (xs : List ℤ) (read : Read Contents) → after_reading (Refused r) xs ≡ filled_with table read → refused_line r ≡ reported read
-refused_read table r xs (got c rest) e = let a : Refused r ≡ Holds c.shape = ap answer_of e in cc
-refused_read table r xs (refused q) e = let a : Refused r ≡ Refused q = ap answer_of e in let same : r ≡ q = cc in ap refused_line same
+refused_read : (table : List ℤ) (r : Refusal) (xs : List ℤ) (read : Read Contents) → after_reading (Err r) xs ≡ filled_with table read → refused_line r ≡ reported read
+refused_read table r xs (got c rest) e = let a : Err r ≡ Ok c.shape = ap answer_of e in cc
+refused_read table r xs (refused q) e = let a : Err r ≡ Err q = ap answer_of e in let same : r ≡ q = cc in ap refused_line same
 
 module _ (bytes : List ℕ) (table : List ℤ) (all : length table ≡ 8192) where
-  pub held_report : (s : Shape) (xs : List ℤ) → after_reading (Holds s) xs ≡ read_file bytes table → rates_text s xs ≡ report bytes
+  pub held_report : (s : Shape) (xs : List ℤ) → after_reading (Ok s) xs ≡ read_file bytes table → rates_text s xs ≡ report bytes
   unfolding read_file report
   held_report s xs e = held_text table s xs (read_contents 8192 bytes) (contents_read 8192 bytes) (rw all at e)
 
-  pub refused_report : (r : Refusal) (xs : List ℤ) → after_reading (Refused r) xs ≡ read_file bytes table → refused_line r ≡ report bytes
+  pub refused_report : (r : Refusal) (xs : List ℤ) → after_reading (Err r) xs ≡ read_file bytes table → refused_line r ≡ report bytes
   unfolding read_file report
   refused_report r xs e = refused_read table r xs (read_contents 8192 bytes) (rw all at e)
 

@@ -1,5 +1,6 @@
 -- The text of a table of rates, by what the count of points and rates to coefficients answer.
 -- Assumes nothing.
+use Rattle.std.specs.Prelude.{Ok, Err}
 use mathlib.Core.Path.{◌≡◌, refl, ap}
 use mathlib.Core.Bool.{false}
 use mathlib.Core.List.{List}
@@ -12,11 +13,8 @@ use lib.Seq.{take_all}
 use borrow.Author.Tests.{ne_eqb}
 use Rattle.refusals.specs.declared.Refusal.{Refusal}
 use Rattle.refusals.specs.declared.Refusal.TheVariants.{TableLength}
-use Rattle.refusals.specs.declared.Verdict.{Verdict}
-use Rattle.refusals.specs.declared.Verdict.TheVariants as verdict
-use Rattle.refusals.specs.Checks.{answer}
+use Rattle.refusals.specs.Checks.{answer, Verdict}
 use Rattle.shapes.specs.declared.Shape.{Shape}
-use Rattle.shapes.specs.declared.Counted.TheVariants.{Points, Refused}
 use Rattle.shapes.specs.Shapes.{check_shape, points_of, check_length, counted}
 use Rattle.states.specs.After.{Left, left}
 use Rattle.tables.specs.Tables.{check_table}
@@ -26,20 +24,20 @@ use Rattle.reports.specs.Report.{table_text}
 use Rattle.reports.specs.Steps.{turned_text, left_text, rates_text}
 
 -- What the count tells.
-points_passed : (v : Verdict) (n count : ℕ) → answer Refused v (Points n) ≡ Points count → v ≡ verdict.Passed
-points_passed verdict.Passed n count e = refl
-points_passed (verdict.Refused r) n count e = cc
+points_passed : (v : Verdict) (n count : ℕ) → answer Err v (Ok n) ≡ Ok count → v ≡ Ok tt
+points_passed (Ok _) n count e = refl
+points_passed (Err r) n count e = cc
 
-points_same : (v : Verdict) (n count : ℕ) → answer Refused v (Points n) ≡ Points count → count ≡ n
-points_same verdict.Passed n count e = cc
-points_same (verdict.Refused r) n count e = cc
+points_same : (v : Verdict) (n count : ℕ) → answer Err v (Ok n) ≡ Ok count → count ≡ n
+points_same (Ok _) n count e = cc
+points_same (Err r) n count e = cc
 
-refused_why : (v : Verdict) (n : ℕ) (r : Refusal) → answer Refused v (Points n) ≡ Refused r → v ≡ verdict.Refused r
-refused_why verdict.Passed n r e = cc
-refused_why (verdict.Refused q) n r e = cc
+refused_why : (v : Verdict) (n : ℕ) (r : Refusal) → answer Err v (Ok n) ≡ Err r → v ≡ Err r
+refused_why (Ok _) n r e = cc
+refused_why (Err q) n r e = cc
 
-module _ (s : Shape) (count : ℕ) (e : counted s ≡ Points count) where
-  pub counted_passed : check_shape s ≡ verdict.Passed
+module _ (s : Shape) (count : ℕ) (e : counted s ≡ Ok count) where
+  pub counted_passed : check_shape s ≡ Ok tt
   unfolding counted
   counted_passed = points_passed (check_shape s) (points_of s) count e
 
@@ -48,21 +46,21 @@ module _ (s : Shape) (count : ℕ) (e : counted s ≡ Points count) where
   counted_points = points_same (check_shape s) (points_of s) count e
 
 -- Rates to coefficients refuses, or leaves the coefficients.
-pub refused_text : (s : Shape) (r : Refusal) (xs : List ℤ) (l : Left) → left (verdict.Refused r) xs ≡ l → refused_line r ≡ left_text s l
+pub refused_text : (s : Shape) (r : Refusal) (xs : List ℤ) (l : Left) → left (Err r) xs ≡ l → refused_line r ≡ left_text s l
 unfolding turned_text
 refused_text s r xs l e = ap (left_text s) e
 
-pub passed_text : (s : Shape) (xs : List ℤ) (l : Left) → left verdict.Passed xs ≡ l → table_text s xs ≡ left_text s l
+pub passed_text : (s : Shape) (xs : List ℤ) (l : Left) → left (Ok tt) xs ≡ l → table_text s xs ≡ left_text s l
 unfolding turned_text
 passed_text s xs l e = ap (left_text s) e
 
 -- A shape that is refused.
-pub shape_refused : (s : Shape) (r : Refusal) (xs : List ℤ) → counted s ≡ Refused r → refused_line r ≡ rates_text s xs
+pub shape_refused : (s : Shape) (r : Refusal) (xs : List ℤ) → counted s ≡ Err r → refused_line r ≡ rates_text s xs
 unfolding rates_text rates_to_coefficients check_table turned_text counted
 shape_refused s r xs e = rw (refused_why (check_shape s) (points_of s) r e)
 
 -- A table of too few places.
-pub short_refused : (s : Shape) (xs : List ℤ) → check_shape s ≡ verdict.Passed → length xs < points_of s → refused_line TableLength ≡ rates_text s xs
+pub short_refused : (s : Shape) (xs : List ℤ) → check_shape s ≡ Ok tt → length xs < points_of s → refused_line TableLength ≡ rates_text s xs
 unfolding rates_text rates_to_coefficients check_table check_length turned_text
 short_refused s xs e few =
     let t : take (points_of s) xs ≡ xs = take_all (points_of s) xs (omega arith) in
@@ -70,6 +68,6 @@ short_refused s xs e few =
     rw (t, e, f)
 
 -- The places counted.
-pub prefix_text : (s : Shape) (count : ℕ) (xs : List ℤ) → counted s ≡ Points count → left_text s (rates_to_coefficients s (take count xs)) ≡ rates_text s xs
+pub prefix_text : (s : Shape) (count : ℕ) (xs : List ℤ) → counted s ≡ Ok count → left_text s (rates_to_coefficients s (take count xs)) ≡ rates_text s xs
 unfolding rates_text
 prefix_text s count xs e = ap (λ (k : ℕ). left_text s (rates_to_coefficients s (take k xs))) (counted_points s count e)

@@ -1,8 +1,7 @@
 -- The text of a table on the way.
 -- Assumes nothing.
-use Rattle.std.specs.Prelude.{List, ℕ, ℤ, take}
-use Rattle.refusals.specs.declared.Verdict.{Verdict}
-use Rattle.refusals.specs.declared.Verdict.TheVariants.{Passed, Refused}
+use Rattle.refusals.specs.Checks.{Verdict}
+use Rattle.std.specs.Prelude.{List, ℕ, ℤ, take, Ok, Err}
 use Rattle.shapes.specs.declared.Shape.{Shape}
 use Rattle.shapes.specs.Shapes.{points_of}
 use Rattle.states.specs.After.{Left}
@@ -12,8 +11,8 @@ use Rattle.reports.specs.Report.{table_text}
 
 -- The text of what rates to coefficients leaves.
 unfoldable pub turned_text : Shape → Verdict → List ℤ → List ℕ
-turned_text s Passed ys = table_text s ys
-turned_text s (Refused r) ys = refused_line r
+turned_text s (Ok _) ys = table_text s ys
+turned_text s (Err r) ys = refused_line r
 
 abbrev pub left_text : Shape → Left → List ℕ
 left_text s l = turned_text s l.verdict l.table

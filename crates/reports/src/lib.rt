@@ -10,7 +10,6 @@ ghost use Rattle.reports.specs.Report.{report as Report·report};
 ghost use Rattle.buffers.specs.Put.{Put};
 
 use contents::put_table;
-use house_file::Opened;
 use refusals::Refusal;
 use texts::lines::put_refused;
 
@@ -18,10 +17,10 @@ use texts::lines::put_refused;
 const PLACES: usize = 8192;
 
 // The most characters of a report: a first line of 81, and for each place a line of 43.
-pub const MOST: usize = 352337;
+pub const MOST: usize = LINE + 43 * PLACES;
 
 // So many bytes of a file decide its report, one more than an accepted file can have: 10 and for each place 5.
-pub const BYTES: usize = 40971;
+pub const BYTES: usize = 10 + 5 * PLACES + 1;
 
 // The most characters of a first line, and of the line of a refused file.
 pub const LINE: usize = 81;
@@ -43,7 +42,7 @@ pub fn text(bytes: &[u8], out: &mut [u8; MOST]) -> usize
 {
     let mut table = [0i64; PLACES];
     match house_file::read(bytes, &mut table) {
-        Opened::Refused(why) => put_refused(why, out),
-        Opened::Holds(shape) => put_table(shape, &mut table, out),
+        Err(why) => put_refused(why, out),
+        Ok(shape) => put_table(shape, &mut table, out),
     }
 }

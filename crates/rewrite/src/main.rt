@@ -1,7 +1,6 @@
 // Reads a house file from standard input and prints its one form, or says on standard error why it is refused.
 #![tactic(auto)]
 
-use house_writer::Filed;
 use refusals::Refusal;
 use reports::LINE;
 
@@ -9,10 +8,10 @@ use reports::LINE;
 const PLACES: usize = 32768;
 
 // So many bytes of a file decide, one more than an accepted file can have: 10 and for each place 5.
-const BYTES: usize = 163851;
+const BYTES: usize = 10 + 5 * PLACES + 1;
 
 // The most bytes of a form: 2 and for each place 5.
-const MOST: usize = 163842;
+const MOST: usize = 2 + 5 * PLACES;
 
 // A line as `coefficients` prints it, on standard error.
 fn refuse(rt: &HostRuntime, why: Refusal) {
@@ -27,17 +26,16 @@ fn print(rt: &HostRuntime, form: &[u8]) {
     }
 }
 
+// What is said of a failure, and that the exit status is 0, are the program's own: an `Err` from `main` would say and give others.
 fn main(rt: HostRuntime) {
     let mut bytes = [0u8; BYTES];
-    let input = streams::read_input(&mut rt.stdin(), &mut bytes);
-    if !input.readable {
+    let Ok(length) = streams::read_input(&mut rt.stdin(), &mut bytes) else {
         let _ = eprintln!(rt; "rewrite: standard input could not be read");
         return;
-    }
+    };
     let mut out = [0u8; MOST];
-    let length = input.length;
     match house_writer::rewrite(&bytes[..length], PLACES, &mut out) {
-        Filed::Refused(why) => refuse(&rt, why),
-        Filed::Length(size) => print(&rt, &out[..size]),
+        Err(why) => refuse(&rt, why),
+        Ok(size) => print(&rt, &out[..size]),
     }
 }

@@ -2,6 +2,8 @@
 -- run of the whole list leaves, with the answers of both in a row: by induction over the first part. The same holds of the call that reports the answers, since
 -- what the first part leaves passes the checks.
 -- Assumes nothing.
+use Rattle.std.specs.Prelude.{Ok, Err}
+use Rattle.refusals.specs.Checks.{Verdict}
 use mathlib.Core.Path.{◌≡◌, refl, ap, ap₂, sym, ◌∙◌}
 use mathlib.Core.Bool.{◌&&◌}
 use mathlib.Core.List.{List, [], ◌∷◌, ◌++◌, map-append}
@@ -14,12 +16,10 @@ use borrow.Author.Tests.{eq-eqb, eqb-true}
 use Rattle.naturals.proofs.Cases.{true_or_false}
 use Rattle.naturals.proofs.Tests.{and_left, and_right}
 use Rattle.refusals.specs.declared.Refusal.{Refusal}
+use Rattle.refusals.proofs.Results.{refused_done}
 use Rattle.refusals.specs.declared.Refusal.TheVariants.{ListLength}
-use Rattle.refusals.specs.declared.Verdict.{Verdict}
-use Rattle.refusals.specs.declared.Verdict.TheVariants as verdict
 use Rattle.hierarchy.specs.declared.Turn.{Turn}
 use Rattle.states.specs.declared.State.{State}
-use Rattle.states.specs.declared.Answer.TheVariants.{Done, Refused}
 use Rattle.states.specs.States.{check_state}
 use Rattle.runs.specs.Runs.{carried_out, handed_on, verdict_of, Ran, answering, run}
 use Rattle.runs.specs.Calls.{turn_of, calls_of, Report, report, report_of, unrun, check_lengths, run_calls}
@@ -65,7 +65,7 @@ pub record Matched (directions axes ns ps : List ℕ) : Type 0 where
   pub places_long : length ps ≡ length directions
 
 -- A state and a table that pass, and lists that match: the turns are carried out.
-pub matched_runs : (s : State) (xs : List ℤ) (directions axes ns ps : List ℕ) → check_state s (length xs) ≡ verdict.Passed → Matched directions axes ns ps →
+pub matched_runs : (s : State) (xs : List ℤ) (directions axes ns ps : List ℕ) → check_state s (length xs) ≡ Ok tt → Matched directions axes ns ps →
     run_calls s xs directions axes ns ps ≡ report_of (run (calls_of directions axes) s xs)
 unfolding run_calls check_lengths
 matched_runs s xs directions axes ns ps passed m =
@@ -86,13 +86,13 @@ matched_append directions axes ns ps later more ms qs a b =
     }
 
 -- Refused for the state or the table, whatever the lists are.
-pub run_unchecked : (s : State) (xs : List ℤ) (directions axes ns ps : List ℕ) (r : Refusal) → check_state s (length xs) ≡ verdict.Refused r →
+pub run_unchecked : (s : State) (xs : List ℤ) (directions axes ns ps : List ℕ) (r : Refusal) → check_state s (length xs) ≡ Err r →
     run_calls s xs directions axes ns ps ≡ unrun xs ns ps r
 unfolding run_calls
 run_unchecked s xs directions axes ns ps r e = rw e
 
 -- Lists of one length, or refused with 7.
-pub matched_or_refused : (s : State) (xs : List ℤ) (directions axes ns ps : List ℕ) {A : Type 0} → check_state s (length xs) ≡ verdict.Passed →
+pub matched_or_refused : (s : State) (xs : List ℤ) (directions axes ns ps : List ℕ) {A : Type 0} → check_state s (length xs) ≡ Ok tt →
     (Matched directions axes ns ps → A) → (run_calls s xs directions axes ns ps ≡ unrun xs ns ps ListLength → A) → A
 unfolding run_calls check_lengths
 matched_or_refused s xs directions axes ns ps passed matched refused =
@@ -110,35 +110,32 @@ matched_or_refused s xs directions axes ns ps passed matched refused =
     (λ h. refused (rw (passed, h)))
 
 -- A call that was not refused passed its checks: the state and the table, and lists of one length.
-never_done : (r : Refusal) (t : State) → Refused r ≡ Done t → ⊥
-never_done r t e = let z : ◌≡◌ {A = ℕ} 0 1 = cc in omega arith
+done_passed : (s t : State) (xs : List ℤ) (directions axes ns ps : List ℕ) → (run_calls s xs directions axes ns ps).answer ≡ Ok t →
+    (v : Verdict) → check_state s (length xs) ≡ v → v ≡ Ok tt
+done_passed s t xs directions axes ns ps e (Ok _) h = refl
+done_passed s t xs directions axes ns ps e (Err r) h =
+    refused_done r t (sym (ap (λ (x : Report). x.answer) (run_unchecked s xs directions axes ns ps r h)) ∙ e)
 
-done_passed : (s t : State) (xs : List ℤ) (directions axes ns ps : List ℕ) → (run_calls s xs directions axes ns ps).answer ≡ Done t →
-    (v : Verdict) → check_state s (length xs) ≡ v → v ≡ verdict.Passed
-done_passed s t xs directions axes ns ps e verdict.Passed h = refl
-done_passed s t xs directions axes ns ps e (verdict.Refused r) h =
-    absurd (never_done r t (sym (ap (λ (x : Report). x.answer) (run_unchecked s xs directions axes ns ps r h)) ∙ e))
-
-done_matched : (s t : State) (xs : List ℤ) (directions axes ns ps : List ℕ) → check_state s (length xs) ≡ verdict.Passed →
-    (run_calls s xs directions axes ns ps).answer ≡ Done t → Matched directions axes ns ps
+done_matched : (s t : State) (xs : List ℤ) (directions axes ns ps : List ℕ) → check_state s (length xs) ≡ Ok tt →
+    (run_calls s xs directions axes ns ps).answer ≡ Ok t → Matched directions axes ns ps
 done_matched s t xs directions axes ns ps passed e =
     matched_or_refused s xs directions axes ns ps passed (λ m. m)
-    (λ h. absurd (never_done ListLength t (sym (ap (λ (x : Report). x.answer) h) ∙ e)))
+    (λ h. refused_done ListLength t (sym (ap (λ (x : Report). x.answer) h) ∙ e))
 
 -- The rest of a list can be handed in later, with the state and the table that the call before left: the answers of the two calls, one list after the other, the
 -- state and the table are those of one call with the whole list.
 pub handed_in_later : (s t : State) (xs : List ℤ) (directions axes ns ps later more ms qs : List ℕ) → Matched later more ms qs →
     let first = run_calls s xs directions axes ns ps in
     let rest = run_calls t first.table later more ms qs in
-    first.answer ≡ Done t →
+    first.answer ≡ Ok t →
     run_calls s xs (directions ++ later) (axes ++ more) (ns ++ ms) (ps ++ qs)
     ≡ report rest.answer rest.table (first.numbers ++ rest.numbers) (first.places ++ rest.places)
 handed_in_later s t xs directions axes ns ps later more ms qs b e =
-    let passed : check_state s (length xs) ≡ verdict.Passed = done_passed s t xs directions axes ns ps e _ refl in
+    let passed : check_state s (length xs) ≡ (Ok tt) = done_passed s t xs directions axes ns ps e _ refl in
     let a = done_matched s t xs directions axes ns ps passed e in
     let r = run (calls_of directions axes) s xs in
     let first_is : run_calls s xs directions axes ns ps ≡ report_of r = matched_runs s xs directions axes ns ps passed a in
-    let done : Done r.state ≡ Done t = sym (ap (λ (x : Report). x.answer) first_is) ∙ e in
+    let done : Ok r.state ≡ Ok t = sym (ap (λ (x : Report). x.answer) first_is) ∙ e in
     let same : t ≡ r.state = cc in
     matched_runs s xs (directions ++ later) (axes ++ more) (ns ++ ms) (ps ++ qs) passed (matched_append directions axes ns ps later more ms qs a b)
     ∙ rw (

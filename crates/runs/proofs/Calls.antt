@@ -1,6 +1,7 @@
 -- One call on a table that agrees with the model: it is refused exactly where the model refuses it, with that number and place, and leaves a table and a
 -- state that agree with the model's next set. From the laws of one turn on the table of a set.
 -- Assumes nothing.
+use Rattle.std.specs.Prelude.{Ok, Err}
 use mathlib.Core.Path.{◌≡◌, ap, sym, ◌∙◌}
 use mathlib.Core.Bool.{true, false, ◌&&◌}
 use mathlib.Core.List.{List}
@@ -14,7 +15,6 @@ use Rattle.naturals.proofs.Cases.{eq_or_not, true_or_false}
 use Rattle.naturals.proofs.Tests.{and_left, and_right}
 use Rattle.refusals.specs.declared.Refusal.{Refusal}
 use Rattle.refusals.specs.declared.Refusal.TheVariants.{Axis, AlreadyForward, NotForward}
-use Rattle.refusals.specs.declared.Verdict.TheVariants as verdict
 use Rattle.refusals.specs.Checks.{unless}
 use Rattle.hierarchy.specs.declared.Turn.{Turn}
 use Rattle.hierarchy.specs.declared.Turn.TheVariants.{Forward, Back}
@@ -34,7 +34,6 @@ use Rattle.states.specs.declared.State.{State}
 use Rattle.states.specs.States.{has}
 use Rattle.states.proofs.Bits.{has_marked_same, has_marked_other, has_cleared_same, has_cleared_other, marked_small, cleared_small}
 use Rattle.states.proofs.Checked.{state_passes}
-use Rattle.states.specs.declared.Answer.TheVariants.{Done}
 use Rattle.states.specs.After.{After, after, kept}
 use Rattle.grids.specs.Turned.{turned_table, former_table}
 use Rattle.turns.specs.Turns.{is_accepted, check_turn, forward_turn, back_turn}
@@ -67,7 +66,7 @@ module _ (s : Shape) (range : InRange s) (r : ℕ → ℤ) (rates : Rates (point
     pub agrees : Agrees (model_set s.axes set call) next (carried_out call (state_of s byte) xs).table
 
   refused_step : (call : Turn) (set : Axes) (byte : ℕ) (xs : List ℤ) (why : Refusal) → Agrees set byte xs →
-      carried_out call (state_of s byte) xs ≡ kept xs why → model_answer s.axes set call ≡ verdict.Refused why → Step call set byte xs
+      carried_out call (state_of s byte) xs ≡ kept xs why → model_answer s.axes set call ≡ Err why → Step call set byte xs
   refused_step call set byte xs why a e m =
       record {
         next = byte;
@@ -77,7 +76,7 @@ module _ (s : Shape) (range : InRange s) (r : ℕ → ℤ) (rates : Rates (point
       }
 
   done_step : (call : Turn) (set : Axes) (byte next : ℕ) (xs ys : List ℤ) →
-      carried_out call (state_of s byte) xs ≡ after (Done (state_of s next)) ys → model_answer s.axes set call ≡ verdict.Passed →
+      carried_out call (state_of s byte) xs ≡ after (Ok (state_of s next)) ys → model_answer s.axes set call ≡ Ok tt →
       Agrees (changed set call) next ys → Step call set byte xs
   done_step call set byte next xs ys e m a =
       record {

@@ -1,6 +1,9 @@
 -- The loop of `run`: after i calls the state and the table are those of the run of the first i calls, the first i places of the two lists hold its answers, and
 -- the rest of the lists is as it was. One call more is one answer more at the end of the run's.
 -- Assumes nothing.
+use Rattle.std.specs.Prelude.{Result, Ok}
+use Rattle.refusals.specs.Checks.{Verdict}
+use Rattle.refusals.specs.declared.Refusal.{Refusal}
 use mathlib.Core.Path.{◌≡◌, refl, ap, ap₂, sym, ◌∙◌}
 use mathlib.Core.List.{List, [], ◌∷◌, ◌++◌, map, append-nil, map-append}
 use Prim.Native.Nat.{ℕ, zero, suc, ◌+◌, ◌≤◌, ◌<◌}
@@ -9,13 +12,9 @@ use native.Mathlib.Omega.{arith}
 use lib.IntN.{ℤ}
 use lib.ListN.{length, get_or, take, drop, set, length-append, length-map, length-drop}
 use lib.Seq.{take-suc, take-length, drop-length, drop-cons, length-take-le, append_snoc, set_at}
-use Rattle.refusals.specs.declared.Verdict.{Verdict}
-use Rattle.refusals.specs.declared.Verdict.TheVariants.{Passed}
 use Rattle.hierarchy.specs.declared.Turn.{Turn}
 use Rattle.hierarchy.specs.declared.Turn.TheVariants.{Back}
 use Rattle.states.specs.declared.State.{State}
-use Rattle.states.specs.declared.Answer.{Answer}
-use Rattle.states.specs.declared.Answer.TheVariants.{Done}
 use Rattle.states.specs.After.{after}
 use Rattle.states.specs.States.{check_state}
 use Rattle.runs.specs.Runs.{carried_out, handed_on, verdict_of, Ran, run}
@@ -78,7 +77,7 @@ module _ (s : State) (xs : List ℤ) (directions axes ns ps : List ℕ) where
   ran_to i = run (calls_to directions axes i) s xs
 
   pub record Reporting (table : List ℤ) (numbers places : List ℕ) (reached : State) (i : ℕ) : Type 0 where
-    pub passed : check_state s (length xs) ≡ Passed
+    pub passed : check_state s (length xs) ≡ Ok tt
     pub matched : Matched directions axes ns ps
     pub within : i ≤ length directions
     pub state : reached ≡ (ran_to i).state
@@ -87,7 +86,7 @@ module _ (s : State) (xs : List ℤ) (directions axes ns ps : List ℕ) where
     pub numbered : numbers ≡ answered number_in (ran_to i).answers ns
     pub placed : places ≡ answered place_in (ran_to i).answers ps
 
-  pub reporting_starts : check_state s (length xs) ≡ Passed → Matched directions axes ns ps → Reporting xs ns ps s 0
+  pub reporting_starts : check_state s (length xs) ≡ Ok tt → Matched directions axes ns ps → Reporting xs ns ps s 0
   unfolding run
   reporting_starts passed m = record { passed = passed; matched = m; within = omega arith; state = refl; long = refl; contents = refl; numbered = refl; placed = refl }
 
@@ -105,7 +104,7 @@ module _ (s : State) (xs : List ℤ) (directions axes ns ps : List ℕ) where
     pub places_kept : length places ≡ length ps
     places_kept = ap length r.placed ∙ answered_long place_in (ran_to i).answers ps (omega (arith, count_is, r.within, r.matched.places_long))
 
-    pub reporting_ends : length directions ≤ i → report (Done reached) table numbers places ≡ run_calls s xs directions axes ns ps
+    pub reporting_ends : length directions ≤ i → report (Ok reached) table numbers places ≡ run_calls s xs directions axes ns ps
     reporting_ends h =
         let end : i ≡ length directions = omega (arith, r.within) in
         let whole : ran_to i ≡ run (calls_of directions axes) s xs =
@@ -117,7 +116,7 @@ module _ (s : State) (xs : List ℤ) (directions axes ns ps : List ℕ) where
         rw (r.state, r.contents, all_numbers, all_places) (ap report_of whole ∙ sym (matched_runs s xs directions axes ns ps r.passed r.matched))
 
     -- One call more.
-    module _ (more : i < length directions) (next : Answer) (left : List ℤ) (long : length left ≡ length table)
+    module _ (more : i < length directions) (next : Result State Refusal) (left : List ℤ) (long : length left ≡ length table)
         (e : after next left ≡ carried_out (call_at directions axes i) reached table) where
       ran_next : ran_to (suc i)
           ≡ record { answers = (ran_to i).answers ++ (verdict_of next ∷ []); state = handed_on reached next; table = left }

@@ -1,17 +1,13 @@
 -- The call that carries out a list of turns and reports each answer: a direction and an axis number for each, and two lent lists for the answers.
 -- Assumes nothing.
-use Rattle.std.specs.Prelude.{◌&&◌, List, [], ◌∷◌, map, ℕ, zero, suc, eqb, ℤ, length}
+use Rattle.std.specs.Prelude.{◌&&◌, List, [], ◌∷◌, map, ℕ, zero, suc, eqb, ℤ, length, Result, Ok, Err}
 use Rattle.refusals.specs.declared.Refusal.{Refusal}
 use Rattle.refusals.specs.declared.Refusal.TheVariants.{ListLength}
-use Rattle.refusals.specs.declared.Verdict.{Verdict}
-use Rattle.refusals.specs.declared.Verdict.TheVariants as verdict
 use Rattle.refusals.specs.Refusals.{number_of, place_of}
-use Rattle.refusals.specs.Checks.{unless, ◌and_then◌, answer}
+use Rattle.refusals.specs.Checks.{unless, ◌and_then◌, answer, Verdict}
 use Rattle.hierarchy.specs.declared.Turn.{Turn}
 use Rattle.hierarchy.specs.declared.Turn.TheVariants.{Forward, Back}
 use Rattle.states.specs.declared.State.{State}
-use Rattle.states.specs.declared.Answer.{Answer}
-use Rattle.states.specs.declared.Answer.TheVariants.{Done, Refused}
 use Rattle.states.specs.States.{check_state}
 use Rattle.runs.specs.Runs.{Ran, run}
 
@@ -27,29 +23,29 @@ calls_of (x ∷ directions) (axis ∷ axes) = turn_of x axis ∷ calls_of direct
 
 -- An answer as two numbers: the refusal's number and place, and 0 and 0 for a turn that was carried out.
 abbrev pub number_in : Verdict → ℕ
-number_in verdict.Passed = 0
-number_in (verdict.Refused r) = number_of r
+number_in (Ok _) = 0
+number_in (Err r) = number_of r
 
 abbrev pub place_in : Verdict → ℕ
-place_in verdict.Passed = 0
-place_in (verdict.Refused r) = place_of r
+place_in (Ok _) = 0
+place_in (Err r) = place_of r
 
 -- What the call leaves: its own answer, the table, and the two lists of answers.
 pub record Report : Type 0 where
-  pub answer : Answer
+  pub answer : Result State Refusal
   pub table : List ℤ
   pub numbers : List ℕ
   pub places : List ℕ
 
-abbrev pub report : Answer → List ℤ → List ℕ → List ℕ → Report
+abbrev pub report : Result State Refusal → List ℤ → List ℕ → List ℕ → Report
 report a xs ns ps = record { answer = a; table = xs; numbers = ns; places = ps }
 
 abbrev pub report_of : Ran → Report
-report_of r = report (Done r.state) r.table (map number_in r.answers) (map place_in r.answers)
+report_of r = report (Ok r.state) r.table (map number_in r.answers) (map place_in r.answers)
 
 -- Refused: the table and the lists hold what they held.
 abbrev pub unrun : List ℤ → List ℕ → List ℕ → Refusal → Report
-unrun xs ns ps r = report (Refused r) xs ns ps
+unrun xs ns ps r = report (Err r) xs ns ps
 
 -- The four lists are of one length, else refused with 7.
 unfoldable pub check_lengths : List ℕ → List ℕ → List ℕ → List ℕ → Verdict

@@ -1,8 +1,7 @@
 -- The last call on an axis that was not refused, in a list of calls beside their answers.
 -- Assumes nothing.
-use Rattle.std.specs.Prelude.{◌≡◌, List, [], ◌∷◌, ◌++◌, ℕ}
-use Rattle.refusals.specs.declared.Verdict.{Verdict}
-use Rattle.refusals.specs.declared.Verdict.TheVariants.{Passed}
+use Rattle.refusals.specs.Checks.{Verdict}
+use Rattle.std.specs.Prelude.{◌≡◌, List, [], ◌∷◌, ◌++◌, ℕ, Ok}
 use Rattle.hierarchy.specs.declared.Turn.{Turn}
 use Rattle.hierarchy.specs.declared.Turn.TheVariants.{Forward, Back}
 
@@ -24,7 +23,7 @@ answered (call ∷ calls) (answer ∷ answers) = (call, answer) ∷ answered cal
 pub record Unrefused (call : Turn) (list : List Answered) : Type 0 where
   pub before : List Answered
   pub after : List Answered
-  pub stands : list ≡ before ++ ((call, Passed) ∷ after)
+  pub stands : list ≡ before ++ ((call, (Ok tt)) ∷ after)
 
 -- The last call on the axis that was not refused went forward: one that did stands in the list, and every call on the axis after it was refused.
 pub record LastForward (axis : ℕ) (list : List Answered) : Type 0 where

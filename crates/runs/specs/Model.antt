@@ -3,8 +3,7 @@
 use Rattle.std.specs.Prelude.{Bool, true, false, not, ◌&&◌, List, [], ◌∷◌, ℕ, ◌-◌, leb}
 use Rattle.refusals.specs.declared.Refusal.{Refusal}
 use Rattle.refusals.specs.declared.Refusal.TheVariants.{Axis, AlreadyForward, NotForward}
-use Rattle.refusals.specs.declared.Verdict.{Verdict}
-use Rattle.refusals.specs.Checks.{unless, ◌and_then◌, answer}
+use Rattle.refusals.specs.Checks.{unless, ◌and_then◌, answer, Verdict}
 use Rattle.hierarchy.specs.declared.Turn.{Turn}
 use Rattle.hierarchy.specs.declared.Turn.TheVariants.{Forward, Back}
 use Rattle.hierarchy.specs.Work.{put}

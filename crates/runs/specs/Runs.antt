@@ -1,14 +1,12 @@
 -- A list of forward and back calls (document 01, "A run of turns"): each is handed the table, and the state that the call before it answered or, if that was
 -- refused, the state which that one was handed. The calls are the very definitions of the turns.
 -- Assumes nothing.
-use Rattle.std.specs.Prelude.{List, [], ◌∷◌, ℤ}
-use Rattle.refusals.specs.declared.Verdict.{Verdict}
-use Rattle.refusals.specs.declared.Verdict.TheVariants as verdict
+use Rattle.refusals.specs.Checks.{Verdict}
+use Rattle.refusals.specs.declared.Refusal.{Refusal}
+use Rattle.std.specs.Prelude.{List, [], ◌∷◌, ℤ, Result, Ok, Err}
 use Rattle.hierarchy.specs.declared.Turn.{Turn}
 use Rattle.hierarchy.specs.declared.Turn.TheVariants.{Forward, Back}
 use Rattle.states.specs.declared.State.{State}
-use Rattle.states.specs.declared.Answer.{Answer}
-use Rattle.states.specs.declared.Answer.TheVariants.{Done, Refused}
 use Rattle.states.specs.After.{After}
 use Rattle.turns.specs.Turns.{forward_turn, back_turn}
 
@@ -18,14 +16,14 @@ carried_out (Forward axis) s xs = forward_turn s xs axis
 carried_out (Back axis) s xs = back_turn s xs axis
 
 -- The state that the next call is handed.
-abbrev pub handed_on : State → Answer → State
-handed_on s (Done next) = next
-handed_on s (Refused r) = s
+abbrev pub handed_on : State → Result State Refusal → State
+handed_on s (Ok next) = next
+handed_on s (Err r) = s
 
 -- Passed, or refused with this number and place.
-abbrev pub verdict_of : Answer → Verdict
-verdict_of (Done next) = verdict.Passed
-verdict_of (Refused r) = verdict.Refused r
+abbrev pub verdict_of : Result State Refusal → Verdict
+verdict_of (Ok next) = Ok tt
+verdict_of (Err r) = Err r
 
 -- What a run leaves: the answers in order, the state, and the table.
 pub record Ran : Type 0 where

@@ -1,138 +1,107 @@
 // A letter of the list, and the call that it may stand for.
 use crate::text;
-use estimates::Estimated;
-use numbering::{Order, Side};
-use numbers::Numbered;
-use points::{Located, Outcome};
-use refusals::Verdict;
-use shapes::{Counted, Shape};
-use states::{Answer, State};
+use numbering::Side;
+use points::{Point, padded};
+use refusals::Refusal;
+use shapes::Shape;
+use states::State;
+use std::cmp::Ordering;
+use std::fmt::Display;
 use std::io;
 use vectors::compare_levels;
 
-// Where the next number goes: from 0 in the list l, from 10 in the six words of the state, from 16 in the list i, from 32 in the table; and the
-// number so far.
-#[derive(Clone, Copy)]
-pub struct Desk {
-    pub at: usize,
-    pub number: u64,
-}
+// The places where numbers go: the list l from 0, the state from 10, the list i from 16, the table from 32.
+const AXES: usize = 10;
 
-const STATE: usize = 10;
+const LEVEL: usize = 11;
 
 const SET: usize = 12;
+
+// How many numbers of the list l and of the list i, and how many places of the table, a call is lent.
+const LEVELS: usize = 13;
+
+const INDICES: usize = 14;
+
+const PLACES: usize = 15;
 
 const LIST: usize = 16;
 
 const TABLE: usize = 32;
 
-// ---- numbers
+// Where the next number goes, that number so far, and all places.
+#[derive(Drop)]
+pub struct Desk {
+    at: usize,
+    number: u64,
+    l: [u32; 16],
+    i: [u32; 16],
+    table: [i64; 2048],
+}
 
+// The low bits of a number.
 fn word(n: u64) -> u32 {
-    (n % 4294967296) as u32
+    (n & 0xffff_ffff) as u32
 }
 
 fn byte(n: u32) -> u8 {
-    (n % 256) as u8
-}
-
-// The value with these 64 bits.
-fn signed(n: u64) -> i64 {
-    (((n >> 1) as i64) << 1) | ((n % 2) as i64)
-}
-
-fn longer(n: u64, digit: u8) -> u64 {
-    let tenfold = std::num::wrapping_add_u64(n << 3, n << 1);
-    std::num::wrapping_add_u64(tenfold, (digit % 16) as u64)
-}
-
-fn store(at: usize, n: u64, l: &mut [u32; 16], i: &mut [u32; 16], table: &mut [i64; 2048]) {
-    if at < LIST {
-        l[at] = word(n);
-    } else if at < TABLE {
-        i[at - LIST] = word(n);
-    } else if at - TABLE < 2048 {
-        table[at - TABLE] = signed(n);
-    }
-}
-
-fn show(out: &impl Print, at: usize, table: &[i64; 2048]) -> io::Result<()> {
-    if TABLE <= at && at - TABLE < 2048 {
-        text::value(out, table[at - TABLE])?;
-    }
-    Ok(())
+    (n & 0xff) as u8
 }
 
 // ---- answers
 
-fn told(out: &impl Print, outcome: Outcome) -> io::Result<()> {
-    match outcome {
-        Outcome::Found => text::letter(out, b'f'),
-        Outcome::End => text::letter(out, b'e'),
-        Outcome::Border => text::letter(out, b'b'),
-        Outcome::Refused(why) => text::refused(out, why),
+// A number that is answered, or why there is none.
+fn numbered<T: Display + Drop>(out: &impl Print, answer: Result<T, Refusal>) -> io::Result<()> {
+    match answer {
+        Ok(number) => text::number(out, number),
+        Err(why) => text::refused(out, why),
     }
 }
 
-fn located(out: &impl Print, at: Located) -> io::Result<()> {
-    let outcome = at.outcome;
-    let point = at.point;
-    let levels = point.levels;
-    let indices = point.indices;
-    told(out, outcome)?;
+// A point after the letter f; or zeros, after the letter that stands for no point or after why it is refused.
+fn located(out: &impl Print, answer: Result<Option<Point>, Refusal>, none: u8) -> io::Result<()> {
+    let mut levels = [0; 8];
+    let mut indices = [0; 8];
+    match answer {
+        Ok(Some(point)) => {
+            levels = point.levels;
+            indices = point.indices;
+            text::letter(out, b'f')?;
+        }
+        Ok(None) => text::letter(out, none)?,
+        Err(why) => text::refused(out, why)?,
+    }
     text::list(out, levels)?;
     text::list(out, indices)
 }
 
-fn numbered(out: &impl Print, number: Numbered) -> io::Result<()> {
-    match number {
-        Numbered::At(number) => text::number(out, number),
-        Numbered::Refused(why) => text::refused(out, why),
-    }
-}
-
-fn counted(out: &impl Print, count: Counted) -> io::Result<()> {
-    match count {
-        Counted::Points(points) => text::number(out, points),
-        Counted::Refused(why) => text::refused(out, why),
-    }
-}
-
-fn ordered(out: &impl Print, order: Order) -> io::Result<()> {
+fn ordered(out: &impl Print, order: Ordering) -> io::Result<()> {
     match order {
-        Order::Before => text::letter(out, b'<'),
-        Order::Same => text::letter(out, b'='),
-        Order::After => text::letter(out, b'>'),
+        Ordering::Less => text::letter(out, b'<'),
+        Ordering::Equal => text::letter(out, b'='),
+        Ordering::Greater => text::letter(out, b'>'),
     }
 }
 
-fn estimated(out: &impl Print, estimate: Estimated) -> io::Result<()> {
-    match estimate {
-        Estimated::Value(v) => text::value(out, v),
-        Estimated::Refused(why) => text::refused(out, why),
-    }
-}
-
-fn judged(out: &impl Print, verdict: Verdict) -> io::Result<()> {
+fn judged(out: &impl Print, verdict: Result<(), Refusal>) -> io::Result<()> {
     match verdict {
-        Verdict::Passed => text::letter(out, b'd'),
-        Verdict::Refused(why) => text::refused(out, why),
+        Ok(()) => text::letter(out, b'd'),
+        Err(why) => text::refused(out, why),
     }
 }
 
 // The state that is answered; its set is handed to the next call.
 fn shown(out: &impl Print, state: State) -> io::Result<u8> {
     let shape = state.shape;
-    text::number(out, state.forward as u64)?;
-    text::number(out, shape.axes as u64)?;
-    text::number(out, shape.level as u64)?;
+    text::number(out, state.forward)?;
+    text::number(out, shape.axes)?;
+    text::number(out, shape.level)?;
     Ok(state.forward)
 }
 
-fn answered(out: &impl Print, answer: Answer, set: u8) -> io::Result<u8> {
+fn answered(out: &impl Print, answer: Result<State, Refusal>, set: u8) -> io::Result<u8> {
     match answer {
-        Answer::Done(state) => shown(out, state),
-        Answer::Refused(why) => {
+        Ok(state) => shown(out, state),
+        Err(why) => {
             text::refused(out, why)?;
             Ok(set)
         }
@@ -143,47 +112,7 @@ fn answered(out: &impl Print, answer: Answer, set: u8) -> io::Result<u8> {
 
 // The first numbers of a list.
 fn part<'a>(list: &'a [u32], count: u32) -> &'a [u32] {
-    let places = count as usize;
-    if list.len() < places {
-        return list;
-    }
-    &list[..places]
-}
-
-fn parent(shape: Shape, letter: u8, levels: &[u32], indices: &[u32], axis: u32) -> Located {
-    let side = if letter == b'L' {
-        Side::Left
-    } else {
-        Side::Right
-    };
-    parents::parent(shape, levels, indices, axis, side)
-}
-
-fn call_on_point(
-    out: &impl Print,
-    shape: Shape,
-    letter: u8,
-    levels: &[u32],
-    indices: &[u32],
-    x: u64,
-) -> io::Result<()> {
-    match letter {
-        b'N' => numbered(out, numbers::number_of_point(shape, levels, indices)),
-        b'O' => ordered(
-            out,
-            compare_levels(points::padded(levels), points::padded(indices)),
-        ),
-        b'S' => located(out, successor::successor(shape, levels, indices)),
-        _ => located(out, parent(shape, letter, levels, indices, word(x))),
-    }
-}
-
-fn call_on_shape(out: &impl Print, shape: Shape, letter: u8, x: u64) -> io::Result<()> {
-    if letter == b'C' {
-        counted(out, shapes::count(shape))
-    } else {
-        located(out, numbers::point_of_number(shape, x))
-    }
+    list.get(..count as usize).unwrap_or(list)
 }
 
 // Four turns, and what is reported of them.
@@ -193,81 +122,19 @@ fn run(
     l: &[u32; 16],
     axes: &[u32],
     table: &mut [i64],
-) -> io::Result<Answer> {
+) -> io::Result<Result<State, Refusal>> {
     let directions = [byte(l[0]), byte(l[1]), byte(l[2]), byte(l[3])];
     let mut numbers = [77u32; 4];
     let mut places = [77u64; 4];
     let answer = runs::run(state, table, &directions, axes, &mut numbers, &mut places);
-    reported(out, numbers[0], places[0])?;
-    reported(out, numbers[1], places[1])?;
-    reported(out, numbers[2], places[2])?;
-    reported(out, numbers[3], places[3])?;
+    for (number, place) in numbers.iter().zip(&places) {
+        text::number(out, *number)?;
+        text::number(out, *place)?;
+    }
     Ok(answer)
 }
 
-fn reported(out: &impl Print, number: u32, place: u64) -> io::Result<()> {
-    text::number(out, number as u64)?;
-    text::number(out, place)
-}
-
-fn turn(state: State, letter: u8, table: &mut [i64], axis: u32) -> Answer {
-    match letter {
-        b'A' => tables::load(state.shape, table),
-        b'B' => tables::adopt(state.shape, table),
-        b'F' => turns::hierarchize(state, table, axis),
-        _ => turns::dehierarchize(state, table, axis),
-    }
-}
-
-fn whole(state: State, letter: u8, table: &mut [i64]) -> Verdict {
-    match letter {
-        b'U' => tables::unload(state, table),
-        b'V' => whole::rates_to_coefficients(state.shape, table),
-        _ => whole::coefficients_to_rates(state.shape, table),
-    }
-}
-
-fn call_on_table(
-    out: &impl Print,
-    state: State,
-    letter: u8,
-    l: &[u32],
-    table: &mut [i64],
-) -> io::Result<()> {
-    if letter == b'E' {
-        estimated(out, estimates::estimate(state, table, l))
-    } else {
-        judged(out, whole(state, letter, table))
-    }
-}
-
-fn state_of(words: &[u32; 16]) -> State {
-    let shape = Shape {
-        axes: words[STATE],
-        level: words[11],
-    };
-    State {
-        shape: shape,
-        forward: byte(words[SET]),
-    }
-}
-
-fn call_on_lists(
-    out: &impl Print,
-    shape: Shape,
-    letter: u8,
-    l: &[u32],
-    i: &[u32],
-    x: u64,
-) -> io::Result<()> {
-    if letter == b'C' || letter == b'P' {
-        call_on_shape(out, shape, letter, x)
-    } else {
-        call_on_point(out, shape, letter, l, i, x)
-    }
-}
-
-// The set afterwards.
+// The call that a letter stands for, with the number x before it; answers the set afterwards.
 fn call(
     out: &impl Print,
     letter: u8,
@@ -276,95 +143,114 @@ fn call(
     i: &[u32; 16],
     table: &mut [i64],
 ) -> io::Result<u8> {
-    let state = state_of(l);
-    let set = state.forward;
+    let shape = Shape {
+        axes: l[AXES],
+        level: l[LEVEL],
+    };
+    let set = byte(l[SET]);
+    let state = State {
+        shape,
+        forward: set,
+    };
+    let levels = part(l, l[LEVELS]);
+    let indices = part(i, l[INDICES]);
+    let axis = word(x);
+    // The letters are matched here alone, so an enum of calls would only list them twice.
     match letter {
-        b'T' => return answered(out, run(out, state, l, part(i, l[14]), table)?, set),
-        b'A' | b'B' | b'F' | b'G' => {
-            return answered(out, turn(state, letter, table, word(x)), set);
-        }
-        b'E' | b'U'..=b'W' => call_on_table(out, state, letter, part(l, l[13]), table)?,
-        _ => call_on_lists(out, state.shape, letter, part(l, l[13]), part(i, l[14]), x)?,
+        b'A' => return answered(out, tables::load(shape, table), set),
+        b'B' => return answered(out, tables::adopt(shape, table), set),
+        b'F' => return answered(out, turns::hierarchize(state, table, axis), set),
+        b'G' => return answered(out, turns::dehierarchize(state, table, axis), set),
+        b'T' => return answered(out, run(out, state, l, indices, table)?, set),
+        b'C' => numbered(out, shapes::count(shape))?,
+        b'E' => numbered(out, estimates::estimate(state, table, levels))?,
+        b'L' => located(
+            out,
+            parents::parent(shape, levels, indices, axis, Side::Left),
+            b'b',
+        )?,
+        b'N' => numbered(out, numbers::number_of_point(shape, levels, indices))?,
+        b'O' => ordered(out, compare_levels(padded(levels), padded(indices)))?,
+        b'P' => located(out, numbers::point_of_number(shape, x).map(Some), b' ')?,
+        b'S' => located(out, successor::successor(shape, levels, indices), b'e')?,
+        b'U' => judged(out, tables::unload(state, table))?,
+        b'V' => judged(out, whole::rates_to_coefficients(shape, table))?,
+        b'W' => judged(out, whole::coefficients_to_rates(shape, table))?,
+        _ => located(
+            out,
+            parents::parent(shape, levels, indices, axis, Side::Right),
+            b'b',
+        )?,
     }
     Ok(set)
 }
 
-// The library is lent so many places.
-fn call_on_part(
-    out: &impl Print,
-    letter: u8,
-    x: u64,
-    l: &[u32; 16],
-    i: &[u32; 16],
-    count: u32,
-    table: &mut [i64],
-) -> io::Result<u8> {
-    let places = count as usize;
-    if table.len() < places {
-        return Ok(0);
-    }
-    call(out, letter, x, l, i, &mut table[..places])
-}
-
-// Where the numbers after a letter go.
-fn named(letter: u8, at: usize) -> usize {
-    match letter {
-        b's' => STATE,
-        b'l' => 0,
-        b'i' => LIST,
-        b't' => TABLE,
-        _ => at,
-    }
-}
-
-// A letter that ends a number, or stands for one.
-fn ended(
-    out: &impl Print,
-    letter: u8,
-    desk: Desk,
-    l: &mut [u32; 16],
-    i: &mut [u32; 16],
-    table: &mut [i64; 2048],
-) -> io::Result<Desk> {
-    let n = desk.number;
-    if letter == b'.' {
-        show(out, desk.at, table)?;
-    } else if letter == b',' {
-        store(desk.at, n, l, i, table);
-    } else {
-        store(desk.at, std::num::wrapping_sub_u64(0, n), l, i, table);
-    }
-    Ok(Desk {
-        at: std::num::wrapping_add_usize(desk.at, 1),
-        number: 0,
-    })
-}
-
-// One letter.
-pub fn read(
-    out: &impl Print,
-    desk: Desk,
-    letter: u8,
-    l: &mut [u32; 16],
-    i: &mut [u32; 16],
-    table: &mut [i64; 2048],
-) -> io::Result<Desk> {
-    let n = desk.number;
-    let at = desk.at;
-    match letter {
-        b'0'..=b'9' => Ok(Desk {
-            at: at,
-            number: longer(n, letter),
-        }),
-        b','..=b'.' => ended(out, letter, desk, l, i, table),
-        b'A'..=b'Z' => {
-            let places = l[15];
-            l[SET] = call_on_part(out, letter, n, l, i, places, table)? as u32;
-            Ok(Desk { at: at, number: 0 })
-        }
-        _ => Ok(Desk {
-            at: named(letter, at),
+impl Desk {
+    pub fn new() -> Desk {
+        Desk {
+            at: 0,
             number: 0,
-        }),
+            l: [0; 16],
+            i: [0; 16],
+            table: [0; 2048],
+        }
+    }
+
+    // A number ends: it goes to its place, and the next goes behind it.
+    fn store(&mut self, n: u64) {
+        let at = self.at;
+        if at < LIST {
+            self.l[at] = word(n);
+        } else if at < TABLE {
+            self.i[at - LIST] = word(n);
+        } else if let Some(place) = self.table.get_mut(at - TABLE) {
+            *place = n.cast_signed();
+        }
+        self.at = at.wrapping_add(1);
+    }
+
+    // A place of the table, printed instead.
+    fn show(&mut self, out: &impl Print) -> io::Result<()> {
+        let at = self.at;
+        if TABLE <= at
+            && let Some(value) = self.table.get(at - TABLE)
+        {
+            text::number(out, *value)?;
+        }
+        self.at = at.wrapping_add(1);
+        Ok(())
+    }
+
+    // A capital: the call on as many places of the table as it is lent.
+    fn call(&mut self, out: &impl Print, letter: u8) -> io::Result<()> {
+        let places = self.l[PLACES] as usize;
+        let set = match self.table.get_mut(..places) {
+            Some(table) => call(out, letter, self.number, &self.l, &self.i, table)?,
+            None => 0,
+        };
+        self.l[SET] = u32::from(set);
+        Ok(())
+    }
+
+    // One letter.
+    pub fn read(&mut self, out: &impl Print, letter: u8) -> io::Result<()> {
+        match letter {
+            b'0'..=b'9' => {
+                let tenfold = self.number.wrapping_mul(10);
+                self.number = tenfold.wrapping_add(u64::from(letter - b'0'));
+                return Ok(());
+            }
+            b',' => self.store(self.number),
+            b'-' => self.store(self.number.wrapping_neg()),
+            b'.' => self.show(out)?,
+            b'A'..=b'Z' => self.call(out, letter)?,
+            b's' => self.at = AXES,
+            b'l' => self.at = 0,
+            b'i' => self.at = LIST,
+            b't' => self.at = TABLE,
+            _ => {}
+        }
+        self.number = 0;
+        Ok(())
     }
 }

@@ -13,36 +13,19 @@ mod text;
 use calls::Desk;
 use std::io;
 
-// The letter, printed.
-fn echo(out: &impl Print, letters: &[u8], k: usize) -> io::Result<u8> {
-    if letters.len() <= k {
-        return Ok(b' ');
-    }
-    let letter = letters[k];
-    text::word(out, &[letter])?;
-    Ok(letter)
-}
-
-fn read_all(
-    out: &impl Print,
-    letters: &[u8],
-    count: usize,
-    l: &mut [u32; 16],
-    i: &mut [u32; 16],
-    table: &mut [i64; 2048],
-) -> io::Result<()> {
-    let mut desk = Desk { at: 0, number: 0 };
-    for k in 0..count {
-        desk = calls::read(out, desk, echo(out, letters, k)?, l, i, table)?;
+fn read_all(out: &impl Print, letters: &[u8]) -> io::Result<()> {
+    let mut desk = Desk::new();
+    for letter in letters {
+        text::word(out, &[*letter])?;
+        desk.read(out, *letter)?;
     }
     Ok(())
 }
 
 fn main(rt: HostRuntime) -> io::Result<()> {
     let mut letters = [0u8; 262144];
-    let mut l = [0u32; 16];
-    let mut i = [0u32; 16];
-    let mut table = [0i64; 2048];
-    let count = streams::read_input(&mut rt.stdin(), &mut letters).length;
-    read_all(&rt, &letters, count, &mut l, &mut i, &mut table)
+    let came = streams::read_input(&mut rt.stdin(), &mut letters);
+    // Where a read fails, the letters that had come are read.
+    let count = came.unwrap_or_else(|failed| failed.length);
+    read_all(&rt, &letters[..count])
 }

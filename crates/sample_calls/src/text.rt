@@ -1,5 +1,6 @@
 // Text on standard output.
 use refusals::Refusal;
+use std::fmt::Display;
 use std::io;
 
 pub fn word(out: &impl Print, bytes: &[u8]) -> io::Result<()> {
@@ -7,7 +8,7 @@ pub fn word(out: &impl Print, bytes: &[u8]) -> io::Result<()> {
 }
 
 // A number with a space before it.
-pub fn number(out: &impl Print, n: u64) -> io::Result<()> {
+pub fn number(out: &impl Print, n: impl Display + Drop) -> io::Result<()> {
     print!(out; " {n}")
 }
 
@@ -17,18 +18,13 @@ pub fn letter(out: &impl Print, l: u8) -> io::Result<()> {
 
 pub fn list(out: &impl Print, l: [u32; 8]) -> io::Result<()> {
     for n in l {
-        number(out, n as u64)?;
+        number(out, n)?;
     }
     Ok(())
 }
 
-// A value with a space before it.
-pub fn value(out: &impl Print, v: i64) -> io::Result<()> {
-    print!(out; " {v}")
-}
-
 pub fn refused(out: &impl Print, why: Refusal) -> io::Result<()> {
-    word(out, b" refused")?;
-    number(out, refusals::refusal_number(why) as u64)?;
-    number(out, refusals::refusal_place(why))
+    let number = why.number();
+    let place = why.place();
+    print!(out; " refused {number} {place}")
 }

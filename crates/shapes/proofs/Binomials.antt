@@ -3,7 +3,6 @@
 -- Assumes nothing.
 use mathlib.Core.Path.{◌≡◌, refl, sym, ◌∙◌}
 use mathlib.Core.Bool.{Bool, true}
-use mathlib.Core.List.{List, [], ◌∷◌}
 use Prim.Native.Nat.{ℕ, zero, suc, ◌+◌, ◌-◌, ◌≤◌}
 use native.Mathlib.Omega.{arith}
 use lib.Dec.{eqb}
@@ -12,36 +11,24 @@ use Rattle.naturals.specs.Test.{all}
 use Rattle.naturals.proofs.Tests.{all_at}
 use Rattle.numbering.specs.Binomial.{choose}
 use Rattle.numbering.specs.Count.{vectors}
+use Rattle.shapes.specs.declared.TheConstants.{ROWS}
 use Rattle.shapes.specs.Rows.{entry, Binomials}
 
--- The table as the code has it: the proof of `rows` is refused where the two differ.
-unfoldable pub rows : List (List ℕ)
-rows =
-    (1 ∷ 1 ∷ 1 ∷ 1 ∷ 1 ∷ 1 ∷ 1 ∷ 1 ∷ 1 ∷ [])
-    ∷ (1 ∷ 2 ∷ 3 ∷ 4 ∷ 5 ∷ 6 ∷ 7 ∷ 8 ∷ 9 ∷ [])
-    ∷ (1 ∷ 3 ∷ 6 ∷ 10 ∷ 15 ∷ 21 ∷ 28 ∷ 36 ∷ 45 ∷ [])
-    ∷ (1 ∷ 4 ∷ 10 ∷ 20 ∷ 35 ∷ 56 ∷ 84 ∷ 120 ∷ 165 ∷ [])
-    ∷ (1 ∷ 5 ∷ 15 ∷ 35 ∷ 70 ∷ 126 ∷ 210 ∷ 330 ∷ 495 ∷ [])
-    ∷ (1 ∷ 6 ∷ 21 ∷ 56 ∷ 126 ∷ 252 ∷ 462 ∷ 792 ∷ 1287 ∷ [])
-    ∷ (1 ∷ 7 ∷ 28 ∷ 84 ∷ 210 ∷ 462 ∷ 924 ∷ 1716 ∷ 3003 ∷ [])
-    ∷ (1 ∷ 8 ∷ 36 ∷ 120 ∷ 330 ∷ 792 ∷ 1716 ∷ 3432 ∷ 6435 ∷ [])
-    ∷ []
-
 entry_right : ℕ → ℕ → Bool
-entry_right row column = eqb (entry rows row column) (choose (row + column) column)
+entry_right row column = eqb (entry ROWS row column) (choose (row + column) column)
 
 row_right : ℕ → Bool
 row_right row = all (entry_right row) 9
 
 all_right : all row_right 8 ≡ true
-unfolding all row_right entry_right rows choose
+unfolding all row_right entry_right choose
 all_right = refl
 
-binomials : (d j : ℕ) → 1 ≤ d → d ≤ 8 → j ≤ 8 → entry rows (d - 1) j ≡ choose (d - 1 + j) j
+binomials : (d j : ℕ) → 1 ≤ d → d ≤ 8 → j ≤ 8 → entry ROWS (d - 1) j ≡ choose (d - 1 + j) j
 unfolding row_right entry_right
 binomials d j low high short =
     let row : row_right (d - 1) ≡ true = all_at row_right 8 all_right (d - 1) (omega arith) in
-    eqb-true (entry rows (d - 1) j) (choose (d - 1 + j) j) (all_at (entry_right (d - 1)) 9 row j (omega arith))
+    eqb-true (entry ROWS (d - 1) j) (choose (d - 1 + j) j) (all_at (entry_right (d - 1)) 9 row j (omega arith))
 
 -- The count of level vectors is that binomial.
 vectors_choose : (d j : ℕ) → 1 ≤ d → vectors d j ≡ choose (d - 1 + j) j
@@ -49,5 +36,5 @@ unfolding vectors
 vectors_choose zero j low = omega arith
 vectors_choose (suc k) j low = let less : suc k - 1 ≡ k = omega arith in rw less
 
-pub rows_hold : Binomials rows
+pub rows_hold : Binomials ROWS
 rows_hold = record { holds = λ d j low high short. binomials d j low high short ∙ sym (vectors_choose d j low) }

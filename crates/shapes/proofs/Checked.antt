@@ -1,6 +1,7 @@
 -- What a passed check of a shape tells: 1 to 8 axes and a top level of at most 8; and a shape so is passed. What a passed check of an axis tells, and of a table's
 -- length. The checks are tests of just this.
 -- Assumes nothing.
+use Rattle.std.specs.Prelude.{Ok}
 use mathlib.Core.Path.{◌≡◌}
 use mathlib.Core.Bool.{true, ◌&&◌}
 use Prim.Native.Nat.{ℕ, ◌≤◌}
@@ -8,7 +9,6 @@ use lib.Dec.{leb, eqb}
 use borrow.Author.Tests.{leb-true, le-leb, eqb-true, eq-eqb}
 use Rattle.naturals.proofs.Tests.{and_left, and_right}
 use Rattle.refusals.specs.declared.Refusal.TheVariants.{Axes, Level, TableLength, Axis}
-use Rattle.refusals.specs.declared.Verdict.TheVariants.{Passed}
 use Rattle.refusals.specs.Checks.{unless}
 use Rattle.refusals.proofs.Passing.{first_passed, next_passed, test_passed}
 use Rattle.shapes.specs.declared.Shape.{Shape}
@@ -23,7 +23,7 @@ pub record InRange (s : Shape) : Type 0 where
 between : (a k b : ℕ) → leb a k && leb k b ≡ true → (a ≤ k) × (k ≤ b)
 between a k b e = (leb-true a k (and_left (leb a k) (leb k b) e), leb-true k b (and_right (leb a k) (leb k b) e))
 
-pub passed_in_range : (s : Shape) → check_shape s ≡ Passed → InRange s
+pub passed_in_range : (s : Shape) → check_shape s ≡ Ok tt → InRange s
 unfolding check_shape
 passed_in_range s e =
     let axes = unless (leb 1 s.axes && leb s.axes 8) Axes in
@@ -35,18 +35,18 @@ passed_in_range s e =
       top = leb-true s.level 8 (test_passed (leb s.level 8) Level (next_passed axes level e));
     }
 
-pub in_range_passed : (s : Shape) → InRange s → check_shape s ≡ Passed
+pub in_range_passed : (s : Shape) → InRange s → check_shape s ≡ Ok tt
 unfolding check_shape
 in_range_passed s r = simp (le-leb 1 s.axes r.low, le-leb s.axes 8 r.high, le-leb s.level 8 r.top)
 
-pub axis_in_range : (s : Shape) (axis : ℕ) → check_axis s axis ≡ Passed → (1 ≤ axis) × (axis ≤ s.axes)
+pub axis_in_range : (s : Shape) (axis : ℕ) → check_axis s axis ≡ Ok tt → (1 ≤ axis) × (axis ≤ s.axes)
 unfolding check_axis
 axis_in_range s axis e = between 1 axis s.axes (test_passed (leb 1 axis && leb axis s.axes) (Axis axis) e)
 
-pub length_passed : (s : Shape) (places : ℕ) → check_length s places ≡ Passed → places ≡ points_of s
+pub length_passed : (s : Shape) (places : ℕ) → check_length s places ≡ Ok tt → places ≡ points_of s
 unfolding check_length
 length_passed s places e = eqb-true places (points_of s) (test_passed (eqb places (points_of s)) TableLength e)
 
-pub length_passes : (s : Shape) (places : ℕ) → places ≡ points_of s → check_length s places ≡ Passed
+pub length_passes : (s : Shape) (places : ℕ) → places ≡ points_of s → check_length s places ≡ Ok tt
 unfolding check_length
 length_passes s places e = rw (eq-eqb places (points_of s) e)

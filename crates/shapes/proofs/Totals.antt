@@ -1,6 +1,7 @@
 -- The running total of the count of points: one more turn adds the points of one level sum, and neither that many nor the total comes near the
 -- width, since the largest total of each row of shapes is below 2^32, by one test that antt computes, and the totals grow with the level sum.
 -- Assumes nothing.
+use Rattle.std.specs.Prelude.{Ok}
 use mathlib.Core.Path.{◌≡◌, refl}
 use mathlib.Core.Bool.{Bool, true}
 use Prim.Native.Nat.{ℕ, suc, ◌+◌, ◌-◌, ◌*◌, ◌^◌, ◌%◌, ◌≤◌, ◌<◌}
@@ -13,7 +14,6 @@ use Rattle.naturals.specs.Sum.{sum_to}
 use Rattle.naturals.specs.Test.{all}
 use Rattle.naturals.proofs.Sums.{sum_to_zero, sum_to_suc, sum_to_mono, term_le}
 use Rattle.naturals.proofs.Tests.{all_at}
-use Rattle.refusals.specs.declared.Verdict.TheVariants.{Passed}
 use Rattle.numbering.specs.Binomial.{choose}
 use Rattle.numbering.specs.Count.{vectors, shell, start, points}
 use Rattle.shapes.specs.declared.Shape.{Shape}
@@ -65,7 +65,7 @@ module _ (d : ℕ) (low : 1 ≤ d) (high : d ≤ 8) where
   turn j total count le sum new = rw new (omega (arith, shifted j le, start_suc d j))
 
 -- The points of a shape that the check passes.
-pub points_small : (s : Shape) → check_shape s ≡ Passed → points_of s < 4294967296
+pub points_small : (s : Shape) → check_shape s ≡ Ok tt → points_of s < 4294967296
 unfolding points_of points
 points_small s passed =
     let range = passed_in_range s passed in start_small s.axes range.low range.high (suc s.level) (omega (arith, range.top))

@@ -1,13 +1,11 @@
 -- Shapes, the count of their points, and the checks of a shape, of a table's length and of an axis (document 01, "Terms and limits").
 -- Assumes nothing.
-use Rattle.std.specs.Prelude.{◌&&◌, ℕ, leb, eqb}
+use Rattle.refusals.specs.declared.Refusal.{Refusal}
+use Rattle.std.specs.Prelude.{◌&&◌, ℕ, leb, eqb, Result, Ok, Err}
 use Rattle.refusals.specs.declared.Refusal.TheVariants.{Axes, Level, TableLength, Axis}
-use Rattle.refusals.specs.declared.Verdict.{Verdict}
-use Rattle.refusals.specs.Checks.{unless, ◌and_then◌, answer}
+use Rattle.refusals.specs.Checks.{unless, ◌and_then◌, answer, Verdict}
 use Rattle.numbering.specs.Count.{points}
 use Rattle.shapes.specs.declared.Shape.{Shape}
-use Rattle.shapes.specs.declared.Counted.{Counted}
-use Rattle.shapes.specs.declared.Counted.TheVariants.{Points, Refused}
 
 -- The shape of d axes and top level n: one sparse table with a zero border (every shape is such today).
 abbrev pub sparse : ℕ → ℕ → Shape
@@ -30,8 +28,8 @@ unfoldable pub check_length : Shape → ℕ → Verdict
 check_length s places = unless (eqb places (points_of s)) TableLength
 
 -- The count of the points of a shape.
-unfoldable pub counted : Shape → Counted
-counted s = answer Refused (check_shape s) (Points (points_of s))
+unfoldable pub counted : Shape → Result ℕ Refusal
+counted s = answer Err (check_shape s) (Ok (points_of s))
 
 -- An axis of a shape is one of 1 to d, else refused with 5.
 unfoldable pub check_axis : Shape → ℕ → Verdict

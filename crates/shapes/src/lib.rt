@@ -1,25 +1,18 @@
 // Shapes: the check of a shape, the constant rows of binomials, the count of points, and the check of a table's length.
 #![tactic(auto)]
 
-ghost use Rattle.std.specs.Prelude.{◌≡◌, ◌≤◌};
-ghost use Rattle.refusals.specs.declared.Verdict.TheVariants.{Passed};
+ghost use Rattle.std.specs.Prelude.{◌≡◌, ◌≤◌, Ok};
 ghost use Rattle.numbering.specs.Count.{vectors, start};
 ghost use Rattle.shapes.specs.Shapes.{check_shape, check_axis, points_of, check_length, counted};
 ghost use Rattle.shapes.specs.Rows.{Binomials};
 
-use refusals::{Refusal, Verdict};
+use refusals::Refusal;
 
 // A number of axes d and a top level n (document 01: a shape).
 #[derive(Clone, Copy)]
 pub struct Shape {
     pub axes: u32,
     pub level: u32,
-}
-
-#[derive(Clone, Copy)]
-pub enum Counted {
-    Points(u64),
-    Refused(Refusal),
 }
 
 // The largest number of points that is run (document 02, c).
@@ -38,93 +31,93 @@ const ROWS: [[u16; 9]; 8] = [
 ];
 
 // Refused with 1 or 2.
-pub fn check_shape(shape: Shape) -> Verdict
+pub fn check_shape(shape: Shape) -> Result<(), Refusal>
     ensures { result ≡ check_shape shape }
 {
     let axes = shape.axes;
     let level = shape.level;
     if axes < 1 {
-        return Verdict::Refused(Refusal::Axes);
+        return Err(Refusal::Axes);
     }
     if 8 < axes {
-        return Verdict::Refused(Refusal::Axes);
+        return Err(Refusal::Axes);
     }
     if 8 < level {
-        return Verdict::Refused(Refusal::Level);
+        return Err(Refusal::Level);
     }
-    Verdict::Passed
+    Ok(())
 }
 
 // Refused with 5.
-pub fn check_axis(shape: Shape, axis: u32) -> Verdict
+pub fn check_axis(shape: Shape, axis: u32) -> Result<(), Refusal>
     ensures { result ≡ check_axis shape axis }
 {
     if axis < 1 {
-        return Verdict::Refused(Refusal::Axis(axis));
+        return Err(Refusal::Axis(axis));
     }
     if shape.axes < axis {
-        return Verdict::Refused(Refusal::Axis(axis));
+        return Err(Refusal::Axis(axis));
     }
-    Verdict::Passed
+    Ok(())
 }
 
-// The table, to be built once and lent to what reads it.
-pub fn rows() -> [[u16; 9]; 8]
-    ensures { Binomials result }
-{
-    ROWS
+// The constant rows of binomials, which the counts are read from: built once and lent to what reads it.
+#[derive(Clone, Copy)]
+pub struct Rows {
+    entries: [[u16; 9]; 8],
+    ghost binomials: { Binomials entries },
 }
 
-// How many level vectors of these axes have this level sum.
-pub fn vector_count(rows: &[[u16; 9]; 8], axes: u32, sum: u32) -> u64
-    requires { Binomials rows.now × (1 ≤ axes) × (axes ≤ 8) × (sum ≤ 8) }
-    ensures { result ≡ vectors axes sum }
-{
-    let row = (axes - 1) as usize;
-    let column = sum as usize;
-    rows[row][column] as u64
-}
-
-// How many points of these axes have a level sum below this one, from a lent table.
-pub fn start_of(rows: &[[u16; 9]; 8], axes: u32, sum: u32) -> u64
-    requires { Binomials rows.now × (1 ≤ axes) × (axes ≤ 8) × (sum ≤ 9) }
-    ensures { result ≡ start axes sum }
-{
-    let mut total: u64 = 0;
-    let mut j: u32 = 0;
-    while j < sum {
-        total += vector_count(rows, axes, j) << j;
-        j += 1;
+impl Rows {
+    pub fn new() -> Rows {
+        Rows { entries: ROWS }
     }
-    total
+
+    // How many level vectors of these axes have this level sum.
+    pub fn vectors(&self, axes: u32, sum: u32) -> u64
+        requires { (1 ≤ axes) × (axes ≤ 8) × (sum ≤ 8) }
+        ensures { result ≡ vectors axes sum }
+    {
+        u64::from(self.entries[(axes - 1) as usize][sum as usize])
+    }
+
+    // How many points of these axes have a level sum below this one.
+    pub fn start(&self, axes: u32, sum: u32) -> u64
+        requires { (1 ≤ axes) × (axes ≤ 8) × (sum ≤ 9) }
+        ensures { result ≡ start axes sum }
+    {
+        let mut total: u64 = 0;
+        for j in 0..sum {
+            total += self.vectors(axes, j) << j;
+        }
+        total
+    }
 }
 
 // How many points a shape has that the check passes.
 pub fn points_of(shape: Shape) -> u64
-    requires { check_shape shape ≡ Passed }
+    requires { check_shape shape ≡ Ok tt }
     ensures { result ≡ points_of shape }
 {
-    let rows = rows();
-    start_of(&rows, shape.axes, shape.level + 1)
+    Rows::new().start(shape.axes, shape.level + 1)
 }
 
 // Refused with 3, for a shape that the check passes.
-pub fn check_length(shape: Shape, places: usize) -> Verdict
-    requires { check_shape shape ≡ Passed }
+pub fn check_length(shape: Shape, places: usize) -> Result<(), Refusal>
+    requires { check_shape shape ≡ Ok tt }
     ensures { result ≡ check_length shape places }
 {
     if places as u64 != points_of(shape) {
-        return Verdict::Refused(Refusal::TableLength);
+        return Err(Refusal::TableLength);
     }
-    Verdict::Passed
+    Ok(())
 }
 
 // How many points a shape has.
-pub fn count(shape: Shape) -> Counted
+#[tactic(auto, unfolding(crate::specs::Shapes::counted))]
+pub fn count(shape: Shape) -> Result<u64, Refusal>
     ensures { result ≡ counted shape }
 {
-    match check_shape(shape) {
-        Verdict::Refused(r) => Counted::Refused(r),
-        Verdict::Passed => Counted::Points(points_of(shape)),
-    }
+    check_shape(shape)?;
+    Ok(points_of(shape))
 }

@@ -1,4 +1,4 @@
--- One byte as a set of axes: a bit is tested by shift and mask, set by or and cleared by exclusive or, and the other bits stay. True since the
+-- One byte as a set of axes: a bit is tested by shift and mask, and changed by exclusive or, and the other bits stay. True since the
 -- bit of weight 2^t is the parity of the byte over 2^t.
 -- Assumes nothing.
 use mathlib.Core.Path.{◌≡◌, ap, sym, ◌∙◌}
@@ -7,12 +7,13 @@ use Prim.Native.Nat.{ℕ, zero, suc, ◌+◌, ◌-◌, ◌*◌, ◌/◌, ◌%◌
 use native.Mathlib.Nat.{one-mul, zero-mul, pow-suc, add-mul-div_right, add-div_right, mod-eq_of_lt, div-eq_of_lt, sub-add_cancel, div-lt_iff_lt-mul, div-add-mod', mod-lt, mul-le-mul_right, add-mul, zero-div}
 use native.Mathlib.Numerals.{one-add}
 use native.Mathlib.Omega.{arith}
-use lib.Bits.{bit_and, bit_or, bit_xor, and_mask, and_high, or_add_and, xor_add_and}
+use lib.Bits.{bit_and, bit_xor, and_mask, and_high, xor_add_and}
 use lib.Dec.{eqb}
 use lib.Pow.{pow_pos, pow-add, mod-pow-add, pow_mono, shr-shr, ones_split, ones_lt, high}
 use borrow.Author.Tests.{eq-eqb, ne_eqb, eqb-true, eqb-false}
-use Rattle.naturals.proofs.Cases.{eq_or_not, le_or_lt}
-use Rattle.states.specs.States.{has}
+use Rattle.naturals.proofs.Cases.{eq_or_not, le_or_lt, true_or_false}
+use Rattle.states.specs.declared.State.{State}
+use Rattle.states.specs.States.{has, marked, cleared, toggled}
 
 -- ---- the code's operations
 
@@ -33,17 +34,17 @@ mask_bit n t =
     let e : 2 ^ (1 + t) - 2 ^ t ≡ 2 ^ t = omega (arith, pow-add 2 1 t) in
     ap (bit_and n) (sym e) ∙ and_high n 1 t
 
-pub or_sets : (n t : ℕ) → has n t ≡ false → bit_or n (2 ^ t) ≡ n + 2 ^ t
-or_sets n t e =
+xor_sets : (n t : ℕ) → has n t ≡ false → bit_xor n (2 ^ t) ≡ n + 2 ^ t
+xor_sets n t e =
     omega (
       arith,
-      or_add_and n (2 ^ t),
+      xor_add_and n (2 ^ t),
       mask_bit n t,
       ap (λ (x : ℕ). x * 2 ^ t) (clear_bit n t e),
       zero-mul (2 ^ t),
     )
 
-pub xor_clears : (n t : ℕ) → has n t ≡ true → bit_xor n (2 ^ t) ≡ n - 2 ^ t
+xor_clears : (n t : ℕ) → has n t ≡ true → bit_xor n (2 ^ t) ≡ n - 2 ^ t
 xor_clears n t e =
     omega (
       arith,
@@ -52,6 +53,22 @@ xor_clears n t e =
       ap (λ (x : ℕ). x * 2 ^ t) (set_bit n t e),
       one-mul (2 ^ t),
     )
+
+-- What a state becomes, where its bit is clear and where it is set.
+module _ (s : State) (t : ℕ) where
+  pub toggled_sets : has s.forward t ≡ false → toggled s t ≡ marked s t
+  unfolding toggled
+  toggled_sets e = rw e
+
+  pub toggled_clears : has s.forward t ≡ true → toggled s t ≡ cleared s t
+  unfolding toggled
+  toggled_clears e = rw e
+
+  pub xor_toggles : record { shape = s.shape; forward = bit_xor s.forward (2 ^ t) } ≡ toggled s t
+  xor_toggles =
+      true_or_false (has s.forward t)
+      (λ set. ap (λ (n : ℕ). record { shape = s.shape; forward = n }) (xor_clears s.forward t set) ∙ sym (toggled_clears set))
+      (λ clear. ap (λ (n : ℕ). record { shape = s.shape; forward = n }) (xor_sets s.forward t clear) ∙ sym (toggled_sets clear))
 
 -- A set bit is part of the byte.
 pub bit_le : (n t : ℕ) → has n t ≡ true → 2 ^ t ≤ n

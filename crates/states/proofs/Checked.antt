@@ -1,6 +1,7 @@
 -- What a passed check of a state tells: a shape in range, no bit above its axes and a table of its points; and where all that holds it passes. Each of its
 -- checks is a test of just one of these. Likewise for the check that no axis has a bit: it passes where each has the other.
 -- Assumes nothing.
+use Rattle.std.specs.Prelude.{Ok, Err}
 use mathlib.Core.Path.{◌≡◌, refl, sym}
 use mathlib.Core.Bool.{Bool, true, false, not, beq}
 use Prim.Native.Nat.{ℕ, suc, ◌+◌, ◌^◌, ◌≤◌, ◌<◌}
@@ -11,7 +12,6 @@ use borrow.Author.Tests.{leb-true, le-leb, lt-leb, ltb-true, lt-ltb}
 use Rattle.naturals.proofs.FirstFailing.{first_none, none_first}
 use Rattle.refusals.specs.declared.Refusal.{Refusal}
 use Rattle.refusals.specs.declared.Refusal.TheVariants.{StrayBit}
-use Rattle.refusals.specs.declared.Verdict.TheVariants.{Passed, Refused}
 use Rattle.refusals.specs.Checks.{◌and_then◌}
 use Rattle.refusals.proofs.Passing.{first_passed, next_passed, test_passed}
 use Rattle.shapes.specs.Shapes.{check_shape, points_of, check_length}
@@ -25,15 +25,15 @@ pub record Stands (s : State) (places : ℕ) : Type 0 where
   pub long : places ≡ points_of s.shape
 
 module _ (s : State) where
-  few_bits : check_bits s ≡ Passed → s.forward < 2 ^ s.shape.axes
+  few_bits : check_bits s ≡ Ok tt → s.forward < 2 ^ s.shape.axes
   unfolding check_bits
   few_bits e = ltb-true s.forward (2 ^ s.shape.axes) (test_passed (ltb s.forward (2 ^ s.shape.axes)) StrayBit e)
 
-  bits_pass : s.forward < 2 ^ s.shape.axes → check_bits s ≡ Passed
+  bits_pass : s.forward < 2 ^ s.shape.axes → check_bits s ≡ Ok tt
   unfolding check_bits
   bits_pass h = rw (lt-ltb s.forward (2 ^ s.shape.axes) h)
 
-  pub state_passed : (places : ℕ) → check_state s places ≡ Passed → Stands s places
+  pub state_passed : (places : ℕ) → check_state s places ≡ Ok tt → Stands s places
   unfolding check_state
   state_passed places e =
       let long = check_length s.shape places in
@@ -44,7 +44,7 @@ module _ (s : State) where
         long = length_passed s.shape places (next_passed (check_bits s) long rest);
       }
 
-  pub state_passes : (places : ℕ) → Stands s places → check_state s places ≡ Passed
+  pub state_passes : (places : ℕ) → Stands s places → check_state s places ≡ Ok tt
   unfolding check_state
   state_passes places h = rw (in_range_passed s.shape h.range, bits_pass h.few, length_passes s.shape places h.long)
 
@@ -63,15 +63,15 @@ is_other_lem false false e = cc
 
 module _ (bit : Bool) (refusal : ℕ → Refusal) (s : State) where
   -- What it answers, by the first axis that is found.
-  pub axis_found : (first : ℕ) → first ≡ first_axis bit s → first < s.shape.axes → check_axes bit refusal s ≡ Refused (refusal (first + 1))
+  pub axis_found : (first : ℕ) → first ≡ first_axis bit s → first < s.shape.axes → check_axes bit refusal s ≡ Err (refusal (first + 1))
   unfolding check_axes
   axis_found first e h = rw (← e, lt-leb s.shape.axes first h, add-one first)
 
-  pub none_found : (first : ℕ) → first ≡ first_axis bit s → s.shape.axes ≤ first → check_axes bit refusal s ≡ Passed
+  pub none_found : (first : ℕ) → first ≡ first_axis bit s → s.shape.axes ≤ first → check_axes bit refusal s ≡ Ok tt
   unfolding check_axes
   none_found first e h = rw (← e, le-leb s.shape.axes first h)
 
-  pub axes_passed : check_axes bit refusal s ≡ Passed → (t : ℕ) → t < s.shape.axes → has s.forward t ≡ not bit
+  pub axes_passed : check_axes bit refusal s ≡ Ok tt → (t : ℕ) → t < s.shape.axes → has s.forward t ≡ not bit
   unfolding check_axes first_axis is_other
   axes_passed e t h =
       let d = s.shape.axes in
@@ -79,7 +79,7 @@ module _ (bit : Bool) (refusal : ℕ → Refusal) (s : State) where
       other_bit (has s.forward t) bit
       (none_first (is_other bit s.forward) d (leb-true d first (test_passed (leb d first) (refusal (suc first)) e)) t h)
 
-  pub axes_pass : ((t : ℕ) → t < s.shape.axes → has s.forward t ≡ not bit) → check_axes bit refusal s ≡ Passed
+  pub axes_pass : ((t : ℕ) → t < s.shape.axes → has s.forward t ≡ not bit) → check_axes bit refusal s ≡ Ok tt
   unfolding first_axis is_other
   axes_pass each =
       let d = s.shape.axes in

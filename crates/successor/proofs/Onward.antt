@@ -2,6 +2,7 @@
 -- a sum past the top level. Each number is one higher, since a number is the first of its level vector and the position, and the next vector starts
 -- where this one ends.
 -- Assumes nothing.
+use Rattle.std.specs.Prelude.{None}
 use mathlib.Core.Bool.{Bool, true, false}
 use mathlib.Core.List.{List}
 use mathlib.Core.Path.{◌≡◌, ap, sym, ◌∙◌}
@@ -17,8 +18,6 @@ use Rattle.numbering.proofs.Numbering.{points_is, start_mono}
 use Rattle.numbering.proofs.Subspaces.{first_is, number_from_first}
 use Rattle.numbering.proofs.Succession.{first_position}
 use Rattle.vectors.specs.Steps.{VectorIn, NextVector}
-use Rattle.points.specs.declared.Outcome.TheVariants.{End}
-use Rattle.points.specs.Points.{nowhere}
 use Rattle.points.specs.Steps.{PointIn}
 use Rattle.successor.specs.Steps.{StepsIndices}
 use Rattle.successor.proofs.Reached.{reached, following, reaches, ended}
@@ -69,7 +68,7 @@ module _ {d n : ℕ} {ls is js : List ℕ} {past : Bool} (p : PointIn d n ls is)
         reaches point (at ls) (at is)
         (omega (arith, number_from_first d (at ms) (at js), first_position (at ms) (at js) d (turned.ones e), starts))
 
-    pub none_left : n < sum' → nowhere End ≡ following d n (at ls) (at is)
+    pub none_left : n < sum' → None ≡ following d n (at ls) (at is)
     none_left past_top =
         ended d n (at ls) (at is)
         (omega (

@@ -1,6 +1,7 @@
 -- The point that a step reaches is the one after: a point of the shape whose number is one higher is the point of that number, and it is below N.
 -- And after a number that has none below N above it there is none.
 -- Assumes nothing.
+use Rattle.std.specs.Prelude.{Option, Some, None}
 use mathlib.Core.List.{List}
 use mathlib.Core.Path.{◌≡◌, refl, ap₂, sym}
 use Prim.Native.Nat.{ℕ, suc, ◌≤◌}
@@ -13,19 +14,18 @@ use Rattle.shapes.specs.Shapes.{sparse, points_of}
 use Rattle.grids.specs.Grids.{number_of}
 use Rattle.grids.proofs.Sparse.{points_sparse, number_sparse}
 use Rattle.grids.proofs.Points.{PointOf, number_lt, levels_again, indices_again}
-use Rattle.points.specs.declared.Located.{Located}
-use Rattle.points.specs.declared.Outcome.TheVariants.{End}
-use Rattle.points.specs.Points.{point_at, found, nowhere}
+use Rattle.points.specs.declared.Point.{Point}
+use Rattle.points.specs.Points.{point_at}
 use Rattle.points.specs.Steps.{PointIn}
 use Rattle.points.proofs.Eight.{eight_ext}
 use Rattle.successor.specs.Successor.{after}
 
 -- The answer of a step that reached the point in two lists.
-abbrev pub reached : List ℕ → List ℕ → Located
-reached ls is = found (record { levels = ls; indices = is })
+abbrev pub reached : List ℕ → List ℕ → Option Point
+reached ls is = Some (record { levels = ls; indices = is })
 
 -- What comes after a point of d axes and top level n.
-abbrev pub following : ℕ → ℕ → (ℕ → ℕ) → (ℕ → ℕ) → Located
+abbrev pub following : ℕ → ℕ → (ℕ → ℕ) → (ℕ → ℕ) → Option Point
 following d n l i = after (sparse d n) (number_of (sparse d n) l i)
 
 module _ {d n : ℕ} {ls is : List ℕ} (p : PointIn d n ls is) where
@@ -50,7 +50,7 @@ module _ {d n : ℕ} {ls is : List ℕ} (p : PointIn d n ls is) where
       omega (arith, number_sparse d n (at ls) (at is), e, number_sparse d n l i) in
       sym (rw (lt-ltb (suc q) (points_of (sparse d n)) (omega (arith, number_lt (sparse d n) there, number_is)), ← number_is, point_at_lem))
 
-pub ended : (d n : ℕ) (l i : ℕ → ℕ) → points d n ≤ suc (number d l i) → nowhere End ≡ following d n l i
+pub ended : (d n : ℕ) (l i : ℕ → ℕ) → points d n ≤ suc (number d l i) → None ≡ following d n l i
 unfolding after
 ended d n l i e =
     sym

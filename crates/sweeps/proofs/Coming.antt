@@ -21,8 +21,8 @@ use Rattle.grids.proofs.Turned.{turned_length, former_length}
 use Rattle.points.specs.Points.{eight}
 use Rattle.points.proofs.Eight.{eight_length, eight_whole}
 use Rattle.walks.specs.Walks.{Levels, walk_up, walk_down}
-use Rattle.neighbours.specs.declared.Subspace.{Subspace}
-use Rattle.neighbours.specs.Steps.{Seen}
+use Rattle.neighbours.specs.declared.subspaces.Subspace.{Subspace}
+use Rattle.neighbours.proofs.Seeing.{seen}
 use Rattle.neighbours.proofs.Beside.{end_inside}
 use Rattle.lists.specs.Lists.{between, stepped_at, stepped_between, list_worked, odd_at, odd_sums, first_in, end_of, whole_turn, came_to, ListTurned}
 use Rattle.lists.specs.Steps.{OnAxis, Stepped}
@@ -80,35 +80,27 @@ module _ (d n t : ℕ) (xs : List ℤ) (on : OnAxis (sparse d n) t xs) where
     abbrev seen_as : Subspace
     seen_as =
         record {
-          line = record { axes = d; level = n; place = t };
+          line = record { axes = d; level = n; place = t; few = on.few; top = on.low; axis = on.place };
           levels = ls;
+          sum = sum_to (at ls) d;
           start = first_in shape (at ls);
           end = end_of shape (at ls);
           low = sum_to (at ls) t;
           own = at ls t;
-        }
-
-    seen : Seen seen_as
-    seen =
-        record {
-          few = on.few;
-          top = on.low;
-          axis = on.place;
-          long = eight_long;
-          rest = inside.rest;
-          sum = inside.low;
-          start = refl;
-          end = refl;
-          low = refl;
-          own = refl;
+          vector = record { long = eight_long; total = refl; rest = inside.rest };
+          inside = inside.low;
+          first = refl;
+          after = refl;
+          before = refl;
+          there = refl;
         }
 
     eight_turned : (ahead : Bool) (ys : List ℤ) → ys ≡ came_to ahead shape t (at ls) xs →
         ListTurned ahead shape t (at ls) xs ys (list_worked ahead shape t (at ls) ys)
     unfolding list_worked
     eight_turned ahead ys came =
-        work_turned seen ahead _ xs ys _
-        (points_stepped ahead shape t seen_as.start seen_as.end ys (ap length came ∙ came_long ahead (at ls)) (omega arith) (end_inside seen))
+        work_turned (seen seen_as) ahead _ xs ys _
+        (points_stepped ahead shape t seen_as.start seen_as.end ys (ap length came ∙ came_long ahead (at ls)) (omega arith) (end_inside (seen seen_as)))
         on.long came
 
   list_turned : (ahead : Bool) (l : Levels) → OfShape d n l → (ys : List ℤ) → ys ≡ came_to ahead shape t l xs →

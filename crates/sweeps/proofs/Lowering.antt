@@ -22,11 +22,12 @@ use Rattle.grids.specs.Turned.{turned_table}
 use Rattle.grids.proofs.Sparse.{points_sparse}
 use Rattle.grids.proofs.Turned.{turned_length}
 use Rattle.walks.specs.Walks.{walk_down}
-use Rattle.neighbours.specs.declared.Line.{Line}
-use Rattle.neighbours.specs.declared.Subspace.{Subspace}
+use Rattle.neighbours.specs.declared.subspaces.Line.{Line}
+use Rattle.neighbours.specs.declared.subspaces.Subspace.{Subspace}
 use Rattle.neighbours.specs.Steps.{sparse_of}
 use Rattle.lists.specs.Lists.{odd_sums, list_worked, first_in, end_of, whole_turn, came_to, ListTurned}
-use Rattle.lists.specs.Steps.{OnAxis, Within}
+use Rattle.lists.specs.Steps.{Within}
+use Rattle.lists.proofs.Blocks.{on_line}
 use Rattle.sweeps.specs.Sweeps.{lists_worked}
 use Rattle.sweeps.proofs.Ranks.{first_at, Follows, first_of_all}
 use Rattle.sweeps.proofs.Room.{turned_within}
@@ -49,7 +50,7 @@ pub record Lowering (line : Line) (xs : List ℤ) (sum b k odd : ℕ) (ys : List
   pub walked : lists_worked true (sparse_of line) line.place (left_down line.axes sum b) ys
       ≡ lists_worked true (sparse_of line) line.place (walk_down line.axes line.level) xs
 
-module _ {line : Line} {xs : List ℤ} (on : OnAxis (sparse_of line) line.place xs) where
+module _ (line : Line) (xs : List ℤ) (long : length xs ≡ points_of (sparse_of line)) where
   turned_long : length (turned_on line xs) ≡ points_of (sparse_of line)
   turned_long = turned_length (sparse_of line) line.place xs
 
@@ -58,21 +59,18 @@ module _ {line : Line} {xs : List ℤ} (on : OnAxis (sparse_of line) line.place 
   lowering_starts k whole =
       record {
         first = omega (arith, whole, points_sparse line.axes line.level, points_is line.axes line.level, start_suc line.axes line.level);
-        parted = rw whole (all_below _ xs (turned_on line xs) on.long turned_long);
+        parted = rw whole (all_below _ xs (turned_on line xs) long turned_long);
         odds = rw whole (omega arith);
         walked = same_walk true (sparse_of line) line.place xs (down_all line.axes line.level);
       }
 
   module _ {sum b k odd : ℕ} {ys : List ℤ} (s : Lowering line xs sum b k odd ys) where
-    pub lowering_on : OnAxis (sparse_of line) line.place ys
-    lowering_on = record { few = on.few; low = on.low; place = on.place; long = s.parted.long }
-
     -- The values have room for a step.
     pub lowering_room : Within (2 ^ 59) xs → Within (2 ^ 60) ys
     lowering_room small =
-        parted_within _ xs (turned_on line xs) on.long turned_long k ys s.parted (2 ^ 60)
+        parted_within _ xs (turned_on line xs) long turned_long k ys s.parted (2 ^ 60)
         (λ code. omega (arith, small code))
-        (turned_within (sparse_of line) line.place xs (2 ^ 59) on.long small)
+        (turned_within (sparse_of line) line.place xs (2 ^ 59) long small)
 
     -- No more sums are odd than there are points.
     pub lowering_few : odd ≤ points_of (sparse_of line)
@@ -97,14 +95,14 @@ module _ {line : Line} {xs : List ℤ} (on : OnAxis (sparse_of line) line.place 
     -- At number 0 none is left.
     module _ (done : k ≡ 0) where
       pub lowering_turned : ys ≡ turned_on line xs
-      lowering_turned = above_only _ xs (turned_on line xs) on.long turned_long k ys s.parted done
+      lowering_turned = above_only _ xs (turned_on line xs) long turned_long k ys s.parted done
 
       pub lowering_odds : odd ≡ odd_sums (sparse_of line) line.place xs (points_of (sparse_of line))
       lowering_odds = omega (arith, s.odds, odds_none (sparse_of line) line.place xs, ap (odd_sums (sparse_of line) line.place xs) done)
 
       pub lowering_walked : b < vectors line.axes sum → ys ≡ lists_worked true (sparse_of line) line.place (walk_down line.axes line.level) xs
       lowering_walked in_sum =
-          let none = first_of_all line.axes (omega (arith, on.place)) sum b in_sum (sym s.first ∙ done) in
+          let none = first_of_all line.axes (omega (arith, line.axis)) sum b in_sum (sym s.first ∙ done) in
           none_worked true (sparse_of line) line.place ys (ap₂ (left_down line.axes) none.0 none.1 ∙ down_none line.axes) ∙ s.walked
 
   -- The last list that is left of the sum.
@@ -118,11 +116,11 @@ module _ {line : Line} {xs : List ℤ} (on : OnAxis (sparse_of line) line.place 
 
     -- Its first number, as the code reckons it.
     pub lowering_first : k - 1 * 2 ^ sum % 2 ^ 64 ≡ first_of line.axes (at ls)
-    lowering_first = omega (arith, ends, one_shifted 64 sum (omega (arith, here.low, on.low)))
+    lowering_first = omega (arith, ends, one_shifted 64 sum (omega (arith, here.low, line.top)))
 
     came : ys ≡ came_to true (sparse_of line) line.place (at ls) xs
     unfolding whole_turn
-    came = comes_down line.axes line.level line.place xs on (at ls) ys (rw ends_list at s.parted)
+    came = comes_down line.axes line.level line.place xs (on_line line long) (at ls) ys (rw ends_list at s.parted)
 
     list_first : left_down line.axes sum (suc (rank (at ls) line.axes)) ≡ at ls ∷ left_down line.axes sum (rank (at ls) line.axes)
     list_first =
@@ -135,7 +133,7 @@ module _ {line : Line} {xs : List ℤ} (on : OnAxis (sparse_of line) line.place 
         (turned : ListTurned true (sparse_of line) line.place (at ls) xs ys zs) where
       list_parted : Parted (points_of (sparse_of line)) (first_in (sparse_of line) (at ls)) xs (turned_on line xs) zs
       unfolding whole_turn
-      list_parted = rw worked (goes_down line.axes line.level line.place xs on (at ls) ys (rw ends_list at s.parted) (rw worked at turned))
+      list_parted = rw worked (goes_down line.axes line.level line.place xs (on_line line long) (at ls) ys (rw ends_list at s.parted) (rw worked at turned))
 
       list_done : Lowering line xs sum (rank (at ls) line.axes) (first_in (sparse_of line) (at ls)) (odd + more) zs
       list_done =
@@ -147,7 +145,7 @@ module _ {line : Line} {xs : List ℤ} (on : OnAxis (sparse_of line) line.place 
           }
 
     -- As it is met: the work on it does its part of the turn.
-    pub lowering_worked : (v : Subspace) → Met line ls v → (zs : List ℤ) (more : ℕ) →
+    pub lowering_worked : (v : Subspace) → Met line sum ls v → (zs : List ℤ) (more : ℕ) →
         zs ≡ list_worked true (sparse_of v.line) v.line.place (at v.levels) ys →
         odd_sums (sparse_of v.line) v.line.place ys v.start + more ≡ odd_sums (sparse_of v.line) v.line.place ys v.end →
         ((ws : List ℤ) → length ws ≡ length ys → ys ≡ came_to true (sparse_of v.line) v.line.place (at v.levels) ws →
@@ -155,9 +153,9 @@ module _ {line : Line} {xs : List ℤ} (on : OnAxis (sparse_of line) line.place 
         Lowering line xs sum (rank (at ls) line.axes) (k - 1 * 2 ^ sum % 2 ^ 64) (odd + more) zs
     lowering_worked v m zs more worked counted turned =
         let held : (code : ℕ) → code ≤ k → value_at xs code ≡ value_at ys code
-        = below_codes _ xs (turned_on line xs) on.long turned_long k ys s.parted in
+        = below_codes _ xs (turned_on line xs) long turned_long k ys s.parted in
         rw lowering_first
         (list_done zs more
         (rw (m.on, m.levels) at worked)
-        (met_odds here v m xs ys (λ code h. held code (omega (arith, ends))) more counted)
-        (rw (m.on, m.levels) at (turned xs (on.long ∙ sym s.parted.long) (rw (m.on, m.levels) came))))
+        (met_odds v m xs ys (λ code h. held code (omega (arith, ends))) more counted)
+        (rw (m.on, m.levels) at (turned xs (long ∙ sym s.parted.long) (rw (m.on, m.levels) came))))

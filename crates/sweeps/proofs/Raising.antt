@@ -24,11 +24,12 @@ use Rattle.grids.specs.Turned.{former_table}
 use Rattle.grids.proofs.Sparse.{points_sparse}
 use Rattle.grids.proofs.Turned.{former_length}
 use Rattle.walks.specs.Walks.{walk_up}
-use Rattle.neighbours.specs.declared.Line.{Line}
-use Rattle.neighbours.specs.declared.Subspace.{Subspace}
+use Rattle.neighbours.specs.declared.subspaces.Line.{Line}
+use Rattle.neighbours.specs.declared.subspaces.Subspace.{Subspace}
 use Rattle.neighbours.specs.Steps.{sparse_of}
 use Rattle.lists.specs.Lists.{odd_sums, list_worked, first_in, end_of, whole_turn, came_to, ListTurned}
-use Rattle.lists.specs.Steps.{OnAxis, Within}
+use Rattle.lists.specs.Steps.{Within}
+use Rattle.lists.proofs.Blocks.{on_line}
 use Rattle.sweeps.specs.Sweeps.{lists_worked}
 use Rattle.sweeps.proofs.Ranks.{first_at, Follows, last_of_all}
 use Rattle.sweeps.proofs.Room.{former_within}
@@ -51,33 +52,30 @@ pub record Raising (line : Line) (xs : List ℤ) (sum b k odd : ℕ) (ys : List 
   pub walked : lists_worked false (sparse_of line) line.place (left_up line.axes line.level sum b) ys
       ≡ lists_worked false (sparse_of line) line.place (walk_up line.axes line.level) xs
 
-module _ {line : Line} {xs : List ℤ} (on : OnAxis (sparse_of line) line.place xs) where
+module _ (line : Line) (xs : List ℤ) (long : length xs ≡ points_of (sparse_of line)) where
   former_long : length (former_on line xs) ≡ points_of (sparse_of line)
   former_long = former_length (sparse_of line) line.place xs
 
   few_levels : height (sparse_of line) ≤ 9
   unfolding height
-  few_levels = omega (arith, on.low)
+  few_levels = omega (arith, line.top)
 
   -- At the start none is done.
   pub raising_starts : Raising line xs 0 0 0 0 xs
   raising_starts =
       record {
         first = omega (arith, start_zero line.axes);
-        parted = all_above _ (former_on line xs) xs former_long on.long;
+        parted = all_above _ (former_on line xs) xs former_long long;
         odds = omega (arith, odds_none (sparse_of line) line.place (former_on line xs));
         walked = same_walk false (sparse_of line) line.place xs (up_all line.axes line.level);
       }
 
   module _ {sum b k odd : ℕ} {ys : List ℤ} (s : Raising line xs sum b k odd ys) where
-    pub raising_on : OnAxis (sparse_of line) line.place ys
-    raising_on = record { few = on.few; low = on.low; place = on.place; long = s.parted.long }
-
     -- The values have room for a step.
     pub raising_room : Within (2 ^ 55) xs → Within (2 ^ 60) ys
     raising_room small =
-        parted_within _ (former_on line xs) xs former_long on.long k ys s.parted (2 ^ 60)
-        (λ code. omega (arith, former_within (sparse_of line) line.place xs (2 ^ 55) on.long few_levels small code))
+        parted_within _ (former_on line xs) xs former_long long k ys s.parted (2 ^ 60)
+        (λ code. omega (arith, former_within (sparse_of line) line.place xs (2 ^ 55) long few_levels small code))
         (λ code. omega (arith, small code))
 
     -- No more sums are odd than there are points.
@@ -100,7 +98,7 @@ module _ {line : Line} {xs : List ℤ} (on : OnAxis (sparse_of line) line.place 
     -- At the end of the table none is left.
     module _ (done : k ≡ points_of (sparse_of line)) where
       pub raising_former : ys ≡ former_on line xs
-      raising_former = below_only _ (former_on line xs) xs former_long on.long k ys s.parted (omega arith)
+      raising_former = below_only _ (former_on line xs) xs former_long long k ys s.parted (omega arith)
 
       pub raising_odds : odd ≡ odd_sums (sparse_of line) line.place ys (points_of (sparse_of line))
       raising_odds =
@@ -119,7 +117,7 @@ module _ {line : Line} {xs : List ℤ} (on : OnAxis (sparse_of line) line.place 
     raising_walked low in_sum done =
         let end : first_at line.axes sum r + 2 ^ sum ≡ start line.axes (suc line.level)
         = omega (arith, s.first, done, mul-suc (2 ^ sum) r, points_sparse line.axes line.level, points_is line.axes line.level) in
-        let all = last_of_all line.axes (omega (arith, on.place)) sum r in_sum line.level low end in
+        let all = last_of_all line.axes (omega (arith, line.axis)) sum r in_sum line.level low end in
         none_worked false (sparse_of line) line.place ys
         (ap₂ (left_up line.axes line.level) all.0 (all.1 ∙ ap (vectors line.axes) all.0) ∙ up_none line.axes line.level)
         ∙ s.walked
@@ -132,7 +130,7 @@ module _ {line : Line} {xs : List ℤ} (on : OnAxis (sparse_of line) line.place 
 
     -- Its end, as the code reckons it.
     pub raising_end : k + 1 * 2 ^ sum % 2 ^ 64 ≡ first_of line.axes (at ls) + 2 ^ sum
-    raising_end = omega (arith, raising_first, one_shifted 64 sum (omega (arith, here.low, on.low)))
+    raising_end = omega (arith, raising_first, one_shifted 64 sum (omega (arith, here.low, line.top)))
 
     ends_list : k + 1 * 2 ^ sum % 2 ^ 64 ≡ end_of (sparse_of line) (at ls)
     ends_list = raising_end ∙ ap (λ (u : ℕ). first_of line.axes (at ls) + 2 ^ u) (sym here.vector.total)
@@ -142,7 +140,7 @@ module _ {line : Line} {xs : List ℤ} (on : OnAxis (sparse_of line) line.place 
 
     came : ys ≡ came_to false (sparse_of line) line.place (at ls) xs
     unfolding whole_turn
-    came = comes_up line.axes line.level line.place xs on (at ls) ys (rw raising_first at s.parted)
+    came = comes_up line.axes line.level line.place xs (on_line line long) (at ls) ys (rw raising_first at s.parted)
 
     list_first : left_up line.axes line.level sum (rank (at ls) line.axes) ≡ at ls ∷ left_up line.axes line.level sum (suc (rank (at ls) line.axes))
     list_first =
@@ -155,7 +153,7 @@ module _ {line : Line} {xs : List ℤ} (on : OnAxis (sparse_of line) line.place 
         (turned : ListTurned false (sparse_of line) line.place (at ls) xs ys zs) where
       list_parted : Parted (points_of (sparse_of line)) (end_of (sparse_of line) (at ls)) (former_on line xs) xs zs
       unfolding whole_turn
-      list_parted = rw worked (goes_up line.axes line.level line.place xs on (at ls) ys (rw raising_first at s.parted) (rw worked at turned))
+      list_parted = rw worked (goes_up line.axes line.level line.place xs (on_line line long) (at ls) ys (rw raising_first at s.parted) (rw worked at turned))
 
       list_done : Raising line xs sum (suc (rank (at ls) line.axes)) (end_of (sparse_of line) (at ls)) (odd + more) zs
       list_done =
@@ -167,7 +165,7 @@ module _ {line : Line} {xs : List ℤ} (on : OnAxis (sparse_of line) line.place 
           }
 
     -- As it is met: the work on it does its part of the turn.
-    pub raising_worked : (v : Subspace) → Met line ls v → (zs : List ℤ) (more : ℕ) →
+    pub raising_worked : (v : Subspace) → Met line sum ls v → (zs : List ℤ) (more : ℕ) →
         zs ≡ list_worked false (sparse_of v.line) v.line.place (at v.levels) ys →
         odd_sums (sparse_of v.line) v.line.place ys v.start + more ≡ odd_sums (sparse_of v.line) v.line.place ys v.end →
         ((ws : List ℤ) → length ws ≡ length ys → ys ≡ came_to false (sparse_of v.line) v.line.place (at v.levels) ws →
@@ -175,9 +173,9 @@ module _ {line : Line} {xs : List ℤ} (on : OnAxis (sparse_of line) line.place 
         Raising line xs sum (suc (rank (at ls) line.axes)) (k + 1 * 2 ^ sum % 2 ^ 64) (odd + more) zs
     raising_worked v m zs more worked counted turned =
         let held : (code : ℕ) → code ≤ k → value_at (former_on line xs) code ≡ value_at ys code
-        = below_codes _ (former_on line xs) xs former_long on.long k ys s.parted in
+        = below_codes _ (former_on line xs) xs former_long long k ys s.parted in
         rw ends_list
         (list_done zs more
         (rw (m.on, m.levels) at worked)
-        (met_odds here v m (former_on line xs) ys (λ code h. held code (omega (arith, raising_first))) more counted)
-        (rw (m.on, m.levels) at (turned xs (on.long ∙ sym s.parted.long) (rw (m.on, m.levels) came))))
+        (met_odds v m (former_on line xs) ys (λ code h. held code (omega (arith, raising_first))) more counted)
+        (rw (m.on, m.levels) at (turned xs (long ∙ sym s.parted.long) (rw (m.on, m.levels) came))))

@@ -21,14 +21,14 @@ use Rattle.numbering.proofs.Unrank.{level_of_rank, level_past}
 use Rattle.numbering.proofs.Numbering.{points_is, start_mono, level_zero, levels_sum}
 use Rattle.numbering.proofs.Succession.{rank_first}
 use Rattle.numbering.proofs.Subspaces.{first_is, number_behind_first}
+use Rattle.shapes.specs.Shapes.{points_of}
 use Rattle.grids.proofs.Sparse.{points_sparse}
 use Rattle.vectors.specs.Steps.{VectorIn, NextVector, PreviousVector}
 use Rattle.vectors.proofs.Following.{first, first_zeros}
 use Rattle.points.specs.Points.{eight}
 use Rattle.points.proofs.Eight.{eight_length, eight_whole}
-use Rattle.neighbours.specs.declared.Line.{Line}
+use Rattle.neighbours.specs.declared.subspaces.Line.{Line}
 use Rattle.neighbours.specs.Steps.{sparse_of}
-use Rattle.lists.specs.Steps.{OnAxis}
 use Rattle.sweeps.proofs.Ranks.{first_at, end_le, some_points, Follows, following, last_of_all}
 
 -- A level vector of the shape of d axes and top level n.
@@ -101,12 +101,12 @@ module _ {d sum sum' : ℕ} {ls ls' : List ℕ} (some : 1 ≤ d) (vector : Vecto
 -- ---- the one that the last point lies in
 
 -- A table has points, N in all.
-module _ {line : Line} {xs : List ℤ} (on : OnAxis (sparse_of line) line.place xs) where
+module _ (line : Line) (xs : List ℤ) (long : length xs ≡ points_of (sparse_of line)) where
   pub places : length xs ≡ points line.axes line.level
-  places = omega (arith, on.long, points_sparse line.axes line.level)
+  places = omega (arith, long, points_sparse line.axes line.level)
 
   pub some_place : 1 ≤ length xs
-  some_place = omega (arith, places, some_points line.axes line.level (omega (arith, on.place)))
+  some_place = omega (arith, places, some_points line.axes line.level (omega (arith, line.axis)))
 
   module _ {ls : List ℕ} {sum : ℕ} (sum_is : sum ≡ sum_at line.axes line.level (length xs - 1))
       (ls_is : ls ≡ eight (level_at line.axes line.level (length xs - 1))) where
@@ -114,7 +114,7 @@ module _ {line : Line} {xs : List ℤ} (on : OnAxis (sparse_of line) line.place 
     inside = omega (arith, places, some_place)
 
     whole : at ls ≡ level_at line.axes line.level (length xs - 1)
-    whole = ap at ls_is ∙ eight_whole _ (λ u h. level_zero line.axes line.level (length xs - 1) u (omega (arith, on.few)))
+    whole = ap at ls_is ∙ eight_whole _ (λ u h. level_zero line.axes line.level (length xs - 1) u (omega (arith, line.few)))
 
     last_vector : VectorIn line.axes sum ls
     last_vector =
@@ -133,7 +133,7 @@ module _ {line : Line} {xs : List ℤ} (on : OnAxis (sparse_of line) line.place 
     -- It ends with the last point, so it is the last of the top level.
     pub last_of_table : (sum ≡ line.level) × (suc (rank (at ls) line.axes) ≡ vectors line.axes sum)
     last_of_table =
-        last_of_all line.axes (omega (arith, on.place)) sum (rank (at ls) line.axes) (rank_in last_vector) line.level last_standing.low
+        last_of_all line.axes (omega (arith, line.axis)) sum (rank (at ls) line.axes) (rank_in last_vector) line.level last_standing.low
         (omega (
           arith,
           behind,

@@ -1,71 +1,74 @@
 // The two ways over a table, in the one lent buffer, level list by level list: forward from the highest level sum down, back from the lowest up.
 #![tactic(auto)]
 
-ghost use Rattle.std.specs.Prelude.{true, false, ◌≡◌, ◌^◌};
+ghost use Rattle.std.specs.Prelude.{true, false, ◌≡◌, ◌^◌, length};
 ghost use Rattle.shapes.specs.Shapes.{points_of};
 ghost use Rattle.grids.specs.Turned.{turned_table, former_table};
 ghost use Rattle.walks.specs.Walks.{walk_up, walk_down};
 ghost use Rattle.neighbours.specs.Steps.{sparse_of};
 ghost use Rattle.lists.specs.Lists.{odd_sums};
-ghost use Rattle.lists.specs.Steps.{OnAxis, Within};
+ghost use Rattle.lists.specs.Steps.{Within};
 ghost use Rattle.sweeps.specs.Sweeps.{lists_worked};
 
-use neighbours::Line;
+use cursors::Starts;
+use integers::{Back, Forward};
+use neighbours::{Line, Subspace};
 
 // The forward turn of a table, whether or not it is accepted: the level lists from the last down. Answers how many sums were odd.
 pub fn lower(line: Line, table: &mut [i64]) -> u64
-    requires { OnAxis (sparse_of line) line.place table.old × Within (2 ^ 59) table.old }
+    requires { (length table.old ≡ points_of (sparse_of line)) × Within (2 ^ 59) table.old }
     ensures walked { table.new ≡ lists_worked true (sparse_of line) line.place (walk_down line.axes line.level) table.old }
     ensures turned { table.new ≡ turned_table (sparse_of line) line.place table.old }
     ensures odds { result ≡ odd_sums (sparse_of line) line.place table.old (points_of (sparse_of line)) }
 {
-    let starts = cursors::starts(line);
+    let starts = Starts::of(line);
     let mut start = table.len() as u64;
     let last = numbers::vector_at(line.axes, line.level, start - 1);
     let mut sum = last.sum;
     let mut levels = last.levels;
-    let mut cursors = cursors::after_last(line, sum, &starts);
+    let mut cursors = starts.after_last(sum);
     let mut odd: u64 = 0;
     loop {
         start -= 1 << sum;
-        let v = neighbours::subspace_on(line, sum, &levels, start);
-        cursors::pass_back(v, sum, &mut cursors);
-        odd += lists::work(true, v, &cursors, table);
+        let v = Subspace::on(line, sum, &levels, start);
+        cursors::pass_back(v, &mut cursors);
+        odd += lists::work::<Forward>(v, &cursors, table);
         if start == 0 {
             return odd;
         }
         let before = vectors::to_previous(line.axes as usize, sum, &mut levels);
         if before < sum {
-            cursors = cursors::after_last(line, before, &starts);
+            cursors = starts.after_last(before);
         }
         sum = before;
     }
 }
 
 // The table that a forward turn takes to this one, whether or not that turn is accepted: the level lists from the first up. Answers how many sums were odd.
+// (A loop of its own: here the cursors step on after the work on a list, there they step back before it, and nothing but these steps would be shared.)
 pub fn raise(line: Line, table: &mut [i64]) -> u64
-    requires { OnAxis (sparse_of line) line.place table.old × Within (2 ^ 55) table.old }
+    requires { (length table.old ≡ points_of (sparse_of line)) × Within (2 ^ 55) table.old }
     ensures walked { table.new ≡ lists_worked false (sparse_of line) line.place (walk_up line.axes line.level) table.old }
     ensures turned { table.new ≡ former_table (sparse_of line) line.place table.old }
     ensures odds { result ≡ odd_sums (sparse_of line) line.place table.new (points_of (sparse_of line)) }
 {
-    let starts = cursors::starts(line);
+    let starts = Starts::of(line);
     let mut sum: u32 = 0;
     let mut levels = [0u32; 8];
     let mut start: u64 = 0;
-    let mut cursors = cursors::before_first(line, sum, &starts);
+    let mut cursors = starts.before_first(sum);
     let mut odd: u64 = 0;
     loop {
-        let v = neighbours::subspace_on(line, sum, &levels, start);
-        odd += lists::work(false, v, &cursors, table);
+        let v = Subspace::on(line, sum, &levels, start);
+        odd += lists::work::<Back>(v, &cursors, table);
         start += 1 << sum;
         if start == table.len() as u64 {
             return odd;
         }
-        cursors::pass(v, sum, &mut cursors);
+        cursors::pass(v, &mut cursors);
         let next = vectors::to_next(line.axes as usize, sum, &mut levels);
         if sum < next {
-            cursors = cursors::before_first(line, next, &starts);
+            cursors = starts.before_first(next);
         }
         sum = next;
     }

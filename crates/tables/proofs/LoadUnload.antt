@@ -2,23 +2,20 @@
 -- it leaves gives the table and its state again. True since the quotient of a rate times 2^d is the rate, a value that unload accepts is its quotient times
 -- 2^d, and a byte with no bit set below d and none above is 0.
 -- Assumes nothing.
+use Rattle.std.specs.Prelude.{Ok, Err}
 use Rattle.std.proofs.Common.{◌≡◌, ℕ, suc, ◌%◌, ◌^◌, ◌<◌, true, List, [], ◌∷◌, map, length, get_or, ℤ, pos, nat_abs, sym, refl, ap, ◌∙◌, ap₂, arith, pow_pos}
 use lib.ListN.{length-map}
 use Rattle.naturals.specs.Test.{all}
 use Rattle.naturals.proofs.Tests.{all_at, all_from}
 use Rattle.naturals.specs.FirstFailing.{Passes}
 use Rattle.refusals.specs.declared.Refusal.TheVariants.{Contents, StillForward}
-use Rattle.refusals.specs.declared.Verdict.{Verdict}
-use Rattle.refusals.specs.declared.Verdict.TheVariants as verdict
-use Rattle.refusals.specs.declared.Verdict.TheVariants.{Passed}
-use Rattle.refusals.specs.Checks.{unless, ◌and_then◌, answer}
+use Rattle.refusals.specs.Checks.{unless, ◌and_then◌, answer, Verdict}
 use Rattle.refusals.proofs.Passing.{first_passed, next_passed, test_passed}
 use Rattle.integers.specs.Half.{is_rate}
 use Rattle.hierarchy.specs.Turns.{value_at}
 use Rattle.hierarchy.proofs.Values.{value_mapped, value_suc}
 use Rattle.shapes.specs.declared.Shape.{Shape}
 use Rattle.states.specs.declared.State.{State}
-use Rattle.states.specs.declared.Answer.TheVariants.{Done, Refused}
 use Rattle.states.specs.After.{After, after, kept, Left, left, left_by}
 use Rattle.states.specs.States.{check_state}
 use Rattle.states.proofs.Bits.{no_bits, no_axis_lem}
@@ -44,13 +41,13 @@ module _ (s : Shape) (xs : List ℤ) (opens : Opens s xs) (rates : Passes (rate_
   scaled : List ℤ
   scaled = map (times s.axes) xs
 
-  loaded_passes : check_state loaded (length scaled) ≡ Passed
+  loaded_passes : check_state loaded (length scaled) ≡ Ok tt
   unfolding loaded scaled
   loaded_passes =
       state_passes loaded (length scaled)
       (record { range = opens.range; few = pow_pos s.axes; long = length-map xs (times s.axes) ∙ opens.long })
 
-  none_forward : check_sampled loaded ≡ Passed
+  none_forward : check_sampled loaded ≡ Ok tt
   unfolding check_sampled loaded
   none_forward = axes_pass true StillForward loaded (λ t h. no_bits t)
 
@@ -62,24 +59,24 @@ module _ (s : Shape) (xs : List ℤ) (opens : Opens s xs) (rates : Passes (rate_
       ap (is_scaled s.axes) (value_mapped (times s.axes) xs (times_zero s.axes) (suc p))
       ∙ is_scaled_rate s.axes (value_at xs (suc p)) (rates p (omega (arith, length-map xs (times s.axes)))))
 
-  unload_loaded : unload loaded scaled ≡ left Passed xs
+  unload_loaded : unload loaded scaled ≡ left (Ok tt) xs
   unfolding loaded scaled
   unload_loaded =
       unload_done loaded scaled loaded_passes none_forward all_scaled
-      ∙ ap (left Passed) (map_back (quotient s.axes) (times s.axes) xs (λ p h. quotient_times s.axes (get_or xs p (pos 0))))
+      ∙ ap (left (Ok tt)) (map_back (quotient s.axes) (times s.axes) xs (λ p h. quotient_times s.axes (get_or xs p (pos 0))))
 
 -- What is done has passed.
-done_passed : (xs : List ℤ) (v : Verdict) (res : After) (st : State) (ys : List ℤ) → answer (kept xs) v res ≡ after (Done st) ys → v ≡ Passed
-done_passed xs verdict.Passed res st ys e = refl
-done_passed xs (verdict.Refused r) res st ys e =
-    let never : Refused r ≡ Done st = ap (λ (a : After). a.answer) e in cc
+done_passed : (xs : List ℤ) (v : Verdict) (res : After) (st : State) (ys : List ℤ) → answer (kept xs) v res ≡ after (Ok st) ys → v ≡ Ok tt
+done_passed xs (Ok _) res st ys e = refl
+done_passed xs (Err r) res st ys e =
+    let never : Err r ≡ Ok st = ap (λ (a : After). a.answer) e in cc
 
-pub load_unload : (s : Shape) (xs : List ℤ) (st : State) (ys : List ℤ) → load s xs ≡ after (Done st) ys → unload st ys ≡ left Passed xs
+pub load_unload : (s : Shape) (xs : List ℤ) (st : State) (ys : List ℤ) → load s xs ≡ after (Ok st) ys → unload st ys ≡ left (Ok tt) xs
 unfolding load
 load_unload s xs st ys e =
     let passed = done_passed xs (check_rated s xs) _ st ys e in
-    let same : after (Done (record { shape = s; forward = 0 })) (map (times s.axes) xs) ≡ after (Done st) ys = sym (load_done s xs passed) ∙ e in
-    let done : Done (record { shape = s; forward = 0 }) ≡ Done st = ap (λ (a : After). a.answer) same in
+    let same : after (Ok (record { shape = s; forward = 0 })) (map (times s.axes) xs) ≡ after (Ok st) ys = sym (load_done s xs passed) ∙ e in
+    let done : Ok (record { shape = s; forward = 0 }) ≡ Ok st = ap (λ (a : After). a.answer) same in
     let state : record { shape = s; forward = 0 } ≡ st = cc in
     let contents : map (times s.axes) xs ≡ ys = ap (λ (a : After). a.table) same in
     rw (← state, ← contents) (unfold loaded scaled in (unload_loaded s xs (rated_opens s xs passed) (rated_passes s xs passed)))
@@ -87,17 +84,17 @@ load_unload s xs st ys e =
 -- ---- unload, then load
 
 -- What is left passed is what the verdict was.
-left_passed : (xs : List ℤ) (v : Verdict) (res ys : List ℤ) → left_by xs v res ≡ left Passed ys → v ≡ Passed
-left_passed xs verdict.Passed res ys e = refl
-left_passed xs (verdict.Refused r) res ys e = ap (λ (l : Left). l.verdict) e
+left_passed : (xs : List ℤ) (v : Verdict) (res ys : List ℤ) → left_by xs v res ≡ left (Ok tt) ys → v ≡ Ok tt
+left_passed xs (Ok _) res ys e = refl
+left_passed xs (Err r) res ys e = ap (λ (l : Left). l.verdict) e
 
 module _ (st : State) (xs : List ℤ) where
   pub record Unloads : Type 0 where
-    pub state : check_state st (length xs) ≡ Passed
-    pub sampled : check_sampled st ≡ Passed
+    pub state : check_state st (length xs) ≡ Ok tt
+    pub sampled : check_sampled st ≡ Ok tt
     pub scaled : all (scaled_at st.shape.axes xs) (length xs) ≡ true
 
-  unloads : (ys : List ℤ) → unload st xs ≡ left Passed ys → Unloads
+  unloads : (ys : List ℤ) → unload st xs ≡ left (Ok tt) ys → Unloads
   unfolding unload
   unloads ys e =
       let state = check_state st (length xs) in
@@ -138,7 +135,7 @@ module _ (st : State) (xs : List ℤ) where
         map_back (times st.shape.axes) (quotient st.shape.axes) xs
         (λ p h. times_quotient st.shape.axes (get_or xs p (pos 0)) (rw (value_suc xs p) at (value_parts p h).0))
 
-pub unload_load : (st : State) (xs ys : List ℤ) → unload st xs ≡ left Passed ys → load st.shape ys ≡ after (Done st) xs
+pub unload_load : (st : State) (xs ys : List ℤ) → unload st xs ≡ left (Ok tt) ys → load st.shape ys ≡ after (Ok st) xs
 unload_load st xs ys e =
     let u = unloads st xs ys e in
     let d = st.shape.axes in
@@ -146,4 +143,4 @@ unload_load st xs ys e =
     ap (λ (l : Left). l.table) (sym (unload_done st xs u.state u.sampled u.scaled) ∙ e) in
     rw (← contents)
     (load_done st.shape (map (quotient d) xs) (rated_pass st.shape (map (quotient d) xs) (opens st xs u) (rates st xs u))
-    ∙ ap₂ (λ (n : ℕ) (zs : List ℤ). after (Done (record { shape = st.shape; forward = n })) zs) (sym (no_forward st xs u)) (back st xs u))
+    ∙ ap₂ (λ (n : ℕ) (zs : List ℤ). after (Ok (record { shape = st.shape; forward = n })) zs) (sym (no_forward st xs u)) (back st xs u))

@@ -1,19 +1,17 @@
 -- What load, adopt and unload answer, and what they leave in the table (document 01, "Parents and turns" and refusals).
 -- Assumes nothing.
-use Rattle.std.specs.Prelude.{ℕ, suc, ◌-◌, ◌%◌, ◌^◌, Bool, true, ◌&&◌, List, map, length, ℤ, pos, ◌*ℤ◌, ◌==◌, nat_le, unsigned_abs}
+use Rattle.refusals.specs.declared.Refusal.{Refusal}
+use Rattle.std.specs.Prelude.{ℕ, suc, ◌-◌, ◌%◌, ◌^◌, Bool, true, ◌&&◌, List, map, length, ℤ, pos, ◌*ℤ◌, ◌==◌, nat_le, unsigned_abs, Result, Ok, Err}
 use Rattle.naturals.specs.Test.{all}
 use Rattle.naturals.specs.FirstFailing.{first_failing}
 use Rattle.refusals.specs.declared.Refusal.TheVariants.{Rate, Contents, StillForward}
-use Rattle.refusals.specs.declared.Verdict.{Verdict}
-use Rattle.refusals.specs.Checks.{unless, ◌and_then◌, answer}
+use Rattle.refusals.specs.Checks.{unless, ◌and_then◌, answer, Verdict}
 use Rattle.integers.specs.Half.{content_at, is_rate}
 use Rattle.integers.specs.Floor.{floor}
 use Rattle.hierarchy.specs.Turns.{value_at}
 use Rattle.shapes.specs.declared.Shape.{Shape}
 use Rattle.shapes.specs.Shapes.{check_shape, check_length}
 use Rattle.states.specs.declared.State.{State}
-use Rattle.states.specs.declared.Answer.{Answer}
-use Rattle.states.specs.declared.Answer.TheVariants.{Done, Refused}
 use Rattle.states.specs.After.{After, after, kept, Left, left_by}
 use Rattle.states.specs.States.{check_axes, check_state}
 
@@ -41,17 +39,17 @@ times d z = z *ℤ pos (2 ^ d)
 unfoldable pub load : Shape → List ℤ → After
 load s xs =
     answer (kept xs) (check_rated s xs)
-    (after (Done (record { shape = s; forward = 0 })) (map (times s.axes) xs))
+    (after (Ok (record { shape = s; forward = 0 })) (map (times s.axes) xs))
 
 -- The state of an adopted table: all axes forward.
 abbrev pub adopted : Shape → State
 adopted s = record { shape = s; forward = 2 ^ s.axes - 1 }
 
 -- Adopt: coefficients, unchanged, all axes forward.
-unfoldable pub adopt : Shape → List ℤ → Answer
+unfoldable pub adopt : Shape → List ℤ → Result State Refusal
 adopt s xs =
-    answer Refused (check_table s xs and_then unless (all (content_at xs) (length xs)) Contents)
-    (Done (adopted s))
+    answer Err (check_table s xs and_then unless (all (content_at xs) (length xs)) Contents)
+    (Ok (adopted s))
 
 -- A value divided by 2^d, rounded down.
 unfoldable pub quotient : ℕ → ℤ → ℤ

@@ -1,4 +1,4 @@
--- The lines of the points put one after the other: what the loop of `put_points` keeps, and the room that it needs.
+-- The lines of the points put one after the other: what the loop of `put_points` keeps.
 -- Assumes nothing.
 use mathlib.Core.Path.{◌≡◌, sym, ap, ◌∙◌}
 use mathlib.Core.List.{List, [], ◌∷◌, ◌++◌, append_assoc, append-nil}
@@ -13,7 +13,7 @@ use Rattle.refusals.specs.Refusals.{number_of}
 use Rattle.texts.specs.Text.{heading_of, point_line, point_lines, refused_line}
 use Rattle.buffers.specs.Put.{Put}
 use Rattle.texts.proofs.Decimals.{decimal_length, signed_length}
-use Rattle.buffers.proofs.Puts.{put_then, put_as, put_nothing, put_length}
+use Rattle.buffers.proofs.Puts.{put_then, put_as, put_nothing}
 
 -- One line more.
 lines_snoc : (vs : List ℤ) (v : ℤ) (p : ℕ) → point_lines p (vs ++ (v ∷ [])) ≡ point_lines p vs ++ point_line (p + length vs) v
@@ -37,29 +37,26 @@ lines_length [] p = omega arith
 lines_length (v ∷ vs) p = omega (arith, length-append (point_line p v) (point_lines (suc p) vs), line_length p v, lines_length vs (suc p))
 
 -- The lines of the points below p have been put.
-pub record Listed (table : List ℤ) (old : List ℕ) (place : ℕ) (new : List ℕ) (next p : ℕ) : Type 0 where
+pub record Listed (table : List ℤ) (old new : List ℕ) (end p : ℕ) : Type 0 where
   pub within : p ≤ length table
-  pub listed : Put (point_lines 0 (take p table)) old place new next
+  pub listed : Put (point_lines 0 (take p table)) old 0 new end
+  pub most : end ≤ 43 * p
 
-module _ {table : List ℤ} {old : List ℕ} {place : ℕ} where
-  pub listed_starts : Listed table old place old place 0
+module _ {table : List ℤ} {old : List ℕ} where
+  pub listed_starts : Listed table old old 0 0
   unfolding point_lines
-  listed_starts = record { within = omega arith; listed = put_nothing old place }
+  listed_starts = record { within = omega arith; listed = put_nothing old 0; most = omega arith }
 
-  pub listed_room : {new : List ℕ} {next p : ℕ} → Listed table old place new next p → p < length table → place + 43 * length table ≤ length old → next + 43 ≤ length new
-  listed_room {new} {next} {p} h lt room =
-      omega (arith, h.listed.after, put_length h.listed, lines_length (take p table) 0, length-take-le p table h.within)
-
-  pub listed_steps : {mid new : List ℕ} {m next p : ℕ} → Listed table old place mid m p → p < length table → Put (point_line p (get_or table p (pos 0))) mid m new next
-      → Listed table old place new next (p + 1)
-  listed_steps {mid} {new} {m} {next} {p} h lt put =
+  pub listed_steps : {mid new : List ℕ} {m end p : ℕ} → Listed table old mid m p → p < length table → Put (point_line p (get_or table p (pos 0))) mid m new end
+      → end ≤ 43 * (p + 1) → Listed table old new end (p + 1)
+  listed_steps {mid} {new} {m} {end} {p} h lt put most =
       let z : 0 + length (take p table) ≡ p = omega (arith, length-take-le p table h.within) in
       let e : point_lines 0 (take p table) ++ point_line p (get_or table p (pos 0)) ≡ point_lines 0 (take (p + 1) table) =
       sym (rw (add-one, take-suc table p (pos 0) lt) (lines_snoc (take p table) (get_or table p (pos 0)) 0 ∙ ap (λ (k : ℕ). point_lines 0 (take p table) ++ point_line k (get_or table p (pos 0))) z)) in
-      record { within = omega arith; listed = put_as e (put_then h.listed put) }
+      record { within = omega arith; listed = put_as e (put_then h.listed put); most = most }
 
-  pub listed_ends : {new : List ℕ} {next p : ℕ} → Listed table old place new next p → length table ≤ p → Put (point_lines 0 table) old place new next
-  listed_ends {new} {next} {p} h le = put_as (ap (point_lines 0) (take_all p table le)) h.listed
+  pub listed_ends : {new : List ℕ} {end p : ℕ} → Listed table old new end p → length table ≤ p → Put (point_lines 0 table) old 0 new end
+  listed_ends {new} {end} {p} h le = put_as (ap (point_lines 0) (take_all p table le)) h.listed
 
 pub heading_length : (d n count : ℕ) → length (heading_of d n count) ≤ 81
 unfolding heading_of

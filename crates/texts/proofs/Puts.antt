@@ -1,33 +1,26 @@
--- Text put into a buffer: a copy, character by character, and all that is promised of a text at the front.
+-- Text put into a buffer: a copy of characters, and all that is promised of a text at the front.
 -- Assumes nothing.
 use mathlib.Core.Path.{◌≡◌, refl, sym, ap, ◌∙◌}
-use mathlib.Core.List.{List, [], ◌∷◌, ◌++◌}
-use Prim.Native.Nat.{ℕ, ◌+◌, ◌≤◌, ◌<◌}
-use native.Mathlib.Numerals.{add-one}
+use mathlib.Core.List.{List, [], ◌∷◌, ◌++◌, append-nil}
+use Prim.Native.Nat.{ℕ, suc, ◌+◌, ◌-◌, ◌≤◌}
 use native.Mathlib.Omega.{arith}
-use lib.ListN.{length, take, get_or, set}
-use lib.Seq.{take-suc, take_all}
+use lib.ListN.{length, take, drop, set}
+use lib.Seq.{sets, take_all, sets-eq, length-take-le}
+use borrow.Rule.Slice.PartMut.{put_mid, mid_of}
+use Rattle.std.proofs.Common.{length-drop}
+use Rattle.std.proofs.lemmas.List.{take-append-drop, drop_all}
 use Rattle.io.specs.Counts.{IsPrefixLen}
 use Rattle.buffers.specs.Put.{Put}
-use Rattle.buffers.proofs.Puts.{put_then, put_one, put_length, put_as, put_front}
+use Rattle.buffers.proofs.Puts.{put_length, put_front}
 
--- A copy of characters has come to place k.
-pub record Copied (text old : List ℕ) (place : ℕ) (new : List ℕ) (k : ℕ) : Type 0 where
-  pub within : k ≤ length text
-  pub copied : Put (take k text) old place new (place + k)
-
-pub copied_starts : (text old : List ℕ) (place : ℕ) → Copied text old place old 0
-copied_starts text old place = record { within = omega arith; copied = record { after = omega arith; holds = refl } }
-
-pub copied_steps : {text old new : List ℕ} {place k : ℕ} → Copied text old place new k → k < length text
-    → Copied text old place (set new (place + k) (get_or text k 0)) (k + 1)
-copied_steps {text} {old} {new} {place} {k} h lt =
-    let e : take k text ++ (get_or text k 0 ∷ []) ≡ take (k + 1) text = sym (rw add-one (take-suc text k 0 lt)) in
-    let n : place + k + 1 ≡ place + (k + 1) = omega arith in
-    record { within = omega arith; copied = put_as e (rw n at (put_then h.copied (put_one new (place + k) (get_or text k 0)))) }
-
-pub copied_ends : {text old new : List ℕ} {place k : ℕ} → Copied text old place new k → length text ≤ k → Put text old place new (place + k)
-copied_ends {text} {k = k} h le = put_as (take_all k text le) h.copied
+-- Characters copied to the start of a buffer.
+pub put_copied : (text old part : List ℕ) → part ≡ text → length text ≤ length old → Put text old 0 (part ++ drop (length text) old) (length text)
+put_copied text old part same fits =
+    let z : 0 + length text ≡ length text = omega arith in
+    record {
+      after = omega arith;
+      holds = ap (λ (l : List ℕ). l ++ drop (length text) old) same ∙ sym (sets-eq text old 0 (omega arith) ∙ ap (λ (k : ℕ). text ++ drop k old) z);
+    }
 
 -- All that is promised of a text at the front of a buffer with room for it.
 pub put_whole : {text old new : List ℕ} {r : ℕ} → Put text old 0 new r → length text ≤ length old
@@ -36,3 +29,29 @@ put_whole {text} {old} {new} {r} p fits =
     let front : take r new ≡ text = put_front p fits in
     let n : r ≡ length text = omega (arith, p.after) in
     (p, (front, (omega (arith, put_length p), n ∙ sym (ap length front))))
+
+sets_suc : (x : ℕ) (l b : List ℕ) (i : ℕ) → sets (x ∷ l) (suc i) b ≡ x ∷ sets l i b
+sets_suc x l [] i = refl
+sets_suc x l (v ∷ vs) i = sets_suc x (set l i v) vs (suc i)
+
+sets_behind : (xs ys b : List ℕ) → sets (xs ++ ys) (length xs) b ≡ xs ++ sets ys 0 b
+sets_behind [] ys b = refl
+sets_behind (x ∷ xs) ys b = sets_suc x (xs ++ ys) b (length xs) ∙ ap (λ (l : List ℕ). x ∷ l) (sets_behind xs ys b)
+
+-- A piece put at the start of what is behind a place is put there.
+pub put_behind : {b mid part : List ℕ} {m r : ℕ} → m ≤ length mid → Put b (mid_of m (length mid - m) mid) 0 part r → Put b mid m (put_mid m (length mid - m) mid part) (m + r)
+put_behind {b} {mid} {part} {m} {r} within p =
+    let front = take m mid in
+    let back = drop m mid in
+    let k = length mid - m in
+    let long : length back ≡ k = length-drop m mid in
+    record {
+      after = omega (arith, p.after);
+      holds =
+          ap (λ (l : List ℕ). front ++ (l ++ drop k back)) (p.holds ∙ ap (λ (l : List ℕ). sets l 0 b) (take_all k back (omega (arith, long))))
+          ∙ ap (λ (l : List ℕ). front ++ (sets back 0 b ++ l)) (drop_all k back (omega (arith, long)))
+          ∙ ap (λ (l : List ℕ). front ++ l) (append-nil (sets back 0 b))
+          ∙ sym (sets_behind front back b)
+          ∙ ap (λ (j : ℕ). sets (front ++ back) j b) (length-take-le m mid within)
+          ∙ ap (λ (l : List ℕ). sets l m b) (take-append-drop m mid);
+    }

@@ -1,6 +1,6 @@
 -- The text that the program prints (document 01, "House file"): decimal numbers and lines. A character is its ASCII code.
 -- Assumes nothing.
-use Rattle.std.specs.Prelude.{List, [], ◌∷◌, ◌++◌, ℕ, zero, suc, ◌+◌, ◌/◌, ◌%◌, ltb, ℤ, pos, negsuc, if◌then◌else◌}
+use Rattle.std.specs.Prelude.{codes, List, [], ◌∷◌, ◌++◌, ℕ, zero, suc, ◌+◌, ◌/◌, ◌%◌, ltb, ℤ, pos, negsuc, if◌then◌else◌}
 use Rattle.refusals.specs.declared.Refusal.{Refusal}
 use Rattle.refusals.specs.Refusals.{number_of}
 use Rattle.shapes.specs.declared.Shape.{Shape}
@@ -25,26 +25,22 @@ signed (pos n) = decimal n
 signed (negsuc n) = 45 ∷ decimal (suc n)
 
 abbrev pub space : List ℕ
-space = 32 ∷ []
+space = codes " "
 
 abbrev pub line_feed : List ℕ
 line_feed = 10 ∷ []
 
--- "axes "
 abbrev pub axes_word : List ℕ
-axes_word = 97 ∷ 120 ∷ 101 ∷ 115 ∷ 32 ∷ []
+axes_word = codes "axes "
 
--- " level "
 abbrev pub level_word : List ℕ
-level_word = 32 ∷ 108 ∷ 101 ∷ 118 ∷ 101 ∷ 108 ∷ 32 ∷ []
+level_word = codes " level "
 
--- " points "
 abbrev pub points_word : List ℕ
-points_word = 32 ∷ 112 ∷ 111 ∷ 105 ∷ 110 ∷ 116 ∷ 115 ∷ 32 ∷ []
+points_word = codes " points "
 
--- "refused "
 abbrev pub refused_word : List ℕ
-refused_word = 114 ∷ 101 ∷ 102 ∷ 117 ∷ 115 ∷ 101 ∷ 100 ∷ 32 ∷ []
+refused_word = codes "refused "
 
 -- A word, and a number.
 abbrev pub named : List ℕ → ℕ → List ℕ

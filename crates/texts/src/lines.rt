@@ -1,4 +1,4 @@
-// The lines of a report, each put into a buffer; the place after the line is answered.
+// The lines of a report, each put at the start of a buffer; how many characters were put is answered.
 ghost use Rattle.std.specs.Prelude.{◌+◌, ◌*◌, ◌≤◌, length};
 ghost use Rattle.texts.specs.Text.{heading_of, point_line, point_lines, refused_line};
 ghost use Rattle.buffers.specs.Put.{Put};
@@ -10,37 +10,38 @@ use shapes::Shape;
 // The first line: d, n and N.
 pub fn put_heading(shape: Shape, count: u64, out: &mut [u8]) -> usize
     requires { 81 ≤ length out.old }
-    ensures { Put (heading_of shape.axes shape.level count) out.old 0 out.new result }
+    ensures put { Put (heading_of shape.axes shape.level count) out.old 0 out.new result }
+    ensures most { result ≤ 81 }
 {
-    let level = put_named(b"axes ", shape.axes as u64, out, 0);
-    let points = put_named(b" level ", shape.level as u64, out, level);
-    let end = put_named(b" points ", count, out, points);
-    put(b"\n", out, end)
+    let mut end = put_named(b"axes ", u64::from(shape.axes), out);
+    end += put_named(b" level ", u64::from(shape.level), &mut out[end..]);
+    end += put_named(b" points ", count, &mut out[end..]);
+    end + put(b"\n", &mut out[end..])
 }
 
 // A point's number and its coefficient.
-pub fn put_point(point: u64, value: i64, out: &mut [u8], place: usize) -> usize
-    requires { place + 43 ≤ length out.old }
-    ensures { Put (point_line point value) out.old place out.new result }
+pub fn put_point(point: u64, value: i64, out: &mut [u8]) -> usize
+    requires { 43 ≤ length out.old }
+    ensures put { Put (point_line point value) out.old 0 out.new result }
+    ensures most { result ≤ 43 }
 {
-    let space = put_decimal(point, out, place);
-    let coefficient = put(b" ", out, space);
-    let line_end = put_signed(value, out, coefficient);
-    put(b"\n", out, line_end)
+    let mut end = put_decimal(point, out);
+    end += put(b" ", &mut out[end..]);
+    end += put_signed(value, &mut out[end..]);
+    end + put(b"\n", &mut out[end..])
 }
 
 // A line for each point.
-pub fn put_points(table: &[i64], out: &mut [u8], place: usize) -> usize
-    requires { place + 43 * length table.now ≤ length out.old }
-    ensures { Put (point_lines 0 table.now) out.old place out.new result }
+pub fn put_points(table: &[i64], out: &mut [u8]) -> usize
+    requires { 43 * length table.now ≤ length out.old }
+    ensures put { Put (point_lines 0 table.now) out.old 0 out.new result }
+    ensures most { result ≤ 43 * length table.now }
 {
-    let mut next = place;
-    let mut p = 0;
-    while p < table.len() {
-        next = put_point(p as u64, table[p], out, next);
-        p += 1;
+    let mut end = 0;
+    for (p, value) in table.iter().enumerate() {
+        end += put_point(p as u64, *value, &mut out[end..]);
     }
-    next
+    end
 }
 
 // The one line of a refused file.
@@ -48,6 +49,6 @@ pub fn put_refused(why: Refusal, out: &mut [u8]) -> usize
     requires { 81 ≤ length out.old }
     ensures { Put (refused_line why) out.old 0 out.new result }
 {
-    let number_end = put_named(b"refused ", refusals::refusal_number(why) as u64, out, 0);
-    put(b"\n", out, number_end)
+    let end = put_named(b"refused ", u64::from(why.number()), out);
+    end + put(b"\n", &mut out[end..])
 }

@@ -1,6 +1,7 @@
 -- The estimate from the coefficients of accepted rates, at the coordinates of a point, is the rate there times 2^d: no check refuses, since all axes are forward,
 -- a point's coordinates are at most the unit and the coefficients of accepted rates are within the content limit; and the surface passes through the rate.
 -- Assumes nothing.
+use Rattle.std.specs.Prelude.{Ok}
 use mathlib.Core.Path.{◌≡◌, refl, ap, sym, ◌∙◌, fun_ext}
 use mathlib.Core.Bool.{true, false}
 use mathlib.Core.List.{List, [], ◌∷◌, ◌++◌}
@@ -17,7 +18,6 @@ use Rattle.naturals.proofs.Cases.{le_or_lt}
 use Rattle.naturals.proofs.Tests.{all_from}
 use Rattle.naturals.proofs.FirstFailing.{first_none}
 use Rattle.refusals.specs.declared.Refusal.TheVariants.{StillSampled}
-use Rattle.refusals.specs.declared.Verdict.TheVariants.{Passed}
 use Rattle.integers.specs.Half.{in_limit, content_at}
 use Rattle.integers.proofs.Sizes.{rate_size}
 use Rattle.numbering.specs.Point.{at}
@@ -33,7 +33,6 @@ use Rattle.grids.proofs.Points.{index_below, index_past}
 use Rattle.surfaces.specs.Weights.{unit, is_coordinate, coordinate}
 use Rattle.surfaces.specs.Surface.{coordinates_in, coordinates_of, estimate_at}
 use Rattle.surfaces.proofs.Interpolates.{estimate_through}
-use Rattle.states.specs.declared.Answer.TheVariants.{Done}
 use Rattle.states.specs.States.{check_state}
 use Rattle.states.proofs.Bits.{all_bits_in}
 use Rattle.states.proofs.Checked.{state_passes, axes_pass}
@@ -44,7 +43,6 @@ use Rattle.whole.specs.Accepted.{Accepted}
 use Rattle.whole.specs.Whole.{coefficients_of}
 use Rattle.whole.proofs.Inverse.{coefficients_length}
 use Rattle.whole.proofs.AnswersDown.{coefficient_at}
-use Rattle.estimates.specs.declared.Estimated.TheVariants.{Value}
 use Rattle.estimates.specs.Estimates.{check_forward, inside_at, first_outside, check_coordinates, estimate}
 use Rattle.estimates.proofs.Answering.{estimated}
 use Rattle.through_rates.specs.Coordinates.{first_values, coordinate_list}
@@ -104,7 +102,7 @@ module _ (s : Shape) (q : ℕ) where
         ap (λ (x : ℕ → ℕ). is_coordinate unit (x t)) list_holds
         ∙ le-leb (coordinates_of s q t) unit (coordinate_small h t axis)
 
-    coordinates_pass : check_coordinates unit s.axes (coordinate_list s q) ≡ Passed
+    coordinates_pass : check_coordinates unit s.axes (coordinate_list s q) ≡ Ok tt
     unfolding check_coordinates first_outside
     coordinates_pass =
         rw (
@@ -119,12 +117,12 @@ module _ (s : Shape) (rs : List ℤ) (a : Accepted s rs) where
   range : InRange s
   range = passed_in_range s a.shape
 
-  adopted_passes : check_state (adopted s) (length (coefficients_of s rs)) ≡ Passed
+  adopted_passes : check_state (adopted s) (length (coefficients_of s rs)) ≡ Ok tt
   adopted_passes =
       state_passes (adopted s) (length (coefficients_of s rs))
       (record { range = range; few = ones_lt s.axes; long = coefficients_length s rs })
 
-  forward_passes : check_forward (adopted s) ≡ Passed
+  forward_passes : check_forward (adopted s) ≡ Ok tt
   unfolding check_forward
   forward_passes = axes_pass false StillSampled (adopted s) (all_bits_in s.axes)
 
@@ -144,7 +142,7 @@ module _ (s : Shape) (rs : List ℤ) (a : Accepted s rs) where
       ∙ table_in_limit (neighbour s) every_axis s.axes (value_at rs) range.high rate_small (suc p))
 
   -- The coefficients can be adopted.
-  pub adopted_coefficients : adopt s (coefficients_of s rs) ≡ Done (adopted s)
+  pub adopted_coefficients : adopt s (coefficients_of s rs) ≡ Ok (adopted s)
   adopted_coefficients =
       adopt_done s (coefficients_of s rs)
       (table_passes s (coefficients_of s rs) (record { range = range; long = coefficients_length s rs }))
@@ -152,11 +150,11 @@ module _ (s : Shape) (rs : List ℤ) (a : Accepted s rs) where
 
   -- The estimate at a point is the rate there times 2^d.
   pub estimate_is_rate : (q : ℕ) → q < points_of s →
-      estimate (adopted s) (coefficients_of s rs) (coordinate_list s q) ≡ Value (times s.axes (get_or rs q (pos 0)))
+      estimate (adopted s) (coefficients_of s rs) (coordinate_list s q) ≡ Ok (times s.axes (get_or rs q (pos 0)))
   unfolding times
   estimate_is_rate q h =
       estimated (adopted s) (coefficients_of s rs) (coordinate_list s q) adopted_passes forward_passes (coordinates_pass s q h) contents_pass
-      ∙ ap Value
+      ∙ ap Ok
       (ap (estimate_at s (value_at (coefficients_of s rs))) (list_holds s q)
       ∙ estimate_through s range.low (omega (arith, range)) (value_at (coefficients_of s rs)) (value_at rs) (value_zero rs)
       (coefficient_at s rs) q h

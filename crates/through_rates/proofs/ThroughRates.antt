@@ -2,6 +2,7 @@
 -- forward turn the sums on the lines along its axis are the values before it, and those of no other values on a line. From the same of tables as functions, which
 -- the lists of the calls hold.
 -- Assumes nothing.
+use Rattle.std.specs.Prelude.{Ok}
 use mathlib.Core.Path.{◌≡◌, ap, sym, ◌∙◌}
 use mathlib.Core.Bool.{true, ◌&&◌}
 use mathlib.Core.List.{List}
@@ -25,7 +26,6 @@ use Rattle.surfaces.specs.Surface.{coordinates_of, exact_value, Exactly}
 use Rattle.surfaces.specs.Lines.{line_sum}
 use Rattle.surfaces.proofs.Interpolates.{surface_through, only_surface, line_through}
 use Rattle.states.specs.declared.State.{State}
-use Rattle.states.specs.declared.Answer.TheVariants.{Done}
 use Rattle.states.specs.After.{after}
 use Rattle.tables.specs.Tables.{times}
 use Rattle.turns.specs.Turns.{is_accepted, forward_turn}
@@ -89,7 +89,7 @@ even_sums s t xs e q h =
     even_sum nb t (value_at xs) q (all_at (accepted_at nb t (value_at xs)) (points_of s) e q h)
 
 -- A forward turn that is done: on each line along its axis the sums of the turned values are the values before it.
-pub turn_on_lines : (s next : State) (xs ys : List ℤ) (axis : ℕ) → forward_turn s xs axis ≡ after (Done next) ys →
+pub turn_on_lines : (s next : State) (xs ys : List ℤ) (axis : ℕ) → forward_turn s xs axis ≡ after (Ok next) ys →
     (q : ℕ) → q < points_of s.shape →
     line_sum s.shape (axis - 1) (value_at ys) q ≡ value_at xs (suc q) *ℤ pos unit
 turn_on_lines s next xs ys axis e q h =
@@ -100,7 +100,7 @@ turn_on_lines s next xs ys axis e q h =
     ∙ line_through s.shape (omega (arith, may.range)) (axis - 1) (place_of may) (value_at xs) (value_zero xs) (even_sums s.shape (axis - 1) xs went.0.accepted) q h
 
 -- No other values on the line of a point have these sums.
-pub only_values_on_line : (s next : State) (xs ys : List ℤ) (axis : ℕ) → forward_turn s xs axis ≡ after (Done next) ys → (zs : List ℤ) (p : ℕ) →
+pub only_values_on_line : (s next : State) (xs ys : List ℤ) (axis : ℕ) → forward_turn s xs axis ≡ after (Ok next) ys → (zs : List ℤ) (p : ℕ) →
     ((q : ℕ) → q < points_of s.shape → OnLine s.shape (axis - 1) p q →
     line_sum s.shape (axis - 1) (value_at zs) q ≡ value_at xs (suc q) *ℤ pos unit) →
     (q : ℕ) → q < points_of s.shape → OnLine s.shape (axis - 1) p q → value_at zs (suc q) ≡ value_at ys (suc q)

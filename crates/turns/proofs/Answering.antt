@@ -1,34 +1,38 @@
 -- What a turn answers, by the first check that refuses: that of the state, the table and the axis, that of the axis's bit, and that of the contents.
 -- Each case is the definition with its tests decided.
 -- Assumes nothing.
-use mathlib.Core.Path.{◌≡◌}
-use mathlib.Core.Bool.{true, false}
+use mathlib.Core.Path.{◌≡◌, refl, ap, ap₂, sym, ◌∙◌}
+use mathlib.Core.Bool.{Bool, true, false}
 use mathlib.Core.List.{List}
-use Prim.Native.Nat.{ℕ, ◌-◌, ◌<◌}
+use Prim.Native.Nat.{ℕ, ◌-◌}
+use native.Mathlib.Omega.{arith}
 use lib.IntN.{ℤ}
 use lib.ListN.{length}
+use Rattle.std.specs.Prelude.{if◌then◌else◌, Ok, Err}
 use Rattle.refusals.specs.declared.Refusal.{Refusal}
 use Rattle.refusals.specs.declared.Refusal.TheVariants.{Contents, AlreadyForward, NotForward}
-use Rattle.refusals.specs.declared.Verdict.TheVariants as verdict
 use Rattle.states.specs.declared.State.{State}
 use Rattle.states.specs.States.{has, marked, cleared}
-use Rattle.states.specs.declared.Answer.TheVariants.{Done}
 use Rattle.states.specs.After.{after, kept}
-use Rattle.lists.specs.Steps.{OnAxis}
+use Rattle.shapes.specs.Shapes.{points_of}
 use Rattle.grids.specs.Turned.{turned_table, former_table}
 use Rattle.turns.specs.Turns.{is_accepted, check_turn, forward_turn, back_turn}
-use Rattle.turns.proofs.Checking.{MayTurn}
+use Rattle.turns.specs.Steps.{tried, tried_on, marked_as, turn_on}
+use Rattle.grids.proofs.Turned.{former_length}
+use Rattle.turns.proofs.Accepting.{in_limits, before_refuses, after_refuses}
+use Rattle.turns.proofs.Trying.{forward_was_done, forward_was_refused, back_was_done, back_was_refused}
+use Rattle.turns.proofs.Undoing.{turned_of_former}
 
 module _ (s : State) (xs : List ℤ) (axis : ℕ) where
-  pub forward_unchecked : (r : Refusal) → check_turn s (length xs) axis ≡ verdict.Refused r → forward_turn s xs axis ≡ kept xs r
+  pub forward_unchecked : (r : Refusal) → check_turn s (length xs) axis ≡ Err r → forward_turn s xs axis ≡ kept xs r
   unfolding forward_turn
   forward_unchecked r e = rw e
 
-  pub back_unchecked : (r : Refusal) → check_turn s (length xs) axis ≡ verdict.Refused r → back_turn s xs axis ≡ kept xs r
+  pub back_unchecked : (r : Refusal) → check_turn s (length xs) axis ≡ Err r → back_turn s xs axis ≡ kept xs r
   unfolding back_turn
   back_unchecked r e = rw e
 
-  module _ (e : check_turn s (length xs) axis ≡ verdict.Passed) where
+  module _ (e : check_turn s (length xs) axis ≡ Ok tt) where
     pub forward_already : has s.forward (axis - 1) ≡ true → forward_turn s xs axis ≡ kept xs (AlreadyForward axis)
     unfolding forward_turn
     forward_already h = rw (e, h)
@@ -39,7 +43,7 @@ module _ (s : State) (xs : List ℤ) (axis : ℕ) where
     forward_refused h a = rw (e, h, a)
 
     pub forward_done : has s.forward (axis - 1) ≡ false → is_accepted s.shape (axis - 1) xs ≡ true →
-        forward_turn s xs axis ≡ after (Done (marked s (axis - 1))) (turned_table s.shape (axis - 1) xs)
+        forward_turn s xs axis ≡ after (Ok (marked s (axis - 1))) (turned_table s.shape (axis - 1) xs)
     unfolding forward_turn
     forward_done h a = rw (e, h, a)
 
@@ -53,10 +57,78 @@ module _ (s : State) (xs : List ℤ) (axis : ℕ) where
     back_refused h a = rw (e, h, a)
 
     pub back_done : has s.forward (axis - 1) ≡ true → is_accepted s.shape (axis - 1) (former_table s.shape (axis - 1) xs) ≡ true →
-        back_turn s xs axis ≡ after (Done (cleared s (axis - 1))) (former_table s.shape (axis - 1) xs)
+        back_turn s xs axis ≡ after (Ok (cleared s (axis - 1))) (former_table s.shape (axis - 1) xs)
     unfolding back_turn
     back_done h a = rw (e, h, a)
 
--- What the passed checks tell the steps of a turn, on any axis of the shape.
-pub on_axis : {s : State} {xs : List ℤ} {axis t : ℕ} → MayTurn s (length xs) axis → t < s.shape.axes → OnAxis s.shape t xs
-on_axis m place = record { few = m.range.high; low = m.range.top; place = place; long = m.long }
+-- ---- in either direction
+
+module _ (s : State) (xs : List ℤ) (axis : ℕ) where
+  pub turn_unchecked : (ahead : Bool) (r : Refusal) → check_turn s (length xs) axis ≡ Err r → turn_on ahead s xs axis ≡ kept xs r
+  turn_unchecked true = forward_unchecked s xs axis
+  turn_unchecked false = back_unchecked s xs axis
+
+  -- What the state that it leaves tells of the axis.
+  forward_free : (next : State) → Ok next ≡ marked_as true s axis → (has s.forward (axis - 1) ≡ false) × (next ≡ marked s (axis - 1))
+  unfolding marked_as
+  forward_free next e = free (has s.forward (axis - 1)) refl e
+    where
+      free : (b : Bool) → has s.forward (axis - 1) ≡ b → Ok next ≡ (if b then Err (AlreadyForward axis) else Ok (marked s (axis - 1))) →
+          (has s.forward (axis - 1) ≡ false) × (next ≡ marked s (axis - 1))
+      free true h e = absurd (let z : ◌≡◌ {A = ℕ} 0 1 = cc in omega arith)
+      free false h e = (h, cc)
+
+  back_there : (next : State) → Ok next ≡ marked_as false s axis → (has s.forward (axis - 1) ≡ true) × (next ≡ cleared s (axis - 1))
+  unfolding marked_as
+  back_there next e = there (has s.forward (axis - 1)) refl e
+    where
+      there : (b : Bool) → has s.forward (axis - 1) ≡ b → Ok next ≡ (if b then Ok (cleared s (axis - 1)) else Err (NotForward axis)) →
+          (has s.forward (axis - 1) ≡ true) × (next ≡ cleared s (axis - 1))
+      there true h e = (h, cc)
+      there false h e = absurd (let z : ◌≡◌ {A = ℕ} 0 1 = cc in omega arith)
+
+  module _ (e : check_turn s (length xs) axis ≡ Ok tt) where
+    pub turn_unmarked : (ahead : Bool) (r : Refusal) → Err r ≡ marked_as ahead s axis → turn_on ahead s xs axis ≡ kept xs r
+    unfolding marked_as
+    turn_unmarked true r f = already (has s.forward (axis - 1)) refl f
+      where
+        already : (b : Bool) → has s.forward (axis - 1) ≡ b → Err r ≡ (if b then Err (AlreadyForward axis) else Ok (marked s (axis - 1))) →
+            forward_turn s xs axis ≡ kept xs r
+        already true h f = let same : r ≡ AlreadyForward axis = cc in rw same (forward_already s xs axis e h)
+        already false h f = absurd (let z : ◌≡◌ {A = ℕ} 0 1 = cc in omega arith)
+    turn_unmarked false r f = missing (has s.forward (axis - 1)) refl f
+      where
+        missing : (b : Bool) → has s.forward (axis - 1) ≡ b → Err r ≡ (if b then Ok (cleared s (axis - 1)) else Err (NotForward axis)) →
+            back_turn s xs axis ≡ kept xs r
+        missing true h f = absurd (let z : ◌≡◌ {A = ℕ} 0 1 = cc in omega arith)
+        missing false h f = let same : r ≡ NotForward axis = cc in rw same (back_not_forward s xs axis e h)
+
+    module _ (long : length xs ≡ points_of s.shape) {next : State} where
+      -- Past the limit before it, it is not accepted: back, the forward turn of the former table leads to this one.
+      pub turn_past : (ahead : Bool) → Ok next ≡ marked_as ahead s axis → in_limits xs ≡ false → turn_on ahead s xs axis ≡ kept xs Contents
+      turn_past true f past = forward_refused s xs axis e (forward_free next f).0 (before_refuses s.shape (axis - 1) xs long past)
+      turn_past false f past =
+          back_refused s xs axis e (back_there next f).0
+          (after_refuses s.shape (axis - 1) (former_table s.shape (axis - 1) xs) (former_length s.shape (axis - 1) xs)
+          (ap in_limits (turned_of_former s.shape (axis - 1) xs long) ∙ past))
+
+      module _ {ys : List ℤ} where
+        pub turn_refused : (ahead : Bool) → Ok next ≡ marked_as ahead s axis → tried false ys ≡ tried_on ahead s.shape (axis - 1) xs →
+            after (Err Contents) ys ≡ turn_on ahead s xs axis
+        turn_refused true f was =
+            let w = forward_was_refused s.shape (axis - 1) xs ys was in
+            ap (after (Err Contents)) w.1 ∙ sym (forward_refused s xs axis e (forward_free next f).0 w.0)
+        turn_refused false f was =
+            let w = back_was_refused s.shape (axis - 1) xs ys was in
+            ap (after (Err Contents)) w.1 ∙ sym (back_refused s xs axis e (back_there next f).0 w.0)
+
+        pub turn_done : (ahead : Bool) → Ok next ≡ marked_as ahead s axis → tried true ys ≡ tried_on ahead s.shape (axis - 1) xs →
+            after (Ok next) ys ≡ turn_on ahead s xs axis
+        turn_done true f was =
+            let w = forward_was_done s.shape (axis - 1) xs ys was in
+            let free = forward_free next f in
+            ap₂ (λ (n : State) (zs : List ℤ). after (Ok n) zs) free.1 w.1 ∙ sym (forward_done s xs axis e free.0 w.0)
+        turn_done false f was =
+            let w = back_was_done s.shape (axis - 1) xs ys was in
+            let there = back_there next f in
+            ap₂ (λ (n : State) (zs : List ℤ). after (Ok n) zs) there.1 w.1 ∙ sym (back_done s xs axis e there.0 w.0)

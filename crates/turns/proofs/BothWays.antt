@@ -2,6 +2,7 @@
 -- on lists of values forward and back undo each other, and the bit of the axis is set by the one and cleared by the other. So back leaves the one table that an
 -- accepted forward turn takes to the present one, and is refused with 10 where there is none.
 -- Assumes nothing.
+use Rattle.std.specs.Prelude.{Ok, Err}
 use mathlib.Core.Path.{◌≡◌, refl, ap, sym, ◌∙◌}
 use mathlib.Core.Bool.{true, false, not}
 use mathlib.Core.List.{List}
@@ -13,14 +14,12 @@ use lib.ListN.{length}
 use borrow.Author.Tests.{not-true}
 use Rattle.naturals.proofs.Cases.{true_or_false}
 use Rattle.refusals.specs.declared.Refusal.TheVariants.{Contents, AlreadyForward, NotForward}
-use Rattle.refusals.specs.declared.Verdict.{Verdict}
-use Rattle.refusals.specs.declared.Verdict.TheVariants as verdict
-use Rattle.refusals.specs.Checks.{unless, ◌and_then◌, answer}
+use Rattle.refusals.proofs.Results.{refused_done, same_result}
+use Rattle.refusals.specs.Checks.{unless, ◌and_then◌, answer, Verdict}
 use Rattle.refusals.proofs.Passing.{first_passed, next_passed, test_passed}
 use Rattle.states.specs.declared.State.{State}
 use Rattle.states.specs.States.{has, marked, cleared}
 use Rattle.states.proofs.Bits.{has_marked_same, has_cleared_same, marked_small, cleared_small, bit_le}
-use Rattle.states.specs.declared.Answer.TheVariants.{Done, Refused}
 use Rattle.states.specs.After.{After, after, kept}
 use Rattle.grids.specs.Turned.{turned_table, former_table}
 use Rattle.grids.proofs.Turned.{turned_length, former_length}
@@ -31,16 +30,10 @@ use Rattle.turns.proofs.Answering.{back_done, back_refused}
 
 -- A call that was done passed its checks, and left what its definition says.
 done_passed : (v : Verdict) (xs ys : List ℤ) (next given : State) (zs : List ℤ) →
-    answer (kept xs) v (after (Done given) zs) ≡ after (Done next) ys → (v ≡ verdict.Passed) × (given ≡ next) × (zs ≡ ys)
-done_passed verdict.Passed xs ys next given zs e =
-    (refl, done_state given next (ap (λ (a : After). a.answer) e), ap (λ (a : After). a.table) e)
-  where
-    done_state : (a b : State) → Done a ≡ Done b → a ≡ b
-    done_state a b f = cc
-done_passed (verdict.Refused r) xs ys next given zs e = absurd (refused_done (ap (λ (a : After). a.answer) e))
-  where
-    refused_done : Refused r ≡ Done next → ⊥
-    refused_done f = let z : ◌≡◌ {A = ℕ} 0 1 = cc in omega arith
+    answer (kept xs) v (after (Ok given) zs) ≡ after (Ok next) ys → (v ≡ Ok tt) × (given ≡ next) × (zs ≡ ys)
+done_passed (Ok _) xs ys next given zs e =
+    (refl, same_result given next (ap (λ (a : After). a.answer) e), ap (λ (a : After). a.table) e)
+done_passed (Err r) xs ys next given zs e = refused_done r next (ap (λ (a : After). a.answer) e)
 
 -- What a forward turn that was done tells.
 pub record WentForward (s : State) (xs : List ℤ) (axis : ℕ) : Type 0 where
@@ -48,7 +41,7 @@ pub record WentForward (s : State) (xs : List ℤ) (axis : ℕ) : Type 0 where
   pub clear : has s.forward (axis - 1) ≡ false
   pub accepted : is_accepted s.shape (axis - 1) xs ≡ true
 
-pub went_forward : (s next : State) (xs ys : List ℤ) (axis : ℕ) → forward_turn s xs axis ≡ after (Done next) ys →
+pub went_forward : (s next : State) (xs ys : List ℤ) (axis : ℕ) → forward_turn s xs axis ≡ after (Ok next) ys →
     WentForward s xs axis × (marked s (axis - 1) ≡ next) × (turned_table s.shape (axis - 1) xs ≡ ys)
 unfolding forward_turn
 went_forward s next xs ys axis e =
@@ -74,7 +67,7 @@ pub record WentBack (s : State) (xs : List ℤ) (axis : ℕ) : Type 0 where
   pub marked : has s.forward (axis - 1) ≡ true
   pub accepted : is_accepted s.shape (axis - 1) (former_table s.shape (axis - 1) xs) ≡ true
 
-pub went_back : (s next : State) (xs ys : List ℤ) (axis : ℕ) → back_turn s xs axis ≡ after (Done next) ys →
+pub went_back : (s next : State) (xs ys : List ℤ) (axis : ℕ) → back_turn s xs axis ≡ after (Ok next) ys →
     WentBack s xs axis × (cleared s (axis - 1) ≡ next) × (former_table s.shape (axis - 1) xs ≡ ys)
 unfolding back_turn
 went_back s next xs ys axis e =
@@ -94,8 +87,8 @@ went_back s next xs ys axis e =
     )
 
 -- Forward, then back.
-pub forward_then_back : (s next : State) (xs ys : List ℤ) (axis : ℕ) → forward_turn s xs axis ≡ after (Done next) ys →
-    back_turn next ys axis ≡ after (Done s) xs
+pub forward_then_back : (s next : State) (xs ys : List ℤ) (axis : ℕ) → forward_turn s xs axis ≡ after (Ok next) ys →
+    back_turn next ys axis ≡ after (Ok s) xs
 unfolding back_turn
 forward_then_back s next xs ys axis e =
     let w = went_forward s next xs ys axis e in
@@ -119,8 +112,8 @@ forward_then_back s next xs ys axis e =
     ))
 
 -- Back, then forward.
-pub back_then_forward : (s next : State) (xs ys : List ℤ) (axis : ℕ) → back_turn s xs axis ≡ after (Done next) ys →
-    forward_turn next ys axis ≡ after (Done s) xs
+pub back_then_forward : (s next : State) (xs ys : List ℤ) (axis : ℕ) → back_turn s xs axis ≡ after (Ok next) ys →
+    forward_turn next ys axis ≡ after (Ok s) xs
 unfolding forward_turn
 back_then_forward s next xs ys axis e =
     let w = went_back s next xs ys axis e in
@@ -143,26 +136,23 @@ back_then_forward s next xs ys axis e =
     ))
 
 -- Refusal 10 on back, as the call answers it: where the checks before it pass, if and only if no table with an accepted forward turn leads to the present one.
-pub refused_none_leads : (s : State) (xs : List ℤ) (axis : ℕ) → check_turn s (length xs) axis ≡ verdict.Passed → has s.forward (axis - 1) ≡ true →
+pub refused_none_leads : (s : State) (xs : List ℤ) (axis : ℕ) → check_turn s (length xs) axis ≡ Ok tt → has s.forward (axis - 1) ≡ true →
     back_turn s xs axis ≡ kept xs Contents → (ys : List ℤ) → LeadsTo s.shape (axis - 1) ys xs → ⊥
 refused_none_leads s xs axis passed there e =
     none_leads s.shape (axis - 1) xs
     (true_or_false (is_accepted s.shape (axis - 1) (former_table s.shape (axis - 1) xs))
-    (λ good. absurd (refused_done (cleared s (axis - 1)) (ap (λ (a : After). a.answer) (sym e ∙ back_done s xs axis passed there good))))
+    (λ good. refused_done Contents (cleared s (axis - 1)) (ap (λ (a : After). a.answer) (sym e ∙ back_done s xs axis passed there good)))
     (λ bad. bad))
-  where
-    refused_done : (next : State) → Refused Contents ≡ Done next → ⊥
-    refused_done next f = let z : ◌≡◌ {A = ℕ} 0 1 = cc in omega arith
 
-pub none_leads_refused : (s : State) (xs : List ℤ) (axis : ℕ) → check_turn s (length xs) axis ≡ verdict.Passed → has s.forward (axis - 1) ≡ true →
+pub none_leads_refused : (s : State) (xs : List ℤ) (axis : ℕ) → check_turn s (length xs) axis ≡ Ok tt → has s.forward (axis - 1) ≡ true →
     ((ys : List ℤ) → LeadsTo s.shape (axis - 1) ys xs → ⊥) → back_turn s xs axis ≡ kept xs Contents
 none_leads_refused s xs axis passed there none =
     back_refused s xs axis passed there
     (refused_where_none s.shape (axis - 1) xs (turn_passed s (length xs) axis passed).long none)
 
 -- Where there is such a table, back leaves it, with the axis cleared.
-pub back_gives : (s : State) (xs ys : List ℤ) (axis : ℕ) → check_turn s (length xs) axis ≡ verdict.Passed → has s.forward (axis - 1) ≡ true →
-    LeadsTo s.shape (axis - 1) ys xs → back_turn s xs axis ≡ after (Done (cleared s (axis - 1))) ys
+pub back_gives : (s : State) (xs ys : List ℤ) (axis : ℕ) → check_turn s (length xs) axis ≡ Ok tt → has s.forward (axis - 1) ≡ true →
+    LeadsTo s.shape (axis - 1) ys xs → back_turn s xs axis ≡ after (Ok (cleared s (axis - 1))) ys
 back_gives s xs ys axis passed there l =
     back_done s xs axis passed there (leads_former s.shape (axis - 1) ys xs l)
-    ∙ ap (after (Done (cleared s (axis - 1)))) (sym (only_former s.shape (axis - 1) ys xs l))
+    ∙ ap (after (Ok (cleared s (axis - 1)))) (sym (only_former s.shape (axis - 1) ys xs l))

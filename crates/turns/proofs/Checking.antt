@@ -1,11 +1,11 @@
 -- What passed checks of a turn tell: a shape in range, no stray bit, a table of its points and an axis of it. And where all that holds they pass:
 -- each check is one test of these.
 -- Assumes nothing.
+use Rattle.std.specs.Prelude.{Ok}
 use mathlib.Core.Path.{◌≡◌}
 use Prim.Native.Nat.{ℕ, ◌-◌, ◌^◌, ◌≤◌, ◌<◌}
 use native.Mathlib.Omega.{arith}
 use borrow.Author.Tests.{le-leb}
-use Rattle.refusals.specs.declared.Verdict.TheVariants.{Passed}
 use Rattle.refusals.proofs.Passing.{first_passed, next_passed}
 use Rattle.shapes.specs.Shapes.{check_axis, points_of}
 use Rattle.shapes.proofs.Checked.{InRange, axis_in_range}
@@ -25,7 +25,7 @@ pub record MayTurn (s : State) (places axis : ℕ) : Type 0 where
 pub place_of : {s : State} {places axis : ℕ} → MayTurn s places axis → axis - 1 < s.shape.axes
 place_of m = omega (arith, m.first, m.last)
 
-pub turn_passed : (s : State) (places axis : ℕ) → check_turn s places axis ≡ Passed → MayTurn s places axis
+pub turn_passed : (s : State) (places axis : ℕ) → check_turn s places axis ≡ Ok tt → MayTurn s places axis
 unfolding check_turn
 turn_passed s places axis e =
     let stands = state_passed s places (first_passed (check_state s places) (check_axis s.shape axis) e) in
@@ -38,7 +38,7 @@ turn_passed s places axis e =
       last = one.1;
     }
 
-pub may_turn : (s : State) (places axis : ℕ) → MayTurn s places axis → check_turn s places axis ≡ Passed
+pub may_turn : (s : State) (places axis : ℕ) → MayTurn s places axis → check_turn s places axis ≡ Ok tt
 unfolding check_turn check_axis
 may_turn s places axis m =
     rw (

@@ -1,9 +1,14 @@
--- A turn that is tried: carried out where it is accepted, else the table is left as it was.
+-- The steps of a turn, in either direction: forward (true) or back. A turn that is tried is carried out where it is accepted, else the table is left as it was.
 -- Assumes nothing.
-use Rattle.std.specs.Prelude.{Bool, true, false, List, ℕ, ℤ, if◌then◌else◌}
+use Rattle.refusals.specs.declared.Refusal.{Refusal}
+use Rattle.std.specs.Prelude.{Bool, true, false, List, ℕ, ◌-◌, ℤ, if◌then◌else◌, Result, Ok, Err}
+use Rattle.refusals.specs.declared.Refusal.TheVariants.{AlreadyForward, NotForward}
 use Rattle.shapes.specs.declared.Shape.{Shape}
 use Rattle.grids.specs.Turned.{turned_table, former_table}
-use Rattle.turns.specs.Turns.{is_accepted}
+use Rattle.states.specs.declared.State.{State}
+use Rattle.states.specs.After.{After}
+use Rattle.states.specs.States.{has, marked, cleared}
+use Rattle.turns.specs.Turns.{is_accepted, forward_turn, back_turn}
 
 -- Whether it was carried out, and the table that it left.
 pub record Tried : Type 0 where
@@ -19,3 +24,17 @@ forward_tried s t xs = if is_accepted s t xs then tried true (turned_table s t x
 unfoldable pub back_tried : Shape → ℕ → List ℤ → Tried
 back_tried s t xs =
     if is_accepted s t (former_table s t xs) then tried true (former_table s t xs) else tried false xs
+
+abbrev pub tried_on : Bool → Shape → ℕ → List ℤ → Tried
+tried_on true s t xs = forward_tried s t xs
+tried_on false s t xs = back_tried s t xs
+
+-- The state that a turn leaves: forward, the axis is set, and refused with 15 where it was; back, it is cleared, and refused with 16 where it was not set.
+unfoldable pub marked_as : Bool → State → ℕ → Result State Refusal
+marked_as true s axis = if has s.forward (axis - 1) then Err (AlreadyForward axis) else Ok (marked s (axis - 1))
+marked_as false s axis = if has s.forward (axis - 1) then Ok (cleared s (axis - 1)) else Err (NotForward axis)
+
+-- The whole turn, as the two definitions have it.
+abbrev pub turn_on : Bool → State → List ℤ → ℕ → After
+turn_on true s xs axis = forward_turn s xs axis
+turn_on false s xs axis = back_turn s xs axis

@@ -1,16 +1,14 @@
 -- What a turn answers and what it leaves in the table (document 01, "Parents and turns" and the two tables of refusals).
 -- Assumes nothing.
-use Rattle.std.specs.Prelude.{Bool, not, List, ℕ, ◌-◌, ℤ, length}
+use Rattle.std.specs.Prelude.{Bool, not, List, ℕ, ◌-◌, ℤ, length, Ok}
 use Rattle.refusals.specs.declared.Refusal.TheVariants.{Contents, AlreadyForward, NotForward}
-use Rattle.refusals.specs.declared.Verdict.{Verdict}
-use Rattle.refusals.specs.Checks.{unless, ◌and_then◌, answer}
+use Rattle.refusals.specs.Checks.{unless, ◌and_then◌, answer, Verdict}
 use Rattle.hierarchy.specs.Turns.{value_at, accepted}
 use Rattle.shapes.specs.Shapes.{points_of, check_axis}
 use Rattle.shapes.specs.declared.Shape.{Shape}
 use Rattle.grids.specs.Grids.{neighbour}
 use Rattle.grids.specs.Turned.{turned_table, former_table}
 use Rattle.states.specs.declared.State.{State}
-use Rattle.states.specs.declared.Answer.TheVariants.{Done}
 use Rattle.states.specs.After.{After, after, kept}
 use Rattle.states.specs.States.{has, marked, cleared, check_state}
 
@@ -29,7 +27,7 @@ forward_turn s xs axis =
     (check_turn s (length xs) axis
     and_then unless (not (has s.forward (axis - 1))) (AlreadyForward axis)
     and_then unless (is_accepted s.shape (axis - 1) xs) Contents)
-    (after (Done (marked s (axis - 1))) (turned_table s.shape (axis - 1) xs))
+    (after (Ok (marked s (axis - 1))) (turned_table s.shape (axis - 1) xs))
 
 -- Back on an axis: then 16 where it is not forward, and 10 where no accepted forward turn leads to the table.
 unfoldable pub back_turn : State → List ℤ → ℕ → After
@@ -38,4 +36,4 @@ back_turn s xs axis =
     (check_turn s (length xs) axis
     and_then unless (has s.forward (axis - 1)) (NotForward axis)
     and_then unless (is_accepted s.shape (axis - 1) (former_table s.shape (axis - 1) xs)) Contents)
-    (after (Done (cleared s (axis - 1))) (former_table s.shape (axis - 1) xs))
+    (after (Ok (cleared s (axis - 1))) (former_table s.shape (axis - 1) xs))

@@ -1,106 +1,129 @@
 // Forward and back on one axis of a table, in the one lent buffer.
 #![tactic(auto)]
 
-ghost use Rattle.std.specs.Prelude.{true, ◌≡◌, length};
+ghost use Rattle.std.specs.Prelude.{true, false, not, ◌≡◌, ◌^◌, ◌≤◌, length, if◌then◌else◌};
 ghost use Rattle.naturals.specs.Test.{all};
 ghost use Rattle.integers.specs.Half.{content_at};
+ghost use Rattle.shapes.specs.Shapes.{points_of};
 ghost use Rattle.states.specs.After.{after};
 ghost use Rattle.neighbours.specs.Steps.{sparse_of};
-ghost use Rattle.lists.specs.Steps.{OnAxis};
+ghost use Rattle.lists.specs.Lists.{whole_turn, odd_sums};
+ghost use Rattle.lists.specs.Steps.{Within};
 ghost use Rattle.turns.specs.Turns.{check_turn, forward_turn, back_turn};
-ghost use Rattle.turns.specs.Steps.{tried, forward_tried, back_tried};
+ghost use Rattle.turns.specs.Steps.{tried, tried_on, marked_as, turn_on};
 
+use integers::{Back, Direction, Forward};
 use neighbours::Line;
-use refusals::{Refusal, Verdict};
-use states::{Answer, State};
+use refusals::Refusal;
+use states::State;
+
+// What the direction of a turn decides.
+pub trait Turning: Direction {
+    // The turn of a table, whether or not it is accepted; answers how many sums were odd of the table that is not forward on the axis.
+    fn sweep(line: Line, table: &mut [i64]) -> u64
+        requires { (length table.old ≡ points_of (sparse_of line)) × Within (2 ^ 55) table.old }
+        ensures turned { table.new ≡ whole_turn Self.ahead (sparse_of line) line.place table.old }
+        ensures odds { result ≡ odd_sums (sparse_of line) line.place (if Self.ahead then table.old else table.new) (points_of (sparse_of line)) };
+
+    // The turn that undoes it.
+    fn undo(line: Line, table: &mut [i64])
+        requires { (length table.old ≡ points_of (sparse_of line)) × Within (2 ^ 55) table.old }
+        ensures { table.new ≡ whole_turn (not Self.ahead) (sparse_of line) line.place table.old };
+
+    // The state that it leaves; refused where the axis is turned already.
+    fn mark(state: State, axis: u32) -> Result<State, Refusal>
+        requires { (1 ≤ axis) × (axis ≤ 8) }
+        ensures { result ≡ marked_as Self.ahead state axis };
+}
+
+impl Turning for Forward {
+    fn sweep(line: Line, table: &mut [i64]) -> u64 {
+        sweeps::lower(line, table) // forward
+    }
+
+    fn undo(line: Line, table: &mut [i64]) {
+        sweeps::raise(line, table); // forward undone
+    }
+
+    fn mark(state: State, axis: u32) -> Result<State, Refusal> {
+        if state.has_axis(axis - 1) {
+            return Err(Refusal::AlreadyForward(axis));
+        }
+        Ok(state.toggled(axis - 1))
+    }
+}
+
+impl Turning for Back {
+    fn sweep(line: Line, table: &mut [i64]) -> u64 {
+        sweeps::raise(line, table) // back
+    }
+
+    fn undo(line: Line, table: &mut [i64]) {
+        sweeps::lower(line, table); // back undone
+    }
+
+    fn mark(state: State, axis: u32) -> Result<State, Refusal> {
+        if !state.has_axis(axis - 1) {
+            return Err(Refusal::NotForward(axis));
+        }
+        Ok(state.toggled(axis - 1))
+    }
+}
 
 // Refused with 1, 2, 14, 3 or 5.
-fn check_turn(state: State, places: usize, axis: u32) -> Verdict
+#[tactic(auto, unfolding(crate::specs::Turns::check_turn))]
+fn check_turn(state: State, places: usize, axis: u32) -> Result<(), Refusal>
     ensures { result ≡ check_turn state places axis }
 {
-    match states::check_state(state, places) {
-        Verdict::Refused(r) => Verdict::Refused(r),
-        Verdict::Passed => shapes::check_axis(state.shape, axis),
-    }
+    states::check_state(state, places)?;
+    shapes::check_axis(state.shape, axis)
 }
 
-// Forward on a line's axis where the turn is accepted; else the table is as it was. All values are within the content limit before.
-pub fn forward_on(line: Line, table: &mut [i64]) -> bool
-    requires { OnAxis (sparse_of line) line.place table.old × (all (content_at table.old) (length table.old) ≡ true) }
-    ensures { tried result table.new ≡ forward_tried (sparse_of line) line.place table.old }
+// A turn on a line's axis where it is accepted (back: where the forward turn that leads here is); else the table is as it was. All values are within the
+// content limit before.
+pub fn try_on<D: Turning>(line: Line, table: &mut [i64]) -> bool
+    requires { (length table.old ≡ points_of (sparse_of line)) × (all (content_at table.old) (length table.old) ≡ true) }
+    ensures { tried result table.new ≡ tried_on D.ahead (sparse_of line) line.place table.old }
 {
-    if sweeps::lower(line, table) == 0 {
+    if D::sweep(line, table) == 0 {
         if integers::all_in_limit(table) {
             return true;
         }
     }
-    sweeps::raise(line, table);
+    D::undo(line, table);
     false
 }
 
-// Back on a line's axis where the forward turn that leads here is accepted; else the table is as it was.
-pub fn back_on(line: Line, table: &mut [i64]) -> bool
-    requires { OnAxis (sparse_of line) line.place table.old × (all (content_at table.old) (length table.old) ≡ true) }
-    ensures { tried result table.new ≡ back_tried (sparse_of line) line.place table.old }
+// A turn on an axis. Where it is not accepted, the table is turned back. No sum is formed of values that were not tested.
+fn turn<D: Turning>(state: State, table: &mut [i64], axis: u32) -> Result<State, Refusal>
+    ensures { after result table.new ≡ turn_on D.ahead state table.old axis }
 {
-    if sweeps::raise(line, table) == 0 {
-        if integers::all_in_limit(table) {
-            return true;
-        }
+    check_turn(state, table.len(), axis)?;
+    let marked = D::mark(state, axis)?;
+    if !integers::all_in_limit(table) {
+        return Err(Refusal::Contents);
     }
-    sweeps::lower(line, table);
-    false
+    let line = Line {
+        axes: state.shape.axes,
+        level: state.shape.level,
+        place: axis - 1,
+    };
+    if !try_on::<D>(line, table) {
+        return Err(Refusal::Contents);
+    }
+    Ok(marked)
 }
 
-// Forward on an axis (hierarchization): each value becomes itself minus half the sum of its two parents' values as they were. Where that is not accepted,
-// the table is turned back. No sum is formed of values that were not tested.
-pub fn hierarchize(state: State, table: &mut [i64], axis: u32) -> Answer
+// Forward on an axis (hierarchization): each value becomes itself minus half the sum of its two parents' values as they were.
+pub fn hierarchize(state: State, table: &mut [i64], axis: u32) -> Result<State, Refusal>
     ensures { after result table.new ≡ forward_turn state table.old axis }
 {
-    if let Verdict::Refused(r) = check_turn(state, table.len(), axis) {
-        return Answer::Refused(r);
-    }
-    let place = axis - 1;
-    if states::has_axis(state.forward, place) {
-        return Answer::Refused(Refusal::AlreadyForward(axis));
-    }
-    let shape = state.shape;
-    let line = Line {
-        axes: shape.axes,
-        level: shape.level,
-        place: place, // forward on this axis
-    };
-    if !integers::all_in_limit(table) {
-        return Answer::Refused(Refusal::Contents);
-    }
-    if !forward_on(line, table) {
-        return Answer::Refused(Refusal::Contents);
-    }
-    Answer::Done(states::with_axis(state, place))
+    turn::<Forward>(state, table, axis)
 }
 
 // Back on an axis (dehierarchization): the table becomes the one that an accepted forward turn takes to the present one.
-pub fn dehierarchize(state: State, table: &mut [i64], axis: u32) -> Answer
+pub fn dehierarchize(state: State, table: &mut [i64], axis: u32) -> Result<State, Refusal>
     ensures { after result table.new ≡ back_turn state table.old axis }
 {
-    if let Verdict::Refused(r) = check_turn(state, table.len(), axis) {
-        return Answer::Refused(r);
-    }
-    let place = axis - 1;
-    if !states::has_axis(state.forward, place) {
-        return Answer::Refused(Refusal::NotForward(axis));
-    }
-    let shape = state.shape;
-    let line = Line {
-        axes: shape.axes,
-        level: shape.level,
-        place: place, // back on this axis
-    };
-    if !integers::all_in_limit(table) {
-        return Answer::Refused(Refusal::Contents);
-    }
-    if !back_on(line, table) {
-        return Answer::Refused(Refusal::Contents);
-    }
-    Answer::Done(states::without_axis(state, place))
+    turn::<Back>(state, table, axis)
 }

@@ -1,18 +1,21 @@
--- The level vector after another. At axis k of the walk all levels before it are 0. Where axis k has a level and an axis after it, one of it moves there
+-- The level vector after another. At the axis k that the search finds all levels before it are 0. Where axis k has a level and an axis after it, one of it moves there
 -- and the rest to axis 1: the next of the sum, of the next rank, so its first point comes 2^sum later. Where k is the last axis, only that has a level: the
 -- vector is the last of its sum, of a rank one below their count. Then comes the one with the next sum on axis 1, of rank 0: its first point is the
 -- first of that sum.
 -- Assumes nothing.
 use mathlib.Core.List.{List, [], ◌∷◌}
-use mathlib.Core.Path.{◌≡◌, refl, ap, ◌∙◌}
+use mathlib.Core.Path.{◌≡◌, refl, ap, sym, ◌∙◌}
 use Prim.Native.Nat.{ℕ, zero, suc, ◌+◌, ◌-◌, ◌*◌, ◌^◌, ◌≤◌, ◌<◌}
 use native.Mathlib.Nat.{mul-suc, mul-zero}
 use native.Mathlib.Numerals.{add-one}
 use native.Mathlib.Omega.{arith}
-use lib.ListN.{length, replicate, set, length-set}
-use lib.Seq.{get_or-set_same, get_or-set_other}
+use lib.ListN.{length, replicate, set, take, length-set}
+use lib.Seq.{get_or-set_same, get_or-set_other, get_or-take, length-take-le}
 use mir.Syntax.{w32}
 use mir.Val.{Fits}
+use Rattle.std.specs.Prelude.{Option, Some, None}
+use Rattle.std.specs.Option.{MatchOption}
+use Rattle.std.specs.List.{AllWithin, HoldsAt}
 use Rattle.naturals.specs.Sum.{sum_to}
 use Rattle.naturals.proofs.Cases.{eq_or_not}
 use Rattle.naturals.proofs.Sums.{sum_to_suc, term_le}
@@ -37,11 +40,37 @@ pub first_zeros : (v t : ℕ) → 0 < t → at (first v) t ≡ 0
 first_zeros v zero h = omega arith
 first_zeros v (suc t) h = zeros_at 7 t
 
--- ---- the walk
+-- ---- the search
 
 pub record Bare (d : ℕ) (ls : List ℕ) (k : ℕ) : Type 0 where
   pub place : suc k ≤ d
   pub zeros : (t : ℕ) → t < k → at ls t ≡ 0
+
+-- What a search for the first number above 0 answers.
+abbrev pub First : List ℕ → Option ℕ → Type 0
+First xs r =
+    MatchOption r
+    (AllWithin (λ (l : ℕ). l ≡ 0) xs 0 (length xs))
+    (λ k. (k < length xs) × HoldsAt (λ (l : ℕ). 0 < l) xs k × AllWithin (λ (l : ℕ). l ≡ 0) xs 0 k)
+
+module _ (d : ℕ) (ls : List ℕ) (low : 1 ≤ d) (fits : d ≤ 8) (long : length ls ≡ 8) where
+  front : length (take (d - 1) ls) ≡ d - 1
+  front = length-take-le (d - 1) ls (omega arith)
+
+  bare_to : (k : ℕ) → k ≤ d - 1 → AllWithin (λ (l : ℕ). l ≡ 0) (take (d - 1) ls) 0 k → Bare d ls k
+  bare_to k le zeros =
+      record {
+        place = omega arith;
+        zeros = λ t h. sym (get_or-take (d - 1) ls t 0 (omega arith)) ∙ zeros t 0 (omega arith) h;
+      }
+
+  pub found_axis : (k : ℕ) → First (take (d - 1) ls) (Some k) → Bare d ls k × (suc k < d) × (0 < at ls k)
+  found_axis k first =
+      let h : k < d - 1 = omega (arith, front, first.0) in
+      (bare_to k (omega arith) first.2, omega arith, rw (get_or-take (d - 1) ls k 0 h) at (first.1 0))
+
+  pub no_axis : First (take (d - 1) ls) None → Bare d ls (d - 1)
+  no_axis none = bare_to (d - 1) (omega arith) (rw front at none)
 
 -- The levels with axis k cleared, and then with its level less one on axis 1: what the code has before it raises the level of axis k + 1.
 abbrev pub cleared : List ℕ → ℕ → List ℕ

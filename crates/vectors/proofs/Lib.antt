@@ -1,3 +1,4 @@
+pub mod Summing
 pub mod Compared
 pub mod Following
 pub mod Preceding

@@ -1,14 +1,17 @@
--- The level vector before another. At place k of the walk all levels from axis 2 up to it are 0. Where place k has a level, the vector with one of it and
+-- The level vector before another. At the place k that the search finds all levels from axis 2 up to it are 0. Where place k has a level, the vector with one of it and
 -- the level of axis 1 on the axis before is the one that is followed by this. Where none has, the vector is the first of its sum, and the last of the sum
 -- below, whose rank is one below their count, ends where it starts.
 -- Assumes nothing.
 use mathlib.Core.List.{List}
 use mathlib.Core.Path.{◌≡◌, refl, ap, sym, ◌∙◌}
 use Prim.Native.Nat.{ℕ, zero, suc, ◌+◌, ◌-◌, ◌*◌, ◌^◌, ◌≤◌, ◌<◌}
-use native.Mathlib.Nat.{mul-suc, mul-zero}
+use native.Mathlib.Nat.{add_comm, mul-suc, mul-zero}
 use native.Mathlib.Omega.{arith}
-use lib.ListN.{set, length-set}
-use lib.Seq.{get_or-set_same, get_or-set_other}
+use lib.ListN.{length, set, take, drop, get_or, length-set}
+use lib.Seq.{get_or-set_same, get_or-set_other, get_or-take, length-take-le}
+use Rattle.std.specs.Prelude.{Some, None}
+use Rattle.std.specs.List.{AllWithin}
+use Rattle.std.proofs.lemmas.List.{length-drop, get_or-drop}
 use Rattle.naturals.specs.Sum.{sum_to}
 use Rattle.naturals.proofs.Cases.{eq_or_not}
 use Rattle.naturals.proofs.Sums.{sum_to_zero, term_le}
@@ -18,12 +21,42 @@ use Rattle.numbering.specs.Point.{at}
 use Rattle.numbering.proofs.Numbering.{start_is, start_suc}
 use Rattle.numbering.proofs.Succession.{NextLevels, next_sum, next_rank, rank_first, sum_last, rank_last}
 use Rattle.vectors.specs.Steps.{VectorIn, PreviousVector}
-use Rattle.vectors.proofs.Following.{first, first_zeros, here_first}
+use Rattle.vectors.proofs.Following.{First, first, first_zeros, here_first}
 
 pub record Flat (d : ℕ) (ls : List ℕ) (k : ℕ) : Type 0 where
   pub some : 1 ≤ k
   pub place : k ≤ d
   pub zeros : (t : ℕ) → 0 < t → t < k → at ls t ≡ 0
+
+-- ---- the search, from axis 2 on
+
+module _ (d : ℕ) (ls : List ℕ) (low : 1 ≤ d) (fits : d ≤ 8) (long : length ls ≡ 8) where
+  behind : length (take (d - 1) (drop 1 ls)) ≡ d - 1
+  behind = length-take-le (d - 1) (drop 1 ls) (omega (arith, length-drop 1 ls))
+
+  read : (t : ℕ) → t < d - 1 → get_or (take (d - 1) (drop 1 ls)) t 0 ≡ at ls (1 + t)
+  read t h = get_or-take (d - 1) (drop 1 ls) t 0 h ∙ get_or-drop 1 ls t 0
+
+  flat_to : (k : ℕ) → k ≤ d - 1 → AllWithin (λ (l : ℕ). l ≡ 0) (take (d - 1) (drop 1 ls)) 0 k → Flat d ls (k + 1)
+  flat_to k le zeros =
+      record {
+        some = omega arith;
+        place = omega arith;
+        zeros =
+            λ t pos h.
+            let after : 1 + (t - 1) ≡ t = omega arith in
+            rw after at (sym (read (t - 1) (omega arith)) ∙ zeros (t - 1) 0 (omega arith) (omega arith));
+      }
+
+  pub found_place : (k : ℕ) → First (take (d - 1) (drop 1 ls)) (Some k) → Flat d ls (k + 1) × (k + 1 < d) × (0 < at ls (k + 1))
+  found_place k first =
+      let h : k < d - 1 = omega (arith, behind, first.0) in
+      (flat_to k (omega arith) first.2, omega arith, omega (arith, read k h, ap (at ls) (add_comm 1 k), first.1 0))
+
+  pub no_place : First (take (d - 1) (drop 1 ls)) None → Flat d ls d
+  no_place none =
+      let whole : d - 1 + 1 ≡ d = omega arith in
+      rw whole at (flat_to (d - 1) (omega arith) (rw behind at none))
 
 -- ---- the vector before of the same sum
 

@@ -3,13 +3,13 @@
 
 ghost use Rattle.std.specs.Prelude.{◌≡◌, ◌≤◌, ◌<◌};
 ghost use Rattle.naturals.specs.Sum.{sum_to};
-ghost use Rattle.numbering.specs.declared.Order.TheVariants.{Same};
+ghost use Rattle.std.specs.declared.cmp.Ordering.TheVariants.{Equal};
 ghost use Rattle.numbering.specs.Point.{at};
 ghost use Rattle.numbering.specs.Number.{first_of};
 ghost use Rattle.numbering.specs.Order.{order_of_levels};
 ghost use Rattle.vectors.specs.Steps.{VectorIn, NextVector, PreviousVector};
 
-use numbering::Order;
+use std::cmp::Ordering;
 
 // A level vector and its sum.
 #[derive(Clone, Copy)]
@@ -23,13 +23,7 @@ pub fn level_sum(axes: usize, levels: &[u32; 8]) -> u32
     requires { (axes ≤ 8) × (sum_to (at levels.now) axes ≤ 8) }
     ensures { result ≡ sum_to (at levels.now) axes }
 {
-    let mut sum: u32 = 0;
-    let mut t: usize = 0;
-    while t < axes {
-        sum += levels[t];
-        t += 1;
-    }
-    sum
+    levels[..axes].iter().sum()
 }
 
 // ---- their order
@@ -38,38 +32,30 @@ pub fn level_sum(axes: usize, levels: &[u32; 8]) -> u32
 fn total(levels: [u32; 8]) -> u64
     ensures { result ≡ sum_to (at levels) 8 }
 {
-    let mut sum: u64 = 0;
-    let mut t: usize = 0;
-    while t < 8 {
-        sum += levels[t] as u64;
-        t += 1;
-    }
-    sum
+    levels.iter().map(|l| u64::from(*l)).sum()
 }
 
 // Two level vectors in document 01's order: the smaller level sum first, then the smaller level on the last axis at which they differ.
-pub fn compare_levels(a: [u32; 8], b: [u32; 8]) -> Order
-    ensures { result ≡ order_of_levels 8 (at a) (at b) Same }
+pub fn compare_levels(a: [u32; 8], b: [u32; 8]) -> Ordering
+    ensures { result ≡ order_of_levels 8 (at a) (at b) Equal }
 {
     let x = total(a);
     let y = total(b);
     if x < y {
-        return Order::Before;
+        return Ordering::Less;
     }
     if y < x {
-        return Order::After;
+        return Ordering::Greater;
     }
-    let mut t: usize = 8;
-    while 0 < t {
-        t -= 1;
+    for t in (0..8).rev() {
         if a[t] < b[t] {
-            return Order::Before;
+            return Ordering::Less;
         }
         if b[t] < a[t] {
-            return Order::After;
+            return Ordering::Greater;
         }
     }
-    Order::Same
+    Ordering::Equal
 }
 
 // ---- the next, and the one before
@@ -80,16 +66,12 @@ pub fn to_next(axes: usize, sum: u32, levels: &mut [u32; 8]) -> u32
     requires { (1 ≤ axes) × (axes ≤ 8) × (sum ≤ 8) × VectorIn axes sum levels.old }
     ensures { NextVector axes sum levels.old result levels.new }
 {
-    let mut k: usize = 0;
-    while k + 1 < axes {
+    if let Some(k) = levels[..axes - 1].iter().position(|l| 0 < *l) {
         let v = levels[k];
-        if 0 < v {
-            levels[k] = 0;
-            levels[0] = v - 1;
-            levels[k + 1] += 1;
-            return sum;
-        }
-        k += 1;
+        levels[k] = 0;
+        levels[0] = v - 1;
+        levels[k + 1] += 1;
+        return sum;
     }
     let more = sum + 1;
     *levels = [more, 0, 0, 0, 0, 0, 0, 0];
@@ -109,25 +91,21 @@ pub fn next_vector(axes: usize, sum: u32, levels: [u32; 8]) -> Vector
     }
 }
 
-// The level vector before another, in place; answers its sum: of the same sum or, before the first of a sum, the last of the sum below.
+// The level vector before another, in place; answers its sum: of the same sum or, before the first of a sum, the last of the sum below. (Not one function with
+// `to_next`: what moves, where it is looked for and where it goes differ.)
 pub fn to_previous(axes: usize, sum: u32, levels: &mut [u32; 8]) -> u32
     requires { (1 ≤ axes) × (axes ≤ 8) × (sum ≤ 8) × VectorIn axes sum levels.old × (0 < first_of axes (at levels.old)) }
     ensures { PreviousVector axes sum levels.old result levels.new }
 {
-    let mut k: usize = 1;
-    while k < axes {
-        if 0 < levels[k] {
-            let v = levels[0];
-            levels[0] = 0;
-            levels[k] -= 1;
-            levels[k - 1] = v + 1;
-            return sum;
-        }
-        k += 1;
+    if let Some(k) = levels[1..axes].iter().position(|l| 0 < *l) {
+        let v = levels[0];
+        levels[0] = 0;
+        levels[k + 1] -= 1;
+        levels[k] = v + 1;
+        return sum;
     }
     let less = sum - 1;
-    let mut last = [0; 8];
-    last[axes - 1] = less;
-    *levels = last;
+    *levels = [0; 8];
+    levels[axes - 1] = less;
     less
 }

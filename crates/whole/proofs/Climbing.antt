@@ -21,7 +21,7 @@ use Rattle.grids.specs.Grids.{neighbour}
 use Rattle.grids.specs.Turned.{turned_table}
 use Rattle.grids.proofs.Turned.{turned_length, turned_holds}
 use Rattle.tables.specs.Tables.{times}
-use Rattle.lists.specs.Steps.{OnAxis, Within}
+use Rattle.lists.specs.Steps.{Within}
 use Rattle.sweeps.proofs.Room.{turned_within}
 use Rattle.turns.proofs.Accepting.{contents_within}
 use Rattle.whole.specs.Whole.{coefficients_of}
@@ -87,8 +87,5 @@ module _ (s : Shape) (k : ℕ) (xs : List ℤ) where
       omega (arith, turned_within s k xs (2 ^ (47 + k)) len w code, ap (λ (n : ℕ). 2 ^ n) next, two-pow-succ (47 + k))
 
   -- There is room on each of eight axes.
-  pub room_there : InRange s → k < s.axes → length xs ≡ points_of s → Within (2 ^ (47 + k)) xs → OnAxis s k xs × Within (2 ^ 59) xs
-  room_there range h len w = (
-    record { few = range.high; low = range.top; place = h; long = len },
-    λ code. omega (arith, w code, pow_mono {i = 47 + k} {j = 59} (omega (arith, range.high))),
-  )
+  pub room_there : InRange s → k < s.axes → Within (2 ^ (47 + k)) xs → Within (2 ^ 59) xs
+  room_there range h w code = omega (arith, w code, pow_mono {i = 47 + k} {j = 59} (omega (arith, range.high)))

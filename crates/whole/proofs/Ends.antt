@@ -1,5 +1,6 @@
 -- Coefficients to rates, where it ends: once every axis is back, unloading succeeds exactly where the table has rates, and leaves them.
 -- Assumes nothing.
+use Rattle.std.specs.Prelude.{Ok}
 use mathlib.Core.Path.{◌≡◌, refl, ap, sym, ◌∙◌, fun_ext}
 use mathlib.Core.Bool.{true, false, true≢false}
 use mathlib.Core.List.{List, map}
@@ -14,7 +15,6 @@ use Rattle.naturals.specs.Test.{all}
 use Rattle.naturals.proofs.Cases.{le_or_lt, true_or_false}
 use Rattle.naturals.proofs.Tests.{and_left, and_right, all_at, all_from}
 use Rattle.refusals.specs.declared.Refusal.TheVariants.{Contents, StillForward}
-use Rattle.refusals.specs.declared.Verdict.TheVariants.{Passed}
 use Rattle.refusals.specs.Checks.{unless}
 use Rattle.integers.specs.Half.{is_rate}
 use Rattle.hierarchy.specs.Turns.{value_at, values_of}
@@ -64,7 +64,7 @@ module _ (s : Shape) (range : InRange s) (xs₀ : List ℤ) (len : length xs₀ 
     unfolding back_all
     held = g.rest
 
-    none_forward : check_sampled (state_of s 0) ≡ Passed
+    none_forward : check_sampled (state_of s 0) ≡ Ok tt
     unfolding check_sampled
     none_forward = axes_pass true StillForward (state_of s 0) (λ t h. no_bits t)
 

@@ -5,7 +5,6 @@ pub mod Loading
 pub mod Climbing
 pub mod Descending
 pub mod Ends
-pub mod Answers
 pub mod AnswersUp
 pub mod AnswersDown
 pub mod Sums

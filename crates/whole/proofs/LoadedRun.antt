@@ -2,6 +2,7 @@
 -- state and the table of the model's set. From demand 3 of the definitions, since a loaded table is the table of the empty set. An axis is then forward if and only
 -- if its last unrefused call went forward, since that holds of the model's set.
 -- Assumes nothing.
+use Rattle.std.specs.Prelude.{Ok}
 use mathlib.Core.Path.{◌≡◌, ap, sym, ◌∙◌}
 use mathlib.Core.Bool.{true}
 use mathlib.Core.List.{List, [], map}
@@ -9,7 +10,6 @@ use Prim.Native.Nat.{ℕ, ◌-◌, ◌^◌, ◌≤◌}
 use lib.IntN.{ℤ}
 use lib.ListN.{length}
 use borrow.Author.Tests.{lt-ltb, eq-eqb}
-use Rattle.refusals.specs.declared.Verdict.TheVariants as verdict
 use Rattle.hierarchy.specs.declared.Turn.{Turn}
 use Rattle.hierarchy.specs.Turns.{value_at}
 use Rattle.hierarchy.specs.Sets.{no_axis}
@@ -18,7 +18,6 @@ use Rattle.shapes.specs.declared.Shape.{Shape}
 use Rattle.shapes.specs.Shapes.{points_of, check_length}
 use Rattle.shapes.proofs.Checked.{InRange, in_range_passed}
 use Rattle.states.specs.declared.State.{State}
-use Rattle.states.specs.declared.Answer.TheVariants.{Done}
 use Rattle.states.specs.After.{after}
 use Rattle.states.specs.States.{has, check_bits, check_state}
 use Rattle.tables.specs.Tables.{times, load}
@@ -39,7 +38,7 @@ pub record AfterLoad (s : Shape) (xs : List ℤ) (calls : List Turn) (ran : Ran)
   pub rates : AreRates s xs
   pub model : AsModel s range (value_at xs) (rates_of_list s xs rates) calls no_axis ran
 
-pub demand_3_of_load : (s : Shape) (xs ys : List ℤ) (st : State) → load s xs ≡ after (Done st) ys → (calls : List Turn) → AfterLoad s xs calls (run calls st ys)
+pub demand_3_of_load : (s : Shape) (xs ys : List ℤ) (st : State) → load s xs ≡ after (Ok st) ys → (calls : List Turn) → AfterLoad s xs calls (run calls st ys)
 demand_3_of_load s xs ys st e calls =
     let l = load_done s xs ys st (sym e) in
     rw (l.state, l.table)
@@ -52,14 +51,14 @@ demand_3_of_load s xs ys st e calls =
     })
 
 -- The axes forward are those whose last unrefused call went forward, by the answers of the calls themselves.
-pub forward_means : (s : Shape) (xs ys : List ℤ) (st : State) → load s xs ≡ after (Done st) ys → (calls : List Turn) (axis : ℕ) → 1 ≤ axis →
+pub forward_means : (s : Shape) (xs ys : List ℤ) (st : State) → load s xs ≡ after (Ok st) ys → (calls : List Turn) (axis : ℕ) → 1 ≤ axis →
     let ran = run calls st ys in
     has ran.state.forward (axis - 1) ≡ true → LastForward axis (answered calls ran.answers)
 forward_means s xs ys st e calls axis low there =
     let model = (demand_3_of_load s xs ys st e calls).model in
     rw model.answers (in_set_last s.axes axis calls low (sym (model.bits (axis - 1)) ∙ there))
 
-pub forward_where : (s : Shape) (xs ys : List ℤ) (st : State) → load s xs ≡ after (Done st) ys → (calls : List Turn) (axis : ℕ) →
+pub forward_where : (s : Shape) (xs ys : List ℤ) (st : State) → load s xs ≡ after (Ok st) ys → (calls : List Turn) (axis : ℕ) →
     let ran = run calls st ys in
     LastForward axis (answered calls ran.answers) → has ran.state.forward (axis - 1) ≡ true
 forward_where s xs ys st e calls axis l =
@@ -67,7 +66,7 @@ forward_where s xs ys st e calls axis l =
     model.bits (axis - 1) ∙ last_in_set s.axes axis calls (rw model.answers at l)
 
 -- A loaded state and table pass the checks of every call.
-loaded_passes : (s : Shape) (xs ys : List ℤ) (st : State) → load s xs ≡ after (Done st) ys → check_state st (length ys) ≡ verdict.Passed
+loaded_passes : (s : Shape) (xs ys : List ℤ) (st : State) → load s xs ≡ after (Ok st) ys → check_state st (length ys) ≡ Ok tt
 unfolding check_state check_bits check_length run
 loaded_passes s xs ys st e =
     let here = demand_3_of_load s xs ys st e [] in
@@ -81,12 +80,12 @@ loaded_passes s xs ys st e =
 
 -- The call that runs a list reports exactly the model's answers.
 pub record Reported (s : Shape) (calls : List Turn) (r : Report) (ran : Ran) : Type 0 where
-  pub answer : r.answer ≡ Done ran.state
+  pub answer : r.answer ≡ Ok ran.state
   pub table : r.table ≡ ran.table
   pub numbers : r.numbers ≡ map number_in (model_answers s.axes no_axis calls)
   pub places : r.places ≡ map place_in (model_answers s.axes no_axis calls)
 
-pub demand_3_of_run : (s : Shape) (xs ys : List ℤ) (st : State) → load s xs ≡ after (Done st) ys →
+pub demand_3_of_run : (s : Shape) (xs ys : List ℤ) (st : State) → load s xs ≡ after (Ok st) ys →
     (directions axes ns ps : List ℕ) → Matched directions axes ns ps →
     Reported s (calls_of directions axes) (run_calls st ys directions axes ns ps) (run (calls_of directions axes) st ys)
 demand_3_of_run s xs ys st e directions axes ns ps m =

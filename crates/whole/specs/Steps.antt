@@ -1,8 +1,7 @@
 -- What the steps of the whole calls leave: forward turns from an axis up, and back turns from an axis down until one is refused.
 -- Assumes nothing.
-use Rattle.std.specs.Prelude.{true, List, ◌≡◌, ℕ, zero, suc, ℤ, length, if◌then◌else◌}
+use Rattle.std.specs.Prelude.{true, List, ◌≡◌, ℕ, zero, suc, ℤ, length, if◌then◌else◌, Ok}
 use Rattle.naturals.specs.Test.{all}
-use Rattle.refusals.specs.declared.Verdict.TheVariants.{Passed}
 use Rattle.integers.specs.Half.{content_at}
 use Rattle.shapes.specs.declared.Shape.{Shape}
 use Rattle.shapes.specs.Shapes.{points_of, check_shape}
@@ -11,7 +10,7 @@ use Rattle.turns.specs.Turns.{is_accepted}
 
 -- A table of a shape that the check passes, all values within the content limit.
 pub record InTable (s : Shape) (xs : List ℤ) : Type 0 where
-  pub shape : check_shape s ≡ Passed
+  pub shape : check_shape s ≡ Ok tt
   pub long : length xs ≡ points_of s
   pub contents : all (content_at xs) (length xs) ≡ true
 

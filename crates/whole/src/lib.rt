@@ -6,88 +6,71 @@ ghost use Rattle.states.specs.After.{left};
 ghost use Rattle.whole.specs.Whole.{rates_to_coefficients, coefficients_to_rates};
 ghost use Rattle.whole.specs.Steps.{InTable, ascent, gone, descent};
 
+use integers::Back;
 use neighbours::Line;
-use refusals::{Refusal, Verdict};
+use refusals::Refusal;
 use shapes::Shape;
-use states::{Answer, State};
+use states::State;
 
 // Forward on axis `from` + 1 and every later one, untested: of a loaded table no turn is refused, nor is one that undoes a turn back.
 fn climb(shape: Shape, from: u32, table: &mut [i64])
     requires { InTable shape table.old }
     ensures { table.new ≡ ascent (shape.axes - from) from shape table.old }
 {
-    let axes = shape.axes;
-    let level = shape.level;
-    let mut k = from;
-    while k < axes {
+    for k in from..shape.axes {
         let line = Line {
-            axes: axes,
-            level: level,
+            axes: shape.axes,
+            level: shape.level,
             place: k,
         };
         sweeps::lower(line, table);
-        k += 1;
     }
 }
 
 // Rates to coefficients: each rate times 2^d, then forward on every axis. Of a loaded table no turn is refused.
-pub fn rates_to_coefficients(shape: Shape, table: &mut [i64]) -> Verdict
+pub fn rates_to_coefficients(shape: Shape, table: &mut [i64]) -> Result<(), Refusal>
     ensures { left result table.new ≡ rates_to_coefficients shape table.old }
 {
-    match tables::load(shape, table) {
-        Answer::Refused(r) => Verdict::Refused(r),
-        Answer::Done(_) => {
-            climb(shape, 0, table); // on every axis
-            Verdict::Passed
-        }
-    }
+    tables::load(shape, table)?;
+    climb(shape, 0, table); // on every axis
+    Ok(())
 }
 
-// Back on every axis, the last first, until one is refused; answers how many axes are still forward.
+// Back on every axis, the last first, until one is refused; answers how many axes are still forward. (No twin of `climb`, which tests nothing.)
 fn descend(shape: Shape, table: &mut [i64]) -> u32
     requires { InTable shape table.old }
     ensures { gone result table.new ≡ descent shape.axes shape table.old }
 {
-    let axes = shape.axes;
-    let level = shape.level;
-    let mut k = axes;
-    while 0 < k {
+    for k in (0..shape.axes).rev() {
         let line = Line {
-            axes: axes,
-            level: level,
-            place: k - 1,
+            axes: shape.axes,
+            level: shape.level,
+            place: k,
         };
-        if !turns::back_on(line, table) {
-            return k;
+        if !turns::try_on::<Back>(line, table) {
+            return k + 1;
         }
-        k -= 1;
     }
     0
 }
 
 // Coefficients to rates: back on every axis, then each value divided by 2^d. Where that cannot be, the axes turned back go forward again.
-pub fn coefficients_to_rates(shape: Shape, table: &mut [i64]) -> Verdict
+#[tactic(auto, using(crate::proofs::AnswersDown::adopt_refuses))]
+pub fn coefficients_to_rates(shape: Shape, table: &mut [i64]) -> Result<(), Refusal>
     ensures { left result table.new ≡ coefficients_to_rates shape table.old }
 {
-    match tables::adopt(shape, table) {
-        Answer::Refused(r) => Verdict::Refused(r),
-        Answer::Done(_) => {
-            let forward = descend(shape, table);
-            if 0 < forward {
-                climb(shape, forward, table);
-                return Verdict::Refused(Refusal::Contents);
-            }
-            let back = State {
-                shape: shape,
-                forward: 0,
-            };
-            match tables::unload(back, table) {
-                Verdict::Passed => Verdict::Passed,
-                Verdict::Refused(_) => {
-                    climb(shape, 0, table); // to the table as it was
-                    Verdict::Refused(Refusal::Contents)
-                }
-            }
+    tables::adopt(shape, table)?;
+    let forward = descend(shape, table);
+    if 0 < forward {
+        climb(shape, forward, table);
+        return Err(Refusal::Contents);
+    }
+    let back = State { shape, forward: 0 };
+    match tables::unload(back, table) {
+        Ok(()) => Ok(()),
+        Err(_) => {
+            climb(shape, 0, table); // to the table as it was
+            Err(Refusal::Contents)
         }
     }
 }

@@ -86,7 +86,7 @@ low_size z w small =
 pub low_quotient : (low : ℕ) → low < 2 ^ 63 → to_z w64 (low / 2 ^ unit_bits) ≡ pos (low / unit)
 low_quotient low small = to_z_pos w64 (low / 2 ^ unit_bits) (omega arith) ∙ ap (λ (u : ℕ). pos (low / u)) (sym unit_is)
 
-pub divided_fits : (high : ℤ) (low : ℕ) → nat_abs high ≤ 2 ^ 62 → low < 2 ^ 63 → SFits w64 (high +ℤ pos (low / unit))
+pub divided_fits : (high : ℤ) (low : ℕ) → nat_abs high ≤ 2 ^ 62 + 2 ^ 47 → low < 2 ^ 63 → SFits w64 (high +ℤ pos (low / unit))
 divided_fits high low small few =
     fits_below (high +ℤ pos (low / unit))
     (omega (arith, sum_size high (pos (low / unit)), ap (λ (u : ℕ). low / u) unit_is))

@@ -1,6 +1,7 @@
 -- Worked values on component grids, by computing: tables of the manual's section 18 and others, what is refused, and the order of work on three points in a row and
 -- three by three.
 -- Assumes nothing.
+use Rattle.std.specs.Prelude.{Ok, Err}
 use mathlib.Core.List.{[], ◌∷◌}
 use mathlib.Core.Path.{◌≡◌, refl}
 use lib.Count.{count_trailing_zeros}
@@ -9,7 +10,6 @@ use Rattle.naturals.specs.Sum.{sum_to, prod_to}
 use Rattle.naturals.specs.Test.{all}
 use Rattle.naturals.specs.FirstFailing.{first_failing}
 use Rattle.refusals.specs.declared.Refusal.TheVariants.{TooManyPoints, Rate}
-use Rattle.refusals.specs.declared.Verdict.TheVariants.{Passed, Refused}
 use Rattle.integers.specs.Half.{half, is_rate}
 use Rattle.numbering.specs.Parent.{is_border, twos, parent_level, parent_index, update, parent}
 use Rattle.hierarchy.specs.Turns.{value_at, values_of, sum_on, forward}
@@ -29,12 +29,12 @@ use Rattle.component_boxes.specs.Order.{widest, middle_of, half_of, away, order_
 -- One axis of top level 1; two axes of top levels 1 and 0, which have the same three points in the unit 4; two of top level 1. A number that is no rate, with its
 -- position. A grid of 511 × 127 points, which is refused before its table is looked at.
 pub worked_components :
-    (component_coefficients (1 ∷ []) (pos 5 ∷ pos 3 ∷ pos 7 ∷ []) ≡ left Passed (pos 7 ∷ pos 6 ∷ pos 11 ∷ []))
-    × (component_coefficients (1 ∷ 0 ∷ []) (pos 5 ∷ pos 3 ∷ pos 7 ∷ []) ≡ left Passed (pos 14 ∷ pos 12 ∷ pos 22 ∷ []))
+    (component_coefficients (1 ∷ []) (pos 5 ∷ pos 3 ∷ pos 7 ∷ []) ≡ left (Ok tt) (pos 7 ∷ pos 6 ∷ pos 11 ∷ []))
+    × (component_coefficients (1 ∷ 0 ∷ []) (pos 5 ∷ pos 3 ∷ pos 7 ∷ []) ≡ left (Ok tt) (pos 14 ∷ pos 12 ∷ pos 22 ∷ []))
     × (component_coefficients (1 ∷ 1 ∷ []) (pos 0 ∷ pos 2 ∷ pos 0 ∷ pos 3 ∷ pos 4 ∷ pos 5 ∷ pos 0 ∷ pos 6 ∷ pos 0 ∷ [])
-    ≡ left Passed (negsuc 5 ∷ pos 0 ∷ negsuc 9 ∷ pos 4 ∷ pos 16 ∷ pos 12 ∷ negsuc 13 ∷ pos 16 ∷ negsuc 17 ∷ []))
-    × (component_coefficients (1 ∷ []) (pos 5 ∷ pos 2147483648 ∷ pos 7 ∷ []) ≡ left (Refused (Rate 1)) (pos 5 ∷ pos 2147483648 ∷ pos 7 ∷ []))
-    × (component_coefficients (8 ∷ 6 ∷ []) [] ≡ left (Refused TooManyPoints) [])
+    ≡ left (Ok tt) (negsuc 5 ∷ pos 0 ∷ negsuc 9 ∷ pos 4 ∷ pos 16 ∷ pos 12 ∷ negsuc 13 ∷ pos 16 ∷ negsuc 17 ∷ []))
+    × (component_coefficients (1 ∷ []) (pos 5 ∷ pos 2147483648 ∷ pos 7 ∷ []) ≡ left (Err (Rate 1)) (pos 5 ∷ pos 2147483648 ∷ pos 7 ∷ []))
+    × (component_coefficients (8 ∷ 6 ∷ []) [] ≡ left (Err TooManyPoints) [])
 unfolding sum_to prod_to all first_failing half is_rate is_border twos parent_level parent_index update parent count_trailing_zeros value_at values_of sum_on forward scaled swept table_of code_of zero_border.neighbour across across_on points_to place share position place_at level_at index_at neighbour rate_at check_rates low_at check_levels grid_points check_grid check_component component_table component_coefficients
 worked_components = (refl, refl, refl, refl, refl)
 

@@ -1,18 +1,13 @@
 -- The starred lines of document 01, "Worked tables", with the cases of document 02, b), at the coordinates of e): a sort of example for each sort of line,
 -- what it says, and the list of them.
 -- Assumes nothing.
-use Rattle.std.specs.Prelude.{◌≡◌, List, [], ◌∷◌, map, ℕ, ℤ, pos, negsuc, replicate}
-use Rattle.refusals.specs.declared.Verdict.TheVariants.{Passed}
+use Rattle.std.specs.Prelude.{◌≡◌, List, [], ◌∷◌, map, ℕ, ℤ, pos, negsuc, replicate, Ok}
 use Rattle.shapes.specs.declared.Shape.{Shape}
-use Rattle.shapes.specs.declared.Counted.TheVariants.{Points}
 use Rattle.shapes.specs.Shapes.{sparse, counted}
-use Rattle.numbers.specs.declared.Numbered.TheVariants.{At}
 use Rattle.numbers.specs.Numbers.{number_of_point}
-use Rattle.states.specs.declared.Answer.TheVariants.{Done}
 use Rattle.states.specs.After.{left}
 use Rattle.tables.specs.Tables.{adopted, adopt}
 use Rattle.whole.specs.Whole.{rates_to_coefficients}
-use Rattle.estimates.specs.declared.Estimated.TheVariants.{Value}
 use Rattle.estimates.specs.Estimates.{estimate as estimate_of}
 
 pub data Example : Type 0 where
@@ -27,10 +22,10 @@ pub data Example : Type 0 where
 
 -- What an example says: the call's definition gives the value.
 abbrev pub Holds : Example → Type 0
-Holds (count s n) = counted s ≡ Points n
-Holds (number s ls is k) = number_of_point s ls is ≡ At k
-Holds (coefficients s rates xs) = rates_to_coefficients s rates ≡ left Passed xs
-Holds (estimate s xs x v) = (adopt s xs ≡ Done (adopted s)) × (estimate_of (adopted s) xs x ≡ Value v)
+Holds (count s n) = counted s ≡ Ok n
+Holds (number s ls is k) = number_of_point s ls is ≡ Ok k
+Holds (coefficients s rates xs) = rates_to_coefficients s rates ≡ left (Ok tt) xs
+Holds (estimate s xs x v) = (adopt s xs ≡ Ok (adopted s)) × (estimate_of (adopted s) xs x ≡ Ok v)
 
 -- All examples of a list hold.
 abbrev pub AllHold : List Example → Type 0

@@ -2,8 +2,8 @@
 -- Assumes nothing.
 use Rattle.answers.proofs.tell.Goals as goal
 
-pub returns-in-Refused : goal.returns-in-Refused
-returns-in-Refused c = rw c.in-Refused.is c.refuse.ensures
+pub returns-in-Err : goal.returns-in-Err
+returns-in-Err c = rw c.in-Err.is c.refuse.ensures
 
-pub returns-in-Passed : goal.returns-in-Passed
-returns-in-Passed c = rw c.in-Passed.is c.succeed.ensures
+pub returns-in-Ok : goal.returns-in-Ok
+returns-in-Ok c = rw c.in-Ok.is c.succeed.ensures

@@ -13,5 +13,5 @@ returns-then-x c =
     ap₂ (λ (y u : ℕ). y / u) (cell_shifted a.x a.level c.requires.0 c.requires.1) (sym unit_is)
     ∙ sym (cell_inside a.x a.level (omega (arith, unit_is)))
 
-pub returns : goal.returns
-returns c = sym (cell_border c.args.x c.args.level (omega (arith, unit_is)))
+pub returns-else-x : goal.returns-else-x
+returns-else-x c = sym (cell_border c.args.x c.args.level (omega (arith, unit_is)))

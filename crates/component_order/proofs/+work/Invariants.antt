@@ -6,4 +6,4 @@ use Rattle.component_grids.specs.Component.{points_to}
 use Rattle.component_order.proofs.+work.Given as goal
 
 abbrev pub decreases-work : goal.decreases-work
-decreases-work l = points_to (at l.levels) l.layout.axes
+decreases-work l = points_to (at l.b.now.levels) l.b.now.grid.now.axes

@@ -3,19 +3,22 @@
 use mathlib.Core.Path.{ap, ◌∙◌}
 use Prim.Native.Nat.{ℕ}
 use Rattle.component_boxes.specs.Order.{order_in}
+use Rattle.component_boxes.proofs.WholeGrid.{whole_fits}
 use Rattle.component_sweeps.specs.Steps.{tops_of}
 use Rattle.component_order.specs.InOrder.{worked_in}
 use Rattle.component_order.proofs.Loading.{loaded_mixed, in_order_is}
 use Rattle.component_order.proofs.in_order.Goals as goal
 
+pub invariant_of-whole : goal.invariant_of-whole
+invariant_of-whole c = record { fits = rw c.middle_point.ensures (whole_fits (tops_of c.args.grid.now) c.args.grid.now.axes) }
+
 pub work-requires : goal.work-requires
-work-requires c =
-    (c.requires.0, rw c.middle_point.ensures (loaded_mixed _ _ _ c.requires.1))
+work-requires c = rw c.middle_point.ensures (loaded_mixed _ _ _ c.requires)
 
 pub returns : goal.returns
 returns c =
-    let d = c.args.layout.axes in
-    let tops = tops_of c.args.layout in
+    let d = c.args.grid.now.axes in
+    let tops = tops_of c.args.grid.now in
     c.work.ensures
     ∙ ap (λ (p : ℕ). worked_in d tops (order_in d tops 0 d tops p) c.args.table.now) c.middle_point.ensures
     ∙ in_order_is d tops c.args.table.now

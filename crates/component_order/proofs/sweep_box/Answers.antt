@@ -1,37 +1,28 @@
-use mathlib.Core.Path.{◌≡◌}
-use native.Mathlib.Numerals.{add-one}
-use native.Mathlib.Omega.{arith}
-use Rattle.component_order.proofs.Sweeping.{sweep_asks, sweep_steps, sweep_ends}
+use Rattle.std.proofs.Common.{◌≡◌, add-one, arith}
+use Rattle.component_order.proofs.Sweeping.{sweep_starts, sweep_asks, sweep_steps, sweep_ends}
 use Rattle.component_order.proofs.sweep_box.Goals as goal
+
+pub loop-a-init : goal.loop-a-init
+loop-a-init c = λ mixed. sweep_starts _ _ c.args.b.now.grid.now.some c.args.b.now.grid.now.few _ _ _ _ _ mixed
 
 pub sweep-requires : goal.sweep-requires
 sweep-requires c =
-    let loop = c.loop-a in
-    let laid = c.requires.0 in
-    let mixed = c.requires.1 in
-    let taken = c.loop-a-test.true in (
-      laid,
-      mixed.fits,
+    let g = c.args.b.now.grid.now in
+    let mixed = c.requires in (
       omega (arith, mixed.axes),
-      sweep_asks _ _ laid.some laid.few _ _ _ _ _ mixed loop.a loop.invariant.0 taken _ (loop.invariant.2 mixed),
+      sweep_asks _ _ g.some g.few _ _ _ _ _ mixed c.loop-a.a c.loop-a.auto.a c.loop-a-test.true _ (c.loop-a.invariant mixed),
     )
 
 pub loop-a-preserved : goal.loop-a-preserved
 loop-a-preserved c =
-    let loop = c.loop-a in
-    let laid = c.requires.0 in
-    let taken = c.loop-a-test.true in (
-      omega (arith, loop.invariant.0),
-      omega arith,
-      λ mixed.
-          rw (add-one loop.a)
-          (sweep_steps _ _ laid.some laid.few _ _ _ _ _ mixed loop.a loop.invariant.0 taken _ (loop.invariant.2 mixed) _ c.sweep.ensures),
-    )
+    let g = c.args.b.now.grid.now in
+    λ mixed.
+    rw (add-one c.loop-a.a)
+    (sweep_steps _ _ g.some g.few _ _ _ _ _ mixed c.loop-a.a c.loop-a.auto.a c.loop-a-test.true _ (c.loop-a.invariant mixed) _ c.sweep.ensures)
 
 pub returns : goal.returns
 returns c =
-    let loop = c.loop-a in
-    let laid = c.requires.0 in
-    let mixed = c.requires.1 in
-    let ends : loop.a ≡ c.args.to = omega (arith, loop.invariant.1, c.loop-a-test.false) in
-    sweep_ends _ _ laid.some laid.few _ _ _ _ _ mixed loop.table (rw ends at (loop.invariant.2 mixed))
+    let g = c.args.b.now.grid.now in
+    let mixed = c.requires in
+    let ends : c.loop-a.a ≡ c.args.to = omega (arith, mixed.order, c.loop-a.auto.a-end, c.loop-a-test.false) in
+    sweep_ends _ _ g.some g.few _ _ _ _ _ mixed c.loop-a.table (rw ends at (c.loop-a.invariant mixed))

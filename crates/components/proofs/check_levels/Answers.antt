@@ -17,23 +17,23 @@ returns-then-levels-gt8 c =
     let ls = c.args.levels.now in
     simp (le-leb 1 (length ls) (omega arith), lt-leb (length ls) 8 (omega arith))
 
-pub returns-then-levels-t-gt8 : goal.returns-then-levels-t-gt8
+pub returns-then-level-gt8 : goal.returns-then-level-gt8
 unfolding check_levels low_at
-returns-then-levels-t-gt8 c =
-    let loop = c.loop-t in
+returns-then-level-gt8 c =
+    let loop = c.loop-level in
     let ls = c.args.levels.now in
     simp (
       le-leb 1 (length ls) (omega arith),
       le-leb (length ls) 8 (omega arith),
-      all_fails (low_at ls) (length ls) loop.t (omega arith) (lt-leb (tops_in ls loop.t) 8 (omega (arith, c.if-levels-t-gt8.true))),
+      all_fails (low_at ls) (length ls) loop.level-index (omega arith) (lt-leb (tops_in ls loop.level-index) 8 (omega (arith, c.if-level-gt8.true))),
     )
 
-pub loop-t-preserved : goal.loop-t-preserved
+pub loop-level-preserved : goal.loop-level-preserved
 unfolding low_at
-loop-t-preserved c =
-    let loop = c.loop-t in
+loop-level-preserved c =
+    let loop = c.loop-level in
     let ls = c.args.levels.now in
-    (search rules, below_more _ _ loop.invariant.1 (le-leb (tops_in ls loop.t) 8 (omega (arith, c.if-levels-t-gt8.false))))
+    below_more _ _ loop.invariant (le-leb (tops_in ls loop.level-index) 8 (omega (arith, c.if-level-gt8.false)))
 
 pub returns : goal.returns
 unfolding check_levels
@@ -42,5 +42,5 @@ returns c =
     simp (
       le-leb 1 (length ls) (omega arith),
       le-leb (length ls) 8 (omega arith),
-      all_from (low_at ls) (length ls) (λ t h. c.loop-t.invariant.1 t (omega arith)),
+      all_from (low_at ls) (length ls) (λ t h. c.loop-level.invariant t (omega arith)),
     )

@@ -1,12 +1,7 @@
--- `components::count_points` meets its contract. The loop's invariant is `Counted`, and the measure is the axes that are left.
+-- `components::count_points` meets its contract. The loop's invariant is `Reached`.
 -- Assumes nothing.
-use Prim.Native.Nat.{◌-◌}
-use lib.ListN.{length}
-use Rattle.components.proofs.Counting.{Counted}
+use Rattle.components.proofs.Counting.{Reached}
 use Rattle.components.proofs.count_points.Given as goal
 
-abbrev pub invariant-loop-t : goal.invariant-loop-t
-invariant-loop-t l = Counted l.levels l.t l.points
-
-abbrev pub decreases-loop-t : goal.decreases-loop-t
-decreases-loop-t l = length l.levels - l.t
+abbrev pub invariant-loop-level : goal.invariant-loop-level
+invariant-loop-level l = Reached l.levels l.level-index l.points

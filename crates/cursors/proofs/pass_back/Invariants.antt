@@ -1,7 +1,6 @@
--- `cursors::pass_back` meets its contract. The loop's invariant is `Moved`: the cursors before j have stepped back to the level vector below. The measure is
--- the cursors that are left up to the level on the axis.
+-- `cursors::pass_back` meets its contract. The loop's invariant is `Moved`: the cursors before j have stepped back to the level vector below.
 -- Assumes nothing.
-use Prim.Native.Nat.{suc, ◌-◌, ◌≤◌}
+use Prim.Native.Nat.{suc, ◌≤◌}
 use Rattle.numbering.specs.Number.{rank}
 use Rattle.numbering.specs.Point.{at}
 use Rattle.cursors.proofs.Passing.{Moved}
@@ -9,8 +8,5 @@ use Rattle.cursors.proofs.pass_back.Given as goal
 
 abbrev pub invariant-loop-j : goal.invariant-loop-j
 invariant-loop-j l =
-    (l.v.own ≤ l.sum) × (l.sum ≤ 8) × (1 ≤ l.j) × (l.j ≤ suc l.v.own)
-    × Moved l.v.line l.sum (suc (rank (at l.v.levels) l.v.line.axes)) (rank (at l.v.levels) l.v.line.axes) l.j l.cursors
-
-abbrev pub decreases-loop-j : goal.decreases-loop-j
-decreases-loop-j l = suc l.v.own - l.j
+    (l.v.own ≤ l.v.sum) × (l.v.sum ≤ 8)
+    × Moved l.v.line l.v.sum (suc (rank (at l.v.levels) l.v.line.axes)) (rank (at l.v.levels) l.v.line.axes) l.j l.cursors

@@ -30,7 +30,7 @@ returns-then-not-is_coordinate c =
     let loop = c.loop-t in
     let a = c.args in
     let first : first_failing (inside_at unit a.coordinates.now) a.axes ≡ loop.t =
-    first_at_lem (inside_at unit a.coordinates.now) a.axes loop.t loop.invariant.1 (tested (goal.at.returns-then-not-is_coordinate c).After-is_coordinate ∙ c.if-not-is_coordinate.true) (omega arith) in
+    first_at_lem (inside_at unit a.coordinates.now) a.axes loop.t loop.invariant (tested (goal.at.returns-then-not-is_coordinate c).After-is_coordinate ∙ c.if-not-is_coordinate.true) (omega arith) in
     rw (
       eq-eqb (length a.coordinates.now) a.axes (omega (arith, c.if-coordinates-axes.false)),
       first,
@@ -39,10 +39,8 @@ returns-then-not-is_coordinate c =
     )
 
 pub loop-t-preserved : goal.loop-t-preserved
-loop-t-preserved c = (
-  search rules,
-  below_more _ _ c.loop-t.invariant.1 (tested (goal.at.loop-t-preserved c).After-is_coordinate ∙ c.if-not-is_coordinate.false),
-)
+loop-t-preserved c =
+    below_more _ _ c.loop-t.invariant (tested (goal.at.loop-t-preserved c).After-is_coordinate ∙ c.if-not-is_coordinate.false)
 
 pub returns : goal.returns
 unfolding check_coordinates first_outside
@@ -50,6 +48,6 @@ returns c =
     let a = c.args in
     rw (
       eq-eqb (length a.coordinates.now) a.axes (omega (arith, c.if-coordinates-axes.false)),
-      first_none (inside_at unit a.coordinates.now) a.axes (λ k h. c.loop-t.invariant.1 k (omega arith)),
+      first_none (inside_at unit a.coordinates.now) a.axes (λ k h. c.loop-t.invariant k (omega arith)),
       le-leb a.axes a.axes (omega arith),
     )

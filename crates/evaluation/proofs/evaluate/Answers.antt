@@ -1,18 +1,16 @@
-use mathlib.Core.Path.{◌≡◌, refl, ap, ◌∙◌}
-use mathlib.Core.List.{[], ◌∷◌}
-use Prim.Native.Nat.{ℕ, ◌+◌}
-use native.Mathlib.Omega.{arith}
-use lib.IntN.{pos}
-use lib.ListN.{get_or, replicate, get_or-replicate, get_or-eq_default}
-use lib.Pow.{pow_pos}
-use mir.Syntax.{w64}
+use Rattle.std.proofs.Common.{◌≡◌, ℕ, ◌+◌, ◌-◌, ◌^◌, ◌<◌, List, [], ◌∷◌, length, get_or, take, drop, replicate, ℤ, pos, refl, sym, ap, ap₂, ◌∙◌, arith, pow_pos, drop-drop, w64, length-take-le}
+use Rattle.std.proofs.lemmas.List.{get_or-drop}
+use Rattle.std.proofs.lemmas.Bool.{eqb-true, eqb-false}
+use lib.ListN.{get_or-replicate, get_or-eq_default}
 use mir.ValLaws.{to_z-of_z}
 use Rattle.naturals.proofs.Cases.{le_or_lt}
 use Rattle.integers.specs.Half.{in_limit}
 use Rattle.numbering.specs.Point.{at}
+use Rattle.evaluation.specs.Steps.{Tabulated, position_of, joint_of}
 use Rattle.evaluation.proofs.Walking.{walked_starts, high_room, low_room, walked_ends}
-use Rattle.evaluation.proofs.Stepping.{sum_small, levels_small, vector_size, next_small, place_read, place_small, weight_in_lem, value_in, value_fits, stepped}
-use Rattle.evaluation.proofs.Tabulating.{tabulated_bounded}
+use Rattle.evaluation.proofs.Stepping.{sum_small, levels_small, vector_size, vector_within, place_read, place_small, weight_in_lem, value_in, value_fits, stepped}
+use Rattle.evaluation.proofs.Tabulating.{tabulated_bounded, tabulated_front}
+use Rattle.evaluation.proofs.evaluate.Goals.{After-tabulated-tabulated, In-loop-hats, After-taken-term}
 use Rattle.evaluation.proofs.evaluate.Goals as goal
 
 eight_zeros : (t : ℕ) → at (0 ∷ 0 ∷ 0 ∷ 0 ∷ 0 ∷ 0 ∷ 0 ∷ 0 ∷ []) t ≡ 0
@@ -21,75 +19,134 @@ eight_zeros t =
     (λ past. get_or-eq_default (replicate 8 0) 0 past)
     (λ h. get_or-replicate 8 t 0 0 h)
 
-pub loop-first-init : goal.loop-first-init
-loop-first-init c = let a = c.args in walked_starts a.shape a.table.now (at a.coordinates.now) _ refl eight_zeros
+pub loop-hats-init : goal.loop-hats-init
+loop-hats-init c =
+    let a = c.args in
+    let none : length a.table.now - length a.table.now ≡ 0 = omega arith in
+    rw (none, c.new-sum.ensures.high, c.new-sum.ensures.low)
+    (walked_starts a.shape a.table.now (at a.coordinates.now) _ refl eight_zeros, omega arith, refl)
 
-pub taken-point-requires : goal.taken-point-requires
-taken-point-requires c =
-    (tabulated_bounded c.requires.listed.few c.tabulated-hats.ensures, levels_small c.requires c.loop-first.invariant c.loop-first-test.true)
+-- ---- the table of hats
 
--- The place read is one of the table's.
-pub overflow_add-c : goal.overflow_add-c
-overflow_add-c c =
-    record {
-      fits = omega (arith, place_small c.requires c.loop-first.invariant c.loop-first-test.true c.tabulated-hats.ensures c.taken-point.ensures);
-    }
+hats_long : (c : After-tabulated-tabulated) → length (take c.args.shape.axes c.tabulated-tabulated.result) ≡ c.args.shape.axes
+hats_long c = length-take-le c.args.shape.axes c.tabulated-tabulated.result (omega (arith, c.tabulated-tabulated.ensures.1, c.requires.listed.few))
 
-pub offset_bounds-table-first : goal.offset_bounds-table-first
-offset_bounds-table-first c =
-    record {
-      fits = omega (arith, place_small c.requires c.loop-first.invariant c.loop-first-test.true c.tabulated-hats.ensures c.taken-point.ensures);
-    }
+hats_at : (c : After-tabulated-tabulated) → Tabulated (at c.args.coordinates.now) c.args.shape.axes (take c.args.shape.axes c.tabulated-tabulated.result)
+hats_at c = tabulated_front (rw c.requires.listed.long at c.tabulated-tabulated.ensures.0)
 
-pub bounds-table-first : goal.bounds-table-first
-bounds-table-first c = place_read c.requires c.loop-first.invariant c.loop-first-test.true c.tabulated-hats.ensures c.taken-point.ensures
+-- ---- where the walk is
 
-pub add_high-high-requires : goal.add_high-high-requires
-add_high-high-requires c =
-    let inv = c.loop-first.invariant in
-    let more = c.loop-first-test.true in (
-      high_room inv,
-      ap in_limit (to_z-of_z w64 _ (value_fits c.requires inv more c.tabulated-hats.ensures c.taken-point.ensures))
-          ∙ value_in c.requires inv more c.tabulated-hats.ensures c.taken-point.ensures,
-      weight_in_lem c.requires inv more c.tabulated-hats.ensures c.taken-point.ensures,
+-- The first point of the vector at hand.
+first : In-loop-hats → ℕ
+first c = length c.args.table.now - length c.loop-hats.rest.now
+
+more : (c : In-loop-hats) → first c < length c.args.table.now
+unfolding first
+more c =
+    omega (arith, c.loop-hats.invariant.1, eqb-false (length c.loop-hats.rest.now) 0 (sym c.is_empty.ensures ∙ c.loop-hats-test.true))
+
+pub taken-term-requires : goal.taken-term-requires
+unfolding first
+taken-term-requires c =
+    let seen = goal.at.taken-term-requires c in
+    rw (hats_long seen.After-tabulated-tabulated) (
+      tabulated_bounded c.requires.listed.few (hats_at seen.After-tabulated-tabulated),
+      levels_small c.requires c.loop-hats.invariant.0 (more seen.In-loop-hats),
     )
 
-pub add_low-low-requires : goal.add_low-low-requires
-add_low-low-requires c =
-    let inv = c.loop-first.invariant in
-    (low_room inv, weight_in_lem c.requires inv c.loop-first-test.true c.tabulated-hats.ensures c.taken-point.ensures)
+found : (c : After-taken-term) → length (take c.args.shape.axes c.tabulated-tabulated.result) ≡ c.args.shape.axes →
+    let hats = take c.args.shape.axes c.tabulated-tabulated.result in
+    let axes = c.args.shape.axes in
+    (c.taken-term.result.position ≡ position_of hats (at c.loop-hats.levels) axes) × (c.taken-term.result.joint ≡ joint_of hats (at c.loop-hats.levels) axes)
+found c long = rw long at c.taken-term.ensures
 
-pub overflow_shl-first : goal.overflow_shl-first
-overflow_shl-first c = omega (arith, sum_small c.requires c.loop-first.invariant c.loop-first-test.true)
+-- The value read, as the table has it.
+read : (c : After-taken-term) →
+    get_or c.loop-hats.rest.now c.taken-term.result.position (pos 0)
+    ≡ get_or c.args.table.now (length c.args.table.now - length c.loop-hats.rest.now + c.taken-term.result.position) (pos 0)
+read c =
+    let xs = c.args.table.now in
+    let q = c.taken-term.result.position in
+    ap (λ (l : List ℤ). get_or l q (pos 0)) c.loop-hats.invariant.2
+    ∙ get_or-drop (length xs - length c.loop-hats.rest.now) xs q (pos 0)
 
-pub overflow_add-first : goal.overflow_add-first
-overflow_add-first c = record { fits = omega (arith, next_small c.requires c.loop-first.invariant c.loop-first-test.true) }
+pub offset_bounds-rest-term : goal.offset_bounds-rest-term
+unfolding first
+offset_bounds-rest-term c =
+    let seen = goal.at.offset_bounds-rest-term c in
+    record { fits = omega (arith, place_small c.requires c.loop-hats.invariant.0 (more seen.In-loop-hats) (hats_at seen.After-tabulated-tabulated) (found seen.After-taken-term (hats_long seen.After-tabulated-tabulated))) }
 
-pub next_vector-next-requires : goal.next_vector-next-requires
-next_vector-next-requires c =
-    let inv = c.loop-first.invariant in
-    (c.requires.some, c.requires.listed.few, sum_small c.requires inv c.loop-first-test.true, inv.vector)
+pub bounds-rest-term : goal.bounds-rest-term
+unfolding first
+bounds-rest-term c =
+    let seen = goal.at.bounds-rest-term c in
+    omega (arith, place_read c.requires c.loop-hats.invariant.0 (more seen.In-loop-hats) (hats_at seen.After-tabulated-tabulated) (found seen.After-taken-term (hats_long seen.After-tabulated-tabulated)))
 
-pub loop-first-smaller : goal.loop-first-smaller
-loop-first-smaller c =
-    omega (arith, vector_size c.requires c.loop-first.invariant c.loop-first-test.true, pow_pos c.loop-first.sum)
+pub add-requires : goal.add-requires
+unfolding first
+add-requires c =
+    let seen = goal.at.add-requires c in
+    let inv = c.loop-hats.invariant.0 in
+    let here = more seen.In-loop-hats in
+    let hats = hats_at seen.After-tabulated-tabulated in
+    let term = found seen.After-taken-term (hats_long seen.After-tabulated-tabulated) in
+    rw (read seen.After-taken-term) (
+      high_room inv,
+      low_room inv,
+      ap in_limit (to_z-of_z w64 _ (value_fits c.requires inv here hats term)) ∙ value_in c.requires inv here hats term,
+      weight_in_lem c.requires inv here hats term,
+    )
 
-pub loop-first-preserved : goal.loop-first-preserved
-loop-first-preserved c =
-    let inv = c.loop-first.invariant in
-    let more = c.loop-first-test.true in
-    let point = c.taken-point in
-    let read =
-    to_z-of_z w64 (get_or c.args.table.now (c.loop-first.first + point.result.position) (pos 0))
-    (value_fits c.requires inv more c.tabulated-hats.ensures point.ensures) in
-    rw (vector_size c.requires inv more)
-    (stepped c.requires inv more c.tabulated-hats.ensures point.ensures c.next_vector-next.ensures
-    (to_z-of_z w64 c.add_high-high.result (record { sfits = c.add_high-high.type_inv })
-    ∙ rw read at c.add_high-high.ensures)
-    (rw read at c.add_low-low.ensures))
+pub overflow_shl-level_sum : goal.overflow_shl-level_sum
+unfolding first
+overflow_shl-level_sum c =
+    omega (arith, sum_small c.requires c.loop-hats.invariant.0 (more (goal.at.overflow_shl-level_sum c).In-loop-hats))
+
+pub split_at-requires : goal.split_at-requires
+unfolding first
+split_at-requires c =
+    let here = more (goal.at.split_at-requires c).In-loop-hats in
+    let inv = c.loop-hats.invariant in
+    omega (arith, vector_size c.requires inv.0 here, vector_within c.requires inv.0 here, inv.1)
+
+pub to_next-level_sum-requires : goal.to_next-level_sum-requires
+unfolding first
+to_next-level_sum-requires c =
+    let inv = c.loop-hats.invariant.0 in
+    (c.requires.some, c.requires.listed.few, sum_small c.requires inv (more (goal.at.to_next-level_sum-requires c).In-loop-hats), inv.vector)
+
+pub loop-hats-smaller : goal.loop-hats-smaller
+unfolding first
+loop-hats-smaller c =
+    let here = more (goal.at.loop-hats-smaller c).In-loop-hats in
+    let inv = c.loop-hats.invariant in
+    omega (arith, c.split_at.ensures.back_len, vector_size c.requires inv.0 here, pow_pos c.loop-hats.level_sum)
+
+pub loop-hats-preserved : goal.loop-hats-preserved
+unfolding first
+loop-hats-preserved c =
+    let seen = goal.at.loop-hats-preserved c in
+    let inv = c.loop-hats.invariant in
+    let here = more seen.In-loop-hats in
+    let hats = hats_at seen.After-tabulated-tabulated in
+    let term = found seen.After-taken-term (hats_long seen.After-tabulated-tabulated) in
+    let xs = c.args.table.now in
+    let before : ℕ = length xs - length c.loop-hats.rest.now in
+    let step : ℕ = 2 ^ c.loop-hats.level_sum in
+    let size = vector_size c.requires inv.0 here in
+    let next : length xs - length c.split_at.result.1.now ≡ before + step =
+    omega (arith, c.split_at.ensures.back_len, size, vector_within c.requires inv.0 here, inv.1) in
+    let value = to_z-of_z w64 (get_or xs (before + c.taken-term.result.position) (pos 0)) (value_fits c.requires inv.0 here hats term) in
+    let is = read seen.After-taken-term in
+    rw next (
+      stepped c.requires inv.0 here hats term c.to_next-level_sum.ensures (rw (is, value) at c.add.ensures.high) (rw (is, value) at c.add.ensures.low),
+      omega (arith, c.split_at.ensures.back_len, inv.1),
+      c.split_at.ensures.back ∙ ap₂ (λ (n : ℕ) (l : List ℤ). drop n l) size inv.2 ∙ drop-drop step before xs,
+    )
 
 pub returns : goal.returns
 returns c =
     to_z-of_z w64 c.joined.result (record { sfits = c.joined.type_inv })
     ∙ c.joined.ensures
-    ∙ walked_ends c.loop-first.invariant (omega (arith, c.requires.long))
+    ∙ walked_ends c.loop-hats.invariant.0
+    (omega (arith, c.requires.long, eqb-true (length c.loop-hats.rest.now) 0 (sym c.is_empty.ensures ∙ c.loop-hats-test.false)))

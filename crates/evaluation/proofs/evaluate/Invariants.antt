@@ -1,15 +1,16 @@
--- `evaluation::evaluate` meets its contract. The loop's invariant is `Walked`, and the measure is what is left of the table.
+-- `evaluation::evaluate` meets its contract. The loop's invariant is `Walked`: what is left of the table begins at the first point of the level vector at
+-- hand. The measure is its length.
 -- Assumes nothing.
-use Prim.Native.Nat.{◌-◌}
-use lib.ListN.{length}
+use Rattle.std.proofs.Common.{◌≡◌, ◌-◌, ◌≤◌, length, drop}
 use Rattle.numbering.specs.Point.{at}
 use Rattle.evaluation.proofs.Walking.{Walked}
 use Rattle.evaluation.proofs.evaluate.Given as goal
 
-abbrev pub invariant-loop-first : goal.invariant-loop-first
-invariant-loop-first l =
-    Walked l.shape l.table (at l.coordinates) l.high l.low l.first l.sum l.levels
+abbrev pub invariant-loop-hats : goal.invariant-loop-hats
+invariant-loop-hats l =
+    Walked l.fn.shape l.table (at l.coordinates) l.sum.high l.sum.low (length l.table - length l.rest) l.level_sum l.levels
+    × (length l.rest ≤ length l.table)
+    × (l.rest ≡ drop (length l.table - length l.rest) l.table)
 
-abbrev pub decreases-loop-first : goal.decreases-loop-first
-decreases-loop-first l =
-    length l.table - l.first
+abbrev pub decreases-loop-hats : goal.decreases-loop-hats
+decreases-loop-hats l = length l.rest

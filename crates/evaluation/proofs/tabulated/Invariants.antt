@@ -1,12 +1,9 @@
--- `evaluation::tabulated` meets its contract. The loop's invariant is `Tabulating`, and the measure is the entries that are left.
+-- `evaluation::tabulated` meets its contract. The loop's invariant: the axes passed have their hats.
 -- Assumes nothing.
-use Prim.Native.Nat.{◌-◌, ◌*◌}
+use Rattle.std.proofs.Common.{◌≡◌, ℕ, ◌<◌, [], length, get_or}
 use Rattle.numbering.specs.Point.{at}
-use Rattle.evaluation.proofs.Tabulating.{Tabulating}
+use Rattle.evaluation.specs.Steps.{AxisHats}
 use Rattle.evaluation.proofs.tabulated.Given as goal
 
 abbrev pub invariant-loop-t : goal.invariant-loop-t
-invariant-loop-t l = Tabulating (at l.coordinates) l.axes l.weights l.cells l.k l.t l.level
-
-abbrev pub decreases-loop-t : goal.decreases-loop-t
-decreases-loop-t l = 9 * l.axes - l.k
+invariant-loop-t l = (length l.hats ≡ 8) × ((k : ℕ) → k < l.t → AxisHats (at l.coordinates k) (get_or l.hats k []))

@@ -1,25 +1,31 @@
 -- `house_file::check_rest` meets its contract: the shape and the places decide first, then the rates.
 -- Assumes nothing.
-use mathlib.Core.Path.{◌≡◌, sym, ◌∙◌}
-use Rattle.refusals.specs.declared.Verdict.TheVariants.{Passed}
-use Rattle.house_file.specs.Steps.{check_places, checked_rest}
-use Rattle.house_file.proofs.Answering.{places_passed}
-use Rattle.house_file.proofs.check_rest.Goals.{In_default}
+use Rattle.std.specs.Prelude.{Ok, Err}
+use mathlib.Core.Path.{◌≡◌, sym}
+use borrow.Author.Rules.{rules}
+use Rattle.house_rates.specs.Rates.{read_rates}
+use Rattle.shapes.specs.Shapes.{points_of}
+use Rattle.house_file.specs.Steps.{check_places}
+use Rattle.house_file.proofs.Answering.{places_passed, placed, unplaced, table_checked}
+use Rattle.house_file.proofs.check_rest.Goals.{In_ok-check_places}
 use Rattle.house_file.proofs.check_rest.Goals as goal
 
 -- the shape and the places passed
-passed : (c : In_default) → let a = c.args in check_places a.shape a.places ≡ Passed
-passed c = sym c.check_places.ensures ∙ c.in_default.is
+passed : (c : In_ok-check_places) → let a = c.args in check_places a.shape a.places ≡ Ok tt
+passed c = sym c.in_ok-check_places.ensures
 
-pub returns-in-Refused : goal.returns-in-Refused
-unfolding checked_rest
-returns-in-Refused c =
-    rw (← c.check_places.ensures, c.in-Refused.is)
+pub returns-in_err-check_places : goal.returns-in_err-check_places
+returns-in_err-check_places c =
+    let a = c.args in
+    let same : c.from_residual.result ≡ Err c.in_err-check_places.field-0.0 = search rules in
+    rw same (sym (unplaced a.places a.shape a.rest.now (sym c.in_err-check_places.ensures)))
 
-pub points_of-count-requires : goal.points_of-count-requires
-points_of-count-requires c =
-    let a = c.args in (places_passed a.shape a.places (passed (goal.at.points_of-count-requires c).In_default)).shape
+pub points_of-requires : goal.points_of-requires
+points_of-requires c = let a = c.args in (places_passed a.shape a.places (passed (goal.at.points_of-requires c).In_ok-check_places)).shape
 
 pub returns : goal.returns
-unfolding checked_rest
-returns c = rw (passed (goal.at.returns c).In_default, ← c.points_of-count.ensures) c.check_rates.ensures
+returns c =
+    let a = c.args in
+    let rest = a.rest.now in
+    rw (placed a.places a.shape rest (passed (goal.at.returns c).In_ok-check_places))
+    (table_checked a.shape (read_rates (points_of a.shape) rest) c.check.result (rw c.points_of.ensures at c.check.ensures))

@@ -1,19 +1,21 @@
 -- `house_file::read_head` meets its contract: d and n are the numbers that two calls read, and the first that is refused decides.
 -- Assumes nothing.
 use mathlib.Core.Path.{sym}
-use lib.ListN.{drop}
+use Rattle.std.proofs.lemmas.Result.{err_from_is_err_and}
 use Rattle.house_file.proofs.Answering.{first_refused, second_refused, head_named}
 use Rattle.house_file.proofs.read_head.Goals as goal
 
-pub returns-in-Refused : goal.returns-in-Refused
-returns-in-Refused c = sym (first_refused c.args.bytes.now (sym c.in-Refused.ensures))
+pub returns-in_err-axes : goal.returns-in_err-axes
+returns-in_err-axes c =
+    let p = err_from_is_err_and c.from_residual.result c.from_residual.ensures.1 in
+    rw (p.1, p.2) (sym (first_refused c.args.bytes.now (sym c.in_err-axes.ensures)))
 
-pub returns-in-Refused-number_at : goal.returns-in-Refused-number_at
-returns-in-Refused-number_at c =
-    let bytes = c.args.bytes.now in
-    sym (second_refused bytes c.in-Got.axes (drop c.in-Got.more bytes) (sym c.in-Got.ensures) (sym c.in-Refused-number_at.ensures))
+pub returns-in_err-level : goal.returns-in_err-level
+returns-in_err-level c =
+    let p = err_from_is_err_and c.from_residual-in_err-level.result c.from_residual-in_err-level.ensures.1 in
+    rw (p.1, p.2)
+    (sym (second_refused c.args.bytes.now c.in_ok-axes.axes c.in_ok-axes.more.now (sym c.in_ok-axes.ensures) (sym c.in_err-level.ensures)))
 
-pub returns-in-Got-number_at : goal.returns-in-Got-number_at
-returns-in-Got-number_at c =
-    let bytes = c.args.bytes.now in
-    sym (head_named bytes c.in-Got.axes (drop c.in-Got.more bytes) (sym c.in-Got.ensures) (sym c.in-Got-number_at.ensures))
+pub returns : goal.returns
+returns c =
+    sym (head_named c.args.bytes.now c.in_ok-axes.axes c.in_ok-axes.more.now (sym c.in_ok-axes.ensures) (sym c.in_ok-level.ensures))

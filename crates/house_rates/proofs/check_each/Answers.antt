@@ -1,27 +1,23 @@
-use mathlib.Core.Path.{sym, ap, ◌∙◌}
+use Rattle.std.specs.Prelude.{Err}
+use mathlib.Core.Path.{◌≡◌, sym}
+use borrow.Author.Rules.{rules}
+use Prim.Native.Nat.{◌+◌, ◌-◌}
 use native.Mathlib.Omega.{arith}
-use Rattle.house_numbers.specs.Steps.{number_in}
-use Rattle.house_rates.proofs.Checking.{checked_starts, checked_steps, checked_refused, bytes_left, none_left}
+use Rattle.house_rates.proofs.Checking.{checked_steps, checked_refused, bytes_left, none_left}
 use Rattle.house_rates.proofs.check_each.Goals as goal
 
-pub loop-left-init : goal.loop-left-init
-loop-left-init c = checked_starts _ _ _
+pub returns-in_err-more : goal.returns-in_err-more
+returns-in_err-more c =
+    let same : c.from_residual.result ≡ Err c.in_err-more.field-0.0 = search rules in
+    rw same (sym (checked_refused c.loop.invariant (omega arith) (sym c.in_err-more.ensures)))
 
-pub returns-in-Refused : goal.returns-in-Refused
-returns-in-Refused c =
-    let bytes = c.args.bytes.now in
-    sym
-    (checked_refused c.loop-left.invariant (omega arith)
-    (sym c.number_at.ensures ∙ ap (number_in bytes) c.in-Refused.is))
+pub loop-preserved : goal.loop-preserved
+loop-preserved c =
+    let same : c.args.count - c.loop.counter - 1 ≡ c.args.count - (c.loop.counter + 1) = omega arith in
+    rw (sym same) (checked_steps c.loop.invariant (omega arith) c.in_ok-more.field-0-0 c.in_ok-more.more.now (sym c.in_ok-more.ensures))
 
-pub loop-left-preserved : goal.loop-left-preserved
-loop-left-preserved c =
-    let bytes = c.args.bytes.now in
-    checked_steps c.loop-left.invariant (omega arith) c.in-Got.field-0 c.in-Got.next
-    (sym c.number_at.ensures ∙ ap (number_in bytes) c.in-Got.is)
-
-pub returns-then-at-bytes : goal.returns-then-at-bytes
-returns-then-at-bytes c = sym (bytes_left c.loop-left.invariant (omega arith) (omega arith))
+pub returns-then-not-is_empty : goal.returns-then-not-is_empty
+returns-then-not-is_empty c = sym (bytes_left c.loop.invariant (omega arith) (grind arith))
 
 pub returns : goal.returns
-returns c = sym (none_left c.loop-left.invariant (omega arith) (omega arith))
+returns c = sym (none_left c.loop.invariant (omega arith) (grind arith))

@@ -1,13 +1,13 @@
-use native.Mathlib.Omega.{arith}
+use mathlib.Core.Path.{◌≡◌}
+use mathlib.Core.List.{◌++◌}
 use borrow.Author.Rules.{rules}
-use Rattle.house_rates.proofs.Counting.{counted_starts, counted_more, counted_all}
+use Rattle.std.specs.Slice.Iter.{chunks_rest}
+use Rattle.house_rates.proofs.Counting.{counted_few}
 use Rattle.house_rates.proofs.count_ends.Goals as goal
 
-pub loop-at-init : goal.loop-at-init
-loop-at-init c = (counted_starts _ _, search rules)
-
-pub loop-at-preserved : goal.loop-at-preserved
-loop-at-preserved c = (counted_more c.loop-at.invariant.0 _ _ c.few_ends.ensures, omega arith)
-
-pub returns : goal.returns
-returns c = counted_all (counted_more c.loop-at.invariant.0 _ _ c.few_ends-2.ensures) (omega arith)
+pub overflow_add-count : goal.overflow_add-count
+overflow_add-count c =
+    let rest = chunks_rest c.loop-few.few-iterator in
+    let after = chunks_rest c.next.new.self in
+    let is : rest ≡ c.in-Some.few.now ++ after = search rules in
+    search (rules, counted_few c.args.bytes.now rest c.in-Some.few.now after c.loop-few.count c.loop-few.invariant.sum is)

@@ -1,13 +1,10 @@
--- `house_rates::count_ends` meets its contract. The loop's invariant is `Counted`, inside the bytes; the measure is the bytes left. No more is counted than
--- there are bytes, so no sum is too large.
+-- `house_rates::count_ends` meets its contract. What is counted and what is left to count are the ends of all the bytes.
 -- Assumes nothing.
-use Prim.Native.Nat.{◌-◌, ◌≤◌}
-use lib.ListN.{length}
-use Rattle.house_rates.specs.Steps.{Counted}
+use mathlib.Core.Path.{◌≡◌}
+use Prim.Native.Nat.{◌+◌}
+use Rattle.std.specs.Slice.Iter.{chunks_rest, chunks_size}
+use Rattle.house_rates.specs.Steps.{ends}
 use Rattle.house_rates.proofs.count_ends.Given as goal
 
-abbrev pub invariant-loop-at : goal.invariant-loop-at
-invariant-loop-at l = Counted l.bytes l.from l.at l.count × (l.at ≤ length l.bytes)
-
-abbrev pub decreases-loop-at : goal.decreases-loop-at
-decreases-loop-at l = length l.bytes - l.at
+abbrev pub invariant-loop-few : goal.invariant-loop-few
+invariant-loop-few l = record { size : chunks_size l.few-iterator ≡ 224; sum : l.count + ends (chunks_rest l.few-iterator) ≡ ends l.bytes }

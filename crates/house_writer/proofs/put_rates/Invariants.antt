@@ -1,13 +1,11 @@
--- `house_writer::put_rates` meets its contract. The loop's invariant: the rates passed have been put; the measure is what is left of the rates.
+-- `house_writer::put_rates` meets its contract. The loop's invariant is `Placed`, and the measure is the rates that are left.
 -- Assumes nothing.
-use Prim.Native.Nat.{◌-◌, ◌≤◌}
-use lib.ListN.{length, take}
-use Rattle.buffers.specs.Put.{Put}
-use Rattle.house_file.specs.Written.{written_rates}
+use lib.ListN.{length}
+use Rattle.house_writer.proofs.Rates.{Placed}
 use Rattle.house_writer.proofs.put_rates.Given as goal
 
-abbrev pub invariant-loop-p : goal.invariant-loop-p
-invariant-loop-p l = (l.p ≤ length l.rates) × Put (written_rates (take l.p l.rates)) l.initial.out l.place l.out l.at
+abbrev pub invariant-loop-number : goal.invariant-loop-number
+invariant-loop-number g l = let r = g.R.FiledRates in Placed (r.rates l.fn.rates) (r.rates l.left) l.initial.out l.out l.at
 
-abbrev pub decreases-loop-p : goal.decreases-loop-p
-decreases-loop-p l = length l.rates - l.p
+abbrev pub decreases-loop-number : goal.decreases-loop-number
+decreases-loop-number g l = length (g.R.FiledRates.rates l.left)

@@ -1,13 +1,11 @@
--- `house_writer::rates_size` meets its contract. The loop's invariant: the total is the bytes of the rates passed; the measure is what is left of the rates.
+-- `house_writer::rates_size` meets its contract. The loop's invariant is `Sized`, and the measure is the rates that are left.
 -- Assumes nothing.
-use mathlib.Core.Path.{◌≡◌}
-use Prim.Native.Nat.{◌-◌, ◌≤◌}
-use lib.ListN.{length, take}
-use Rattle.house_file.specs.Written.{written_rates}
+use lib.ListN.{length}
+use Rattle.house_writer.proofs.Rates.{Sized}
 use Rattle.house_writer.proofs.rates_size.Given as goal
 
-abbrev pub invariant-loop-p : goal.invariant-loop-p
-invariant-loop-p l = (l.p ≤ length l.rates) × (l.total ≡ length (written_rates (take l.p l.rates)))
+abbrev pub invariant-loop-number : goal.invariant-loop-number
+invariant-loop-number g l = let r = g.R.FiledRates in Sized (r.rates l.fn.rates) (r.rates l.left) l.total
 
-abbrev pub decreases-loop-p : goal.decreases-loop-p
-decreases-loop-p l = length l.rates - l.p
+abbrev pub decreases-loop-number : goal.decreases-loop-number
+decreases-loop-number g l = length (g.R.FiledRates.rates l.left)

@@ -1,40 +1,56 @@
+use mathlib.Core.Path.{◌≡◌}
 use native.Mathlib.Omega.{arith}
 use Rattle.neighbours.proofs.Beside.{bits}
-use Rattle.lists.proofs.Lists.{next_done, next_few, next_small, next_nearer}
+use Rattle.neighbours.proofs.Seeing.{seen}
+use Rattle.lists.proofs.Blocks.{on_line}
+use Rattle.lists.proofs.Lists.{blocks_of, bits_within, last_block, block_there, shift_exact, block_small, workable, next_done, next_few}
 use Rattle.lists.proofs.all_blocks.Goals as goal
 
-pub overflow_add-size : goal.overflow_add-size
-overflow_add-size c = omega (arith, bits c.requires.0)
+-- ---- shifts
 
-pub overflow_shl-size : goal.overflow_shl-size
-overflow_shl-size c = omega (arith, bits c.requires.0)
+pub overflow_add-bits : goal.overflow_add-bits
+overflow_add-bits g c = omega (arith, bits (seen c.args.v))
 
--- ---- where a run is one point
+pub overflow_sub-beyond-end : goal.overflow_sub-beyond-end
+overflow_sub-beyond-end g c = bits_within c.args.v
 
-pub loop-first-preserved : goal.loop-first-preserved
-loop-first-preserved c = next_done c.requires.0 c.requires.3 c.loop-first.invariant c.loop-first-test.true c.line-odd.ensures
-
-pub overflow_add-odd : goal.overflow_add-odd
-overflow_add-odd c = omega (arith, next_few c.requires.0 c.requires.3 c.loop-first.invariant c.loop-first-test.true c.line-odd.ensures)
+pub overflow_shl-first : goal.overflow_shl-first
+overflow_shl-first g c = omega (arith, bits (seen c.args.v))
 
 pub overflow_add-first : goal.overflow_add-first
-overflow_add-first c = omega (arith, next_small c.requires.0 c.requires.3 c.loop-first.invariant c.loop-first-test.true)
+overflow_add-first g c =
+    let more = c.loop-beyond-test.true in
+    omega (arith, shift_exact c.args.v c.loop-beyond.beyond more, block_small c.args.v c.loop-beyond.beyond more (on_line c.args.v.line c.requires.2))
 
-pub loop-first-smaller : goal.loop-first-smaller
-loop-first-smaller c = next_nearer c.requires.0 c.requires.3 c.loop-first.invariant c.loop-first-test.true
+-- ---- a block
 
--- ---- where it is not
+pub sized_block-odd-requires : goal.sized_block-odd-requires
+sized_block-odd-requires g c =
+    let v = c.args.v in
+    let more = c.loop-beyond-test.true in
+    let (below, moves, long, within) = c.requires in
+    rw (shift_exact v c.loop-beyond.beyond more) (
+      workable v c.loop-beyond.beyond more (on_line v.line long) c.loop-beyond.invariant below moves within,
+      block_there v c.loop-beyond.beyond more,
+    )
 
-pub loop-first-else-v-eq0-preserved : goal.loop-first-else-v-eq0-preserved
-loop-first-else-v-eq0-preserved c = next_done c.requires.0 c.requires.3 c.loop-first-else-v-eq0.invariant c.loop-first-else-v-eq0-test.true c.block-odd.ensures
+pub overflow_add-odd : goal.overflow_add-odd
+overflow_add-odd g c =
+    let v = c.args.v in
+    let more = c.loop-beyond-test.true in
+    let did = rw (shift_exact v c.loop-beyond.beyond more) at c.sized_block-odd.ensures in
+    omega (arith, next_few v c.loop-beyond.beyond more (on_line c.args.v.line c.requires.2) c.loop-beyond.invariant did)
 
-pub overflow_add-odd-in-loop-first-else-v-eq0 : goal.overflow_add-odd-in-loop-first-else-v-eq0
-overflow_add-odd-in-loop-first-else-v-eq0 c =
-    omega (arith, next_few c.requires.0 c.requires.3 c.loop-first-else-v-eq0.invariant c.loop-first-else-v-eq0-test.true c.block-odd.ensures)
+pub loop-beyond-preserved : goal.loop-beyond-preserved
+loop-beyond-preserved g c =
+    let v = c.args.v in
+    let more = c.loop-beyond-test.true in
+    next_done v c.loop-beyond.beyond more (on_line c.args.v.line c.requires.2) c.loop-beyond.invariant
+    (rw (shift_exact v c.loop-beyond.beyond more) at c.sized_block-odd.ensures)
 
-pub overflow_add-first-in-loop-first-else-v-eq0 : goal.overflow_add-first-in-loop-first-else-v-eq0
-overflow_add-first-in-loop-first-else-v-eq0 c =
-    omega (arith, next_small c.requires.0 c.requires.3 c.loop-first-else-v-eq0.invariant c.loop-first-else-v-eq0-test.true)
+-- ---- after the last
 
-pub loop-first-else-v-eq0-smaller : goal.loop-first-else-v-eq0-smaller
-loop-first-else-v-eq0-smaller c = next_nearer c.requires.0 c.requires.3 c.loop-first-else-v-eq0.invariant c.loop-first-else-v-eq0-test.true
+pub returns : goal.returns
+returns g c =
+    let all : c.loop-beyond.beyond ≡ blocks_of c.args.v = omega arith in
+    rw (last_block c.args.v) at (rw all at c.loop-beyond.invariant)

@@ -2,17 +2,12 @@
 -- at the points from number `near` on.
 -- Assumes nothing.
 use mathlib.Core.Path.{◌≡◌}
-use Prim.Native.Nat.{◌+◌, ◌-◌, ◌*◌, ◌≤◌}
+use Prim.Native.Nat.{◌+◌, ◌-◌, ◌*◌}
 use Rattle.lists.proofs.Sums.{near_at}
 use Rattle.lists.proofs.Blocks.{RunsDone}
 use Rattle.lists.proofs.block.Given as goal
 
 abbrev pub invariant-loop-j : goal.invariant-loop-j
-invariant-loop-j l =
-    RunsDone l.forward l.v l.first (2 * l.j - 1) (l.x + l.width) l.fn.table l.odd l.table
-    × (1 ≤ l.j)
-    × (l.j ≤ l.pairs)
+invariant-loop-j g l =
+    RunsDone g.D.Direction.ahead l.v l.first (2 * l.j - 1) (l.x + l.width) l.fn.table l.odd l.table
     × (l.near ≡ near_at l.v l.starts l.beyond (l.j - 1))
-
-abbrev pub decreases-loop-j : goal.decreases-loop-j
-decreases-loop-j l = l.pairs - l.j

@@ -1,6 +1,8 @@
 -- Level 0 on the axis moves nothing; otherwise the blocks are stepped. Either way all points of the list are, and the three clauses say what that means.
 -- Assumes nothing.
 use mathlib.Core.Path.{◌∙◌}
+use Rattle.neighbours.proofs.Seeing.{seen}
+use Rattle.lists.proofs.Blocks.{on_line}
 use Rattle.lists.proofs.Lists.{list_worked_lem, flat_stepped}
 use Rattle.lists.proofs.Turned.{work_turned}
 use Rattle.lists.proofs.work.Goals as goal
@@ -8,26 +10,26 @@ use Rattle.lists.proofs.work.Goals as goal
 -- ---- level 0
 
 pub returns-then-v-eq0-clause-worked : goal.returns-then-v-eq0-clause-worked
-returns-then-v-eq0-clause-worked c =
+returns-then-v-eq0-clause-worked g c =
     let pre = c.requires in
-    list_worked_lem pre.0 pre.2 (flat_stepped pre.0 c.if-v-eq0.true c.args.forward c.args.table.now)
+    list_worked_lem (seen c.args.v) (on_line c.args.v.line pre.1) (flat_stepped (seen c.args.v) c.if-v-eq0.true g.D.Direction.ahead c.args.table.now)
 
 pub returns-then-v-eq0-clause-odds : goal.returns-then-v-eq0-clause-odds
-returns-then-v-eq0-clause-odds c = (flat_stepped c.requires.0 c.if-v-eq0.true c.args.forward c.args.table.now).odds
+returns-then-v-eq0-clause-odds g c = (flat_stepped (seen c.args.v) c.if-v-eq0.true g.D.Direction.ahead c.args.table.now).odds
 
 pub returns-then-v-eq0-clause-turned : goal.returns-then-v-eq0-clause-turned
-returns-then-v-eq0-clause-turned c =
+returns-then-v-eq0-clause-turned g c =
     let pre = c.requires in
     let xs = c.args.table.now in
-    λ old long came. work_turned pre.0 c.args.forward 0 old xs xs (flat_stepped pre.0 c.if-v-eq0.true c.args.forward xs) (long ∙ pre.2.long) came
+    λ old long came. work_turned (seen c.args.v) g.D.Direction.ahead 0 old xs xs (flat_stepped (seen c.args.v) c.if-v-eq0.true g.D.Direction.ahead xs) (long ∙ pre.1) came
 
 -- ---- a level that moves
 
 pub returns-clause-worked : goal.returns-clause-worked
-returns-clause-worked c = list_worked_lem c.requires.0 c.requires.2 c.all_blocks.ensures
+returns-clause-worked g c = list_worked_lem (seen c.args.v) (on_line c.args.v.line c.requires.1) c.all_blocks.ensures
 
 pub returns-clause-turned : goal.returns-clause-turned
-returns-clause-turned c =
+returns-clause-turned g c =
     let pre = c.requires in
     λ old long came.
-    work_turned pre.0 c.args.forward c.all_blocks.result old c.args.table.now c.all_blocks.new.table c.all_blocks.ensures (long ∙ pre.2.long) came
+    work_turned (seen c.args.v) g.D.Direction.ahead c.all_blocks.result old c.args.table.now c.all_blocks.new.table c.all_blocks.ensures (long ∙ pre.1) came

@@ -7,25 +7,25 @@ use borrow.Author.Rules.{rules}
 use Rattle.numbering.specs.Point.{at}
 use Rattle.numbering.specs.Number.{first_of}
 use Rattle.numbers.proofs.Parts.{first_small, first_of_parts}
-use Rattle.numbers.proofs.first_of.Goals.{After-start_of}
+use Rattle.numbers.proofs.first_of.Goals.{After-start}
 use Rattle.numbers.proofs.first_of.Goals as goal
 
 -- the sum that the code forms is the first number
-whole : (c : After-start_of) →
-    c.start_of.result + c.vector_rank-rank.result * 2 ^ c.level_sum-sum.result % 2 ^ 64
+whole : (c : After-start) →
+    c.start.result + c.vector_rank-rank.result * 2 ^ c.level_sum-sum.result % 2 ^ 64
     ≡ first_of
     c.args.axes
     (at c.args.levels)
 whole c =
     first_of_parts _ _ (search rules) (search rules) (search rules)
-    c.start_of.ensures
+    c.start.ensures
     c.level_sum-sum.ensures
     c.vector_rank-rank.ensures
 
 pub overflow_add-result : goal.overflow_add-result
 overflow_add-result c =
     let small = first_small c.args.axes (at c.args.levels) (search rules) (search rules) (search rules) in
-    omega (arith, whole (goal.at.overflow_add-result c).After-start_of, small)
+    omega (arith, whole (goal.at.overflow_add-result c).After-start, small)
 
 pub returns : goal.returns
-returns c = whole (goal.at.returns c).After-start_of
+returns c = whole (goal.at.returns c).After-start

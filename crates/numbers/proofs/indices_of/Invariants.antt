@@ -1,12 +1,8 @@
--- `numbers::indices_of` meets its contract. The loop's invariant is `Unpacked`, and the measure is the axes that are left.
+-- `numbers::indices_of` meets its contract. The loop's invariant is `Unpacked`.
 -- Assumes nothing.
-use Prim.Native.Nat.{◌-◌}
 use Rattle.numbering.specs.Point.{at}
 use Rattle.numbers.proofs.Unpacked.{Unpacked}
 use Rattle.numbers.proofs.indices_of.Given as goal
 
 abbrev pub invariant-loop-t : goal.invariant-loop-t
 invariant-loop-t l = Unpacked (at l.levels) l.position l.axes l.indices l.t l.rest
-
-abbrev pub decreases-loop-t : goal.decreases-loop-t
-decreases-loop-t l = l.axes - l.t

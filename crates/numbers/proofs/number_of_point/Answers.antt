@@ -1,28 +1,23 @@
--- `numbers::number_of_point` meets its contract: the verdict decides the refusal, and what it passes is a point of the shape.
+-- `numbers::number_of_point` meets its contract: the check of the point decides the refusal, and what it passes is a point of the shape.
 -- Assumes nothing.
+use Rattle.std.specs.Prelude.{Ok}
 use mathlib.Core.Path.{sym, ap, ◌∙◌}
 use Rattle.grids.proofs.Sparse.{number_sparse}
-use Rattle.points.proofs.Handed.{verdict_is, handed}
+use Rattle.points.proofs.Handed.{point_checked, handed}
 use Rattle.numbers.proofs.Parts.{at_most_eight}
-use Rattle.numbers.specs.declared.Numbered.TheVariants.{At}
 use Rattle.numbers.specs.Numbers.{number_of_point}
 use Rattle.numbers.proofs.number_of_point.Goals as goal
 
 pub number_at-requires : goal.number_at-requires
 number_at-requires c =
-    let p = handed _ _ _ c.point_from-given.ensures c.in-Passed.is in
+    let p = handed _ _ _ (sym c.in_ok-p.ensures) in
     (p.shape.low, p.shape.high, at_most_eight p.inside.point p.shape.top)
 
-pub returns-in-Refused : goal.returns-in-Refused
+pub returns : goal.returns
 unfolding number_of_point
-returns-in-Refused c = rw (← verdict_is _ _ _ c.point_from-given.ensures, c.in-Refused.is)
-
-pub returns-in-Passed : goal.returns-in-Passed
-unfolding number_of_point
-returns-in-Passed c =
-    let given = c.point_from-given.ensures in
-    let passed = c.in-Passed.is in
-    let p = handed _ _ _ given passed in
+returns c =
+    let given = sym c.in_ok-p.ensures in
+    let p = handed _ _ _ given in
     let shape = c.args.shape in
-    rw (← verdict_is _ _ _ given, passed, ← p.levels, ← p.indices)
-    (ap At (c.number_at.ensures ∙ sym (number_sparse shape.axes shape.level _ _)))
+    rw (point_checked _ _ _ given, ← p.levels, ← p.indices)
+    (ap Ok (c.number_at.ensures ∙ sym (number_sparse shape.axes shape.level _ _)))

@@ -24,13 +24,10 @@ overflow_shl-position c = omega (arith, few (goal.at.overflow_shl-position c).In
 
 pub overflow_add-position : goal.overflow_add-position
 overflow_add-position c =
-    omega (
-      arith,
-      packed_fits c.requires.1 c.loop-t.invariant c.loop-t-test.true,
-    )
+    rw c.from.ensures (omega (arith, packed_fits c.requires.1 c.loop-t.invariant c.loop-t-test.true))
 
 pub overflow_add-sum : goal.overflow_add-sum
 overflow_add-sum c = omega (arith, few (goal.at.overflow_add-sum c).In-loop-t)
 
 pub loop-t-preserved : goal.loop-t-preserved
-loop-t-preserved c = packed_steps c.requires.1 c.loop-t.invariant c.loop-t-test.true
+loop-t-preserved c = rw c.from.ensures (packed_steps c.requires.1 c.loop-t.invariant c.loop-t-test.true)

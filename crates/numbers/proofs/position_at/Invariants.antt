@@ -1,12 +1,8 @@
--- `numbers::position_at` meets its contract. The loop's invariant is `Packed`, and the measure is the axes that are left.
+-- `numbers::position_at` meets its contract. The loop's invariant is `Packed`.
 -- Assumes nothing.
-use Prim.Native.Nat.{◌-◌}
 use Rattle.numbering.specs.Point.{at}
 use Rattle.numbers.proofs.Packed.{Packed}
 use Rattle.numbers.proofs.position_at.Given as goal
 
 abbrev pub invariant-loop-t : goal.invariant-loop-t
 invariant-loop-t l = Packed (at l.p.levels) (at l.p.indices) l.axes l.t l.position l.sum
-
-abbrev pub decreases-loop-t : goal.decreases-loop-t
-decreases-loop-t l = l.axes - l.t

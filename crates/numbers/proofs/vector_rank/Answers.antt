@@ -10,31 +10,31 @@ loop-t-init c = ranked_starts _ _
 pub overflow_add-next : goal.overflow_add-next
 overflow_add-next c = omega (arith, summed_fits c.loop-t.invariant.sums c.loop-t-test.true)
 
-pub vector_count-requires : goal.vector_count-requires
-vector_count-requires c =
+pub vectors-requires : goal.vectors-requires
+vectors-requires c =
     let fits = summed_fits c.loop-t.invariant.sums c.loop-t-test.true in
-    (search rules, omega arith, omega arith, omega (arith, fits))
+    (omega arith, omega arith, omega (arith, fits))
 
 pub overflow_add-rank : goal.overflow_add-rank
 overflow_add-rank c =
     let fits =
     ranked_fits c.loop-t.invariant c.loop-t-test.true (search rules) (search rules) _
-    c.vector_count.ensures in
+    c.vectors.ensures in
     omega (arith, fits)
 
-pub vector_count-requires-in-loop-t : goal.vector_count-requires-in-loop-t
-vector_count-requires-in-loop-t c =
+pub vectors-requires-in-loop-t : goal.vectors-requires-in-loop-t
+vectors-requires-in-loop-t c =
     let fits = summed_so_far c.loop-t.invariant.sums in
-    (search rules, omega arith, omega arith, omega (arith, fits))
+    (omega arith, omega arith, omega (arith, fits))
 
 pub overflow_sub-rank : goal.overflow_sub-rank
 overflow_sub-rank c =
     ranked_sub c.loop-t.invariant c.loop-t-test.true _ _
-    c.vector_count.ensures
-    c.vector_count-in-loop-t.ensures
+    c.vectors.ensures
+    c.vectors-in-loop-t.ensures
 
 pub loop-t-preserved : goal.loop-t-preserved
 loop-t-preserved c =
     ranked_steps c.loop-t.invariant c.loop-t-test.true _ _
-    c.vector_count.ensures
-    c.vector_count-in-loop-t.ensures
+    c.vectors.ensures
+    c.vectors-in-loop-t.ensures

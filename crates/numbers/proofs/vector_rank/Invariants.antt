@@ -1,12 +1,8 @@
--- `numbers::vector_rank` meets its contract. The loop's invariant is `Ranked`, and the measure is the axes that are left.
+-- `numbers::vector_rank` meets its contract. The loop's invariant is `Ranked`.
 -- Assumes nothing.
-use Prim.Native.Nat.{◌-◌}
 use Rattle.numbering.specs.Point.{at}
 use Rattle.numbers.proofs.Ranked.{Ranked}
 use Rattle.numbers.proofs.vector_rank.Given as goal
 
 abbrev pub invariant-loop-t : goal.invariant-loop-t
 invariant-loop-t l = Ranked (at l.levels) l.axes l.t l.rank l.sum
-
-abbrev pub decreases-loop-t : goal.decreases-loop-t
-decreases-loop-t l = l.axes - l.t

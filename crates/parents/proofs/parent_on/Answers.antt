@@ -24,8 +24,7 @@ pub returns-then-is_border : goal.returns-then-is_border
 unfolding located
 returns-then-is_border c =
     let a = c.args in
-    c.nowhere.ensures
-    ∙ to_border a.t a.side a.p.levels a.p.indices _ c.neighbour-numerator.ensures
+    to_border a.t a.side a.p.levels a.p.indices _ c.neighbour-numerator.ensures
     (sym c.is_border.ensures ∙ c.if-is_border.true)
 
 pub reduce-up-requires : goal.reduce-up-requires

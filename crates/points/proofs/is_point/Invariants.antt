@@ -1,7 +1,6 @@
 -- `points::is_point` meets its contract. The loop's invariant is `Tested`: the levels passed leave `left` of the top level, and their indices
--- pass. The measure is the axes that are left.
+-- pass.
 -- Assumes nothing.
-use Prim.Native.Nat.{◌-◌}
 use lib.ListN.{length}
 use Rattle.numbering.specs.Point.{at}
 use Rattle.points.proofs.Tested.{Tested}
@@ -9,6 +8,3 @@ use Rattle.points.proofs.is_point.Given as goal
 
 abbrev pub invariant-loop-t : goal.invariant-loop-t
 invariant-loop-t l = Tested (length l.levels) l.level (at l.levels) (at l.indices) l.t l.left
-
-abbrev pub decreases-loop-t : goal.decreases-loop-t
-decreases-loop-t l = length l.levels - l.t

@@ -6,21 +6,15 @@ use native.Mathlib.Numerals.{add-one}
 use native.Mathlib.Omega.{arith}
 use Rattle.numbering.specs.Count.{start, points}
 use Rattle.shapes.specs.Shapes.{points_of}
-use Rattle.shapes.proofs.Checked.{InRange, passed_in_range}
-use Rattle.shapes.proofs.points_of.Goals.{After-rows-rows}
+use Rattle.shapes.proofs.Checked.{passed_in_range}
 use Rattle.shapes.proofs.points_of.Goals as goal
 
-range : (c : After-rows-rows) → InRange c.args.shape
-range c = passed_in_range _ c.requires
-
 pub overflow_add-shape : goal.overflow_add-shape
-overflow_add-shape c = omega (arith, range (goal.at.overflow_add-shape c).After-rows-rows)
+overflow_add-shape c = let range = passed_in_range c.args.shape c.requires in omega arith
 
-pub start_of-requires : goal.start_of-requires
-start_of-requires c = (c.rows-rows.ensures, omega (arith, range (goal.at.start_of-requires c).After-rows-rows), omega (arith, range (goal.at.start_of-requires c).After-rows-rows), omega (arith, range (goal.at.start_of-requires c).After-rows-rows))
+pub start-requires : goal.start-requires
+start-requires c = let range = passed_in_range c.args.shape c.requires in (range.low, range.high, omega arith)
 
 pub returns : goal.returns
 unfolding points_of points
-returns c =
-    let shape = c.args.shape in
-    c.start_of.ensures ∙ ap (start shape.axes) (add-one shape.level)
+returns c = c.start.ensures ∙ ap (start c.args.shape.axes) (add-one c.args.shape.level)

@@ -20,7 +20,7 @@ tested c =
     ∙ ap is_rate (to_z-of_z w64 (get_or xs p (pos 0)) (record { sfits = c.is_rate-arg-1.given }) ∙ sym (value_suc xs p))
 
 pub loop-p-init : goal.loop-p-init
-loop-p-init c = (search rules, λ p h. absurd (omega arith))
+loop-p-init c = λ p h. absurd (omega arith)
 
 pub returns-then-not-is_rate : goal.returns-then-not-is_rate
 unfolding check_rates
@@ -29,20 +29,18 @@ returns-then-not-is_rate c =
     let xs = c.args.table.now in
     let loop = c.loop-p in
     let first : first_failing (rate_at xs) (length xs) ≡ loop.p =
-    first_at_lem (rate_at xs) (length xs) loop.p loop.invariant.1 (sym (tested seen.After-is_rate) ∙ c.if-not-is_rate.true) (omega arith) in
+    first_at_lem (rate_at xs) (length xs) loop.p loop.invariant (sym (tested seen.After-is_rate) ∙ c.if-not-is_rate.true) (omega arith) in
     rw (first, lt-leb (length xs) loop.p (omega arith))
 
 pub loop-p-preserved : goal.loop-p-preserved
-loop-p-preserved c = (
-  search rules,
-  below_more _ _ c.loop-p.invariant.1 (sym (tested (goal.at.loop-p-preserved c).After-is_rate) ∙ c.if-not-is_rate.false),
-)
+loop-p-preserved c =
+    below_more _ _ c.loop-p.invariant (sym (tested (goal.at.loop-p-preserved c).After-is_rate) ∙ c.if-not-is_rate.false)
 
 pub returns : goal.returns
 unfolding check_rates
 returns c =
     let xs = c.args.table.now in
     rw (
-      first_none (rate_at xs) (length xs) (λ p h. c.loop-p.invariant.1 p (omega arith)),
+      first_none (rate_at xs) (length xs) (λ p h. c.loop-p.invariant p (omega arith)),
       le-leb (length xs) (length xs) (omega arith),
     )

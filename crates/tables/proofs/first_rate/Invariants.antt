@@ -1,12 +1,8 @@
--- `tables::first_rate` meets its contract. The loop's invariant: the values passed are rates. The measure is what is left of the table.
+-- `tables::first_rate` meets its contract. The loop's invariant: the values passed are rates.
 -- Assumes nothing.
-use Rattle.std.proofs.Common.{◌-◌, ◌≤◌, length}
 use Rattle.naturals.specs.FirstFailing.{Passes}
 use Rattle.tables.specs.Tables.{rate_at}
 use Rattle.tables.proofs.first_rate.Given as goal
 
 abbrev pub invariant-loop-p : goal.invariant-loop-p
-invariant-loop-p l = (l.p ≤ length l.table) × Passes (rate_at l.table) l.p
-
-abbrev pub decreases-loop-p : goal.decreases-loop-p
-decreases-loop-p l = length l.table - l.p
+invariant-loop-p l = Passes (rate_at l.table) l.p

@@ -11,16 +11,12 @@ use Rattle.tables.proofs.is_scaled.Goals as goal
 tested : (c : After-is_rate) → c.is_rate.result ≡ is_rate (quotient c.args.axes c.args.v)
 tested c = c.is_rate.ensures ∙ ap is_rate (shifted_bits c.args.axes c.args.v c.ranges.v)
 
-pub returns-then-not-is_rate : goal.returns-then-not-is_rate
-returns-then-not-is_rate c =
-    let a = c.args in
-    sym (not_scaled a.axes a.v (sym (tested (goal.at.returns-then-not-is_rate c).After-is_rate) ∙ c.if-not-is_rate.true))
-
-pub scaled-requires : goal.scaled-requires
-scaled-requires c =
-    (c.requires, sym c.is_rate.ensures ∙ c.if-not-is_rate.false)
-
-pub returns : goal.returns
-returns c =
+pub returns-then-is_rate : goal.returns-then-is_rate
+returns-then-is_rate c =
     rw (c.scaled.ensures, shifted_bits c.args.axes c.args.v c.ranges.v)
-    (scaled_test c.args.axes c.args.v c.requires c.ranges.v (sym (tested (goal.at.returns c).After-is_rate) ∙ c.if-not-is_rate.false))
+    (scaled_test c.args.axes c.args.v c.requires c.ranges.v (sym (tested (goal.at.returns-then-is_rate c).After-is_rate) ∙ c.if-is_rate.true))
+
+pub returns-else-is_rate : goal.returns-else-is_rate
+returns-else-is_rate c =
+    let a = c.args in
+    c.if-is_rate.false ∙ sym (not_scaled a.axes a.v (sym (tested (goal.at.returns-else-is_rate c).After-is_rate) ∙ c.if-is_rate.false))

@@ -1,12 +1,8 @@
--- `tables::scale` meets its contract. The loop's invariant: the values passed are times 2^d, the others as they were. The measure is what is left of the table.
+-- `tables::scale` meets its contract. The loop's invariant: the values passed are times 2^d, the others as they were.
 -- Assumes nothing.
-use Rattle.std.proofs.Common.{◌-◌, length}
+use Rattle.std.proofs.Common.{◌≡◌, ◌++◌, map, take, drop}
 use Rattle.tables.specs.Tables.{times}
-use Rattle.tables.proofs.Mapping.{Mapped}
 use Rattle.tables.proofs.scale.Given as goal
 
-abbrev pub invariant-loop-p : goal.invariant-loop-p
-invariant-loop-p l = Mapped (times l.axes) l.initial.table l.table l.p
-
-abbrev pub decreases-loop-p : goal.decreases-loop-p
-decreases-loop-p l = length l.initial.table - l.p
+abbrev pub invariant-loop-v : goal.invariant-loop-v
+invariant-loop-v l = l.table ≡ map (times l.axes) (take l.v-index l.initial.table) ++ drop l.v-index l.initial.table

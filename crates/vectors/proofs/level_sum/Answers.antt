@@ -1,12 +1,21 @@
+-- `vectors::level_sum` meets its contract: the chain sums the first levels.
+-- Assumes nothing.
+use mathlib.Core.Path.{◌≡◌, ◌∙◌}
+use Prim.Native.Nat.{◌^◌, ◌<◌}
 use native.Mathlib.Omega.{arith}
-use Rattle.naturals.proofs.Summed.{summed_starts, summed_steps, summed_fits}
+use lib.ListN.{take}
+use borrow.Author.Rules.{rules}
+use Rattle.std.specs.List.{sum}
+use Rattle.vectors.proofs.Summing.{sum_first}
 use Rattle.vectors.proofs.level_sum.Goals as goal
 
-pub loop-t-init : goal.loop-t-init
-loop-t-init c = summed_starts _ _
+pub sum-requires-clause-fits : goal.sum-requires-clause-fits
+sum-requires-clause-fits c =
+    let first = sum_first c.args.levels.now c.args.axes (search rules) in
+    let fits : sum (take c.args.axes c.args.levels.now) < 2 ^ 32 = omega arith in
+    search rules
 
-pub overflow_add-sum : goal.overflow_add-sum
-overflow_add-sum c = omega (arith, summed_fits c.loop-t.invariant c.loop-t-test.true)
-
-pub loop-t-preserved : goal.loop-t-preserved
-loop-t-preserved c = summed_steps c.loop-t.invariant c.loop-t-test.true
+pub returns : goal.returns
+returns c =
+    let is : c.sum.result ≡ sum (take c.args.axes c.args.levels.now) = search rules in
+    is ∙ sum_first c.args.levels.now c.args.axes (search rules)

@@ -14,7 +14,12 @@ lower-requires c =
     let loop = c.loop-k in
     let shape = c.args.shape in
     let range = passed_in_range shape c.requires.shape in
-    room_there shape loop.k loop.table range c.loop-k-test.true loop.invariant.0 loop.invariant.1
+    (loop.invariant.0, room_there shape loop.k loop.table range c.loop-k-test.true loop.invariant.1)
+
+pub invariant_of-line : goal.invariant_of-line
+invariant_of-line c =
+    let range = passed_in_range c.args.shape c.requires.shape in
+    record { few = range.high; top = range.top; axis = c.loop-k-test.true }
 
 pub loop-k-preserved : goal.loop-k-preserved
 loop-k-preserved c =

@@ -1,6 +1,5 @@
 -- `whole::climb` meets its contract. The loop's invariant: the turns still to come, from the present table, leave what all of them leave from the start; and
--- the values are at most 2^47 doubled once for each axis before the present one, so that on each of eight axes there is room for a turn. The measure is the
--- number of axes to come. Assumes nothing.
+-- the values are at most 2^47 doubled once for each axis before the present one, so that on each of eight axes there is room for a turn.  Assumes nothing.
 use mathlib.Core.Path.{◌≡◌}
 use Prim.Native.Nat.{◌+◌, ◌-◌, ◌^◌}
 use lib.ListN.{length}
@@ -14,7 +13,4 @@ invariant-loop-k l =
     let shape = l.fn.shape in
     (length l.table ≡ points_of shape)
     × Within (2 ^ (47 + l.k)) l.table
-    × (ascent (shape.axes - l.k) l.k shape l.table ≡ ascent (shape.axes - l.initial.k) l.initial.k shape l.initial.table)
-
-abbrev pub decreases-loop-k : goal.decreases-loop-k
-decreases-loop-k l = l.axes - l.k
+    × (ascent (shape.axes - l.k) l.k shape l.table ≡ ascent (shape.axes - l.fn.from) l.fn.from shape l.initial.table)

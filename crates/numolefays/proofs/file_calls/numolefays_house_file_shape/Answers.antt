@@ -7,15 +7,15 @@ use Rattle.numolefays.proofs.file_calls.numolefays_house_file_shape.Goals as goa
 
 pub points_of-requires : goal.points_of-requires
 points_of-requires c =
-    shape_passes c.args.bytes.now c.in-Holds.named (sym c.shape_of.ensures ∙ c.in-Holds.is)
+    shape_passes c.args.bytes.now c.in-Ok.named (sym c.shape_of.ensures ∙ c.in-Ok.is)
 
-pub returns-in-Refused : goal.returns-in-Refused
-returns-in-Refused c =
+pub returns-in-Err : goal.returns-in-Err
+returns-in-Err c =
     let a = c.args in
-    rw (← c.shape_of.ensures, c.in-Refused.is)
+    rw (← c.shape_of.ensures, c.in-Err.is)
     (beside (a.axes.now, a.level.now, a.points.now) c.refuse.ensures)
 
-pub returns-in-Holds : goal.returns-in-Holds
-returns-in-Holds c =
-    rw (← c.shape_of.ensures, c.in-Holds.is, ← c.points_of.ensures)
+pub returns-in-Ok : goal.returns-in-Ok
+returns-in-Ok c =
+    rw (← c.shape_of.ensures, c.in-Ok.is, ← c.points_of.ensures)
     (beside _ c.succeed.ensures)

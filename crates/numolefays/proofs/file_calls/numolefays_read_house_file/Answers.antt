@@ -3,13 +3,13 @@
 use Rattle.answers.proofs.Handing.{beside}
 use Rattle.numolefays.proofs.file_calls.numolefays_read_house_file.Goals as goal
 
-pub returns-in-Refused : goal.returns-in-Refused
-returns-in-Refused c =
+pub returns-in-Err : goal.returns-in-Err
+returns-in-Err c =
     let a = c.args in
-    rw (← c.read.ensures, c.in-Refused.is)
+    rw (← c.read.ensures, c.in-Err.is)
     (beside (a.axes.now, a.level.now, c.read.new.table) c.refuse.ensures)
 
-pub returns-in-Holds : goal.returns-in-Holds
-returns-in-Holds c =
-    rw (← c.read.ensures, c.in-Holds.is)
+pub returns-in-Ok : goal.returns-in-Ok
+returns-in-Ok c =
+    rw (← c.read.ensures, c.in-Ok.is)
     (beside _ c.succeed.ensures)

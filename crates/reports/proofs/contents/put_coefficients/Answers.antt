@@ -6,28 +6,22 @@ use Prim.Native.Nat.{ℕ}
 use native.Mathlib.Omega.{arith}
 use Rattle.texts.specs.Text.{heading_of, point_lines}
 use Rattle.reports.specs.Report.{table_text}
-use Rattle.buffers.proofs.Puts.{put_then, put_as, put_length}
-use Rattle.texts.proofs.Listing.{heading_length}
+use Rattle.buffers.proofs.Puts.{put_then, put_as}
+use Rattle.texts.proofs.Puts.{put_behind}
 use Rattle.reports.proofs.Texts.{counted_points, refused_text, passed_text}
 use Rattle.reports.proofs.contents.put_coefficients.Goals as goal
 
-pub put_points-requires : goal.put_points-requires
-put_points-requires c =
-    let a = c.args in
-    let turned = c.rates_to_coefficients in
-    omega (arith, c.put_heading-next.ensures.after, put_length c.put_heading-next.ensures, heading_length a.shape.axes a.shape.level a.count, turned.auto)
-
-pub returns-in-Refused : goal.returns-in-Refused
-returns-in-Refused c =
+pub returns-in-Err : goal.returns-in-Err
+returns-in-Err c =
     let xs = c.rates_to_coefficients.new.table in
-    put_as (refused_text c.args.shape c.in-Refused.why xs _ c.in-Refused.ensures) c.put_refused.ensures
+    put_as (refused_text c.args.shape c.in-Err.why xs _ c.in-Err.ensures) c.put_refused.ensures
 
-pub returns-in-Passed : goal.returns-in-Passed
+pub returns-in-Ok : goal.returns-in-Ok
 unfolding table_text
-returns-in-Passed c =
+returns-in-Ok c =
     let a = c.args in
     let xs = c.rates_to_coefficients.new.table in
     put_as
     (ap (λ (n : ℕ). heading_of a.shape.axes a.shape.level n ++ point_lines 0 xs) (counted_points a.shape a.count c.requires.0)
-    ∙ passed_text a.shape xs _ c.in-Passed.ensures)
-    (put_then c.put_heading-next.ensures c.put_points.ensures)
+    ∙ passed_text a.shape xs _ c.in-Ok.ensures)
+    (put_then c.put_heading-end.ensures.put (put_behind (omega arith) c.put_points.ensures.put))

@@ -5,7 +5,7 @@ use Rattle.buffers.proofs.Puts.{put_as}
 use Rattle.reports.proofs.Texts.{shape_refused}
 use Rattle.reports.proofs.contents.put_table.Goals as goal
 
-pub returns-in-Refused : goal.returns-in-Refused
-returns-in-Refused c =
+pub returns-in-Err : goal.returns-in-Err
+returns-in-Err c =
     let a = c.args in
-    put_as (shape_refused a.shape c.in-Refused.why a.table.now (sym c.in-Refused.ensures)) c.put_refused.ensures
+    put_as (shape_refused a.shape c.in-Err.why a.table.now (sym c.in-Err.ensures)) c.put_refused.ensures

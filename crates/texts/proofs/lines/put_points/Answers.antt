@@ -7,23 +7,23 @@ use mir.Syntax.{w64}
 use mir.ValLaws.{to_z-of_z}
 use Rattle.texts.specs.Text.{point_line}
 use Rattle.buffers.proofs.Puts.{put_as}
-use Rattle.texts.proofs.Listing.{listed_starts, listed_room, listed_steps, listed_ends}
+use Rattle.texts.proofs.Puts.{put_behind}
+use Rattle.texts.proofs.Listing.{listed_starts, listed_steps, listed_ends}
 use Rattle.texts.proofs.lines.put_points.Goals as goal
 
 pub loop-p-init : goal.loop-p-init
 loop-p-init c = listed_starts
 
-pub put_point-next-requires : goal.put_point-next-requires
-put_point-next-requires c = listed_room c.loop-p.invariant (omega arith) c.requires
-
 pub loop-p-preserved : goal.loop-p-preserved
 loop-p-preserved c =
     let table = c.args.table.now in
     let p = c.loop-p.p in
+    let line = c.put_point-end.ensures in
     listed_steps
     c.loop-p.invariant
     (omega arith)
-    (put_as (ap (point_line p) (to_z-of_z w64 (get_or table p (pos 0)) (search rules))) c.put_point-next.ensures)
+    (put_as (ap (point_line p) (to_z-of_z w64 (get_or table p (pos 0)) (search rules))) (put_behind (omega arith) line.put))
+    (omega arith)
 
-pub returns : goal.returns
-returns c = listed_ends c.loop-p.invariant (omega arith)
+pub returns-clause-put : goal.returns-clause-put
+returns-clause-put c = listed_ends c.loop-p.invariant (omega arith)

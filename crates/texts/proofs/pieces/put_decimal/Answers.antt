@@ -2,7 +2,7 @@
 -- Assumes nothing.
 use mathlib.Core.Path.{◌∙◌}
 use native.Mathlib.Omega.{arith}
-use Rattle.texts.proofs.Decimals.{few_digits, decimal_digits}
+use Rattle.texts.proofs.Decimals.{few_digits, decimal_digits, decimal_length}
 use Rattle.buffers.proofs.Puts.{put_as}
 use Rattle.texts.proofs.pieces.put_decimal.Goals as goal
 
@@ -14,6 +14,9 @@ put-requires c =
 pub returns : goal.returns
 returns c =
     let written = c.decimal-count in
-    put_as
-    (written.ensures.digits ∙ decimal_digits written.result c.args.n written.ensures.len c.ranges.n.fits)
-    c.put.ensures
+    let put =
+    put_as (written.ensures.digits ∙ decimal_digits written.result c.args.n written.ensures.len c.ranges.n.fits) c.put.ensures in
+    record {
+      put = put;
+      most = omega (arith, put.after, few_digits written.result c.args.n written.ensures.len c.ranges.n.fits, decimal_length c.args.n);
+    }

@@ -1,0 +1,30 @@
+// Where the points of each level sum start.
+ghost use Rattle.std.specs.Prelude.{ℕ, suc, ◌≡◌, ◌≤◌};
+ghost use Rattle.numbering.specs.Count.{start};
+ghost use Rattle.numbering.specs.Point.{at};
+
+use neighbours::Line;
+
+// The number of the first point of each level sum from 0 to the top level; in the next place, N. Other places are not read.
+#[derive(Clone, Copy)]
+pub struct Starts {
+    pub line: Line,
+    pub places: [u64; 10],
+    ghost first: { (s : ℕ) → s ≤ suc line.level → at places s ≡ start line.axes s },
+}
+
+impl Starts {
+    // The starts of a shape.
+    pub fn of(line: Line) -> Starts
+        ensures { result.line ≡ line }
+    {
+        let rows = shapes::Rows::new();
+        let mut places = [0u64; 10];
+        let mut total: u64 = 0;
+        for s in 0..line.level + 1 {
+            total += rows.vectors(line.axes, s) << s;
+            places[s as usize + 1] = total;
+        }
+        Starts { line, places }
+    }
+}
