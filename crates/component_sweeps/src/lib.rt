@@ -1,7 +1,7 @@
 // One axis of a box of a component grid, in the one lent buffer: each value of the box becomes itself less half the sum of its two parents' values.
 #![tactic(auto)]
 
-ghost use Rattle.std.specs.Prelude.{◌≡◌, ◌+◌, ◌*◌, ◌^◌, ◌<◌, ◌≤◌, length, set, IfSome};
+ghost use Rattle.std.specs.Prelude.{◌≡◌, ◌+◌, ◌*◌, ◌^◌, ◌<◌, length, set, IfSome};
 ghost use Rattle.numbering.specs.Point.{at};
 ghost use Rattle.component_sweeps.specs.Steps.{lowered, CanStep, ParentsAt, LoweredOn, Run, CanRun, Band, CanBand, turn_of, turn, Turned, Class, InClass, Line, InLine, Rows, InRows, Corner, Sizes, Covers, InBox, Asked};
 

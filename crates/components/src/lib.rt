@@ -1,7 +1,7 @@
 // Rates to coefficients on component grids, in the one lent buffer (document 02, c).
 #![tactic(auto)]
 
-ghost use Rattle.std.specs.Prelude.{◌≡◌, ◌≤◌, Ok};
+ghost use Rattle.std.specs.Prelude.{◌≡◌, Ok};
 ghost use Rattle.states.specs.After.{left};
 ghost use Rattle.components.specs.Components.{check_levels, check_grid, check_component, component_coefficients};
 ghost use Rattle.components.specs.Steps.{Counts, LaidOut};

@@ -4,7 +4,7 @@
 
 mod starts;
 
-ghost use Rattle.std.specs.Prelude.{◌≡◌, suc, ◌+◌, ◌-◌, ◌≤◌};
+ghost use Rattle.std.specs.Prelude.{suc, ◌+◌, ◌-◌, ◌≤◌};
 ghost use Rattle.numbering.specs.Count.{vectors};
 ghost use Rattle.numbering.specs.Number.{rank};
 ghost use Rattle.numbering.specs.Point.{at};
@@ -43,8 +43,8 @@ impl Starts {
     }
 }
 
-// One level list on: each cursor that stands at a list below this one steps over it. (By index, as is the step; its twin back is as short as a call with
-// a closure that adds or subtracts, whose contract would have to ask that the result fits.)
+// One level list on: each cursor that stands at a list below this one steps over it. (The loop needs j for the cursor and for the
+// step; with `..=` it left goals open. Its twin back is as short as a call with a closure that adds or subtracts, which would have to ask that the result fits.)
 pub fn pass(v: Subspace, cursors: &mut [u64; 9])
     requires { Cursors v.line v.sum (rank (at v.levels) v.line.axes) cursors.old }
     ensures { Cursors v.line v.sum (suc (rank (at v.levels) v.line.axes)) cursors.new }

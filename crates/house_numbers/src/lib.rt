@@ -9,7 +9,7 @@ ghost use Rattle.house_numbers.specs.Steps.{Reads, read_in};
 use refusals::Refusal;
 
 // The largest number that can be filed.
-const LARGEST: u64 = 4294967295;
+const LARGEST: u64 = u32::MAX as u64;
 
 // A group of seven bits, shifted to its place in a number.
 fn placed(group: u64, shift: u32) -> u64

@@ -33,9 +33,9 @@ pub fn all_in_limit(table: &[i64]) -> bool
 }
 
 // The ends of the rates.
-const SMALLEST: i64 = -2147483648;
+const SMALLEST: i64 = i32::MIN as i64;
 
-const LARGEST: i64 = 2147483647;
+const LARGEST: i64 = i32::MAX as i64;
 
 // A rate, the ends allowed.
 pub fn is_rate(v: i64) -> bool
@@ -84,7 +84,7 @@ pub fn odd(sum: i64) -> u64
     (sum & 1) as u64
 }
 
-// A value less half the sum of two, all within the limit.
+// A value less half the sum of two, all within the limit. (A forward step at that sum; the limit of the three stands here once, for those that ask no more.)
 pub fn less_half(v: i64, a: i64, b: i64) -> i64
     requires { (in_limit v ≡ true) × (in_limit a ≡ true) × (in_limit b ≡ true) }
     ensures { result ≡ v -ℤ half (a +ℤ b) }

@@ -92,7 +92,7 @@ fn sized_block<D: Direction>(
     block::<D>(v, starts, table, first, beyond, 1 << v.low)
 }
 
-// ---- a level list (its cursors and the table are handed on beside it: a struct of the three would hold the cursors fast, which step on between two lists)
+// ---- a level list (its cursors and the table are handed on beside it: a struct of the three would be made anew for each list, and its facts shown anew)
 
 // Block after block, of a level list that moves on the axis.
 fn all_blocks<D: Direction>(v: Subspace, starts: &[u64; 9], table: &mut [i64]) -> u64

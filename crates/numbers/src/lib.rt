@@ -3,9 +3,9 @@
 
 ghost use Rattle.std.specs.Prelude.{◌≡◌, ℕ, suc, ◌%◌, ◌^◌, ◌≤◌, ◌<◌};
 ghost use Rattle.naturals.specs.Sum.{sum_to};
-ghost use Rattle.numbering.specs.Count.{vectors, shell, points};
+ghost use Rattle.numbering.specs.Count.{vectors, points};
 ghost use Rattle.numbering.specs.Point.{at, IsPoint};
-ghost use Rattle.numbering.specs.Number.{first_of, number, rank, position, ending};
+ghost use Rattle.numbering.specs.Number.{first_of, number, rank, position};
 ghost use Rattle.numbering.specs.Inverse.{level_of, sum_at, within, level_at};
 ghost use Rattle.shapes.specs.Shapes.{sparse};
 ghost use Rattle.points.specs.Points.{eight, point_at};

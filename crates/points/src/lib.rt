@@ -88,13 +88,11 @@ pub fn point_from(shape: Shape, levels: &[u32], indices: &[u32]) -> Result<Point
 fn place(list: &[u32], t: usize) -> u32
     ensures { result ≡ at list.now t }
 {
-    if list.len() <= t {
-        return 0;
-    }
-    list[t]
+    list.get(t).copied().unwrap_or(0)
 }
 
-// The first eight numbers of a list, with zeros past its end.
+// The first eight numbers of a list, with zeros past its end. (`array::from_fn` was tried: its clause knows each value by the closure's state at that call, and
+// that all eight states are one did not close.)
 pub fn padded(list: &[u32]) -> [u32; 8]
     ensures { result ≡ eight (at list.now) }
 {

@@ -50,7 +50,7 @@ fn check_bits(state: State) -> Result<(), Refusal>
     ensures { result ≡ check_bits state }
 {
     let shape = state.shape;
-    let forward = state.forward as u32;
+    let forward = u32::from(state.forward);
     if 1 << shape.axes <= forward {
         return Err(Refusal::StrayBit);
     }

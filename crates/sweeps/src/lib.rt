@@ -45,7 +45,7 @@ pub fn lower(line: Line, table: &mut [i64]) -> u64
 }
 
 // The table that a forward turn takes to this one, whether or not that turn is accepted: the level lists from the first up. Answers how many sums were odd.
-// (A loop of its own: here the cursors step on after the work on a list, there they step back before it, and nothing but these steps would be shared.)
+// (A loop of its own: here the cursors step on after the work on a list, there they step back before it; shared would be the work and the count alone.)
 pub fn raise(line: Line, table: &mut [i64]) -> u64
     requires { (length table.old ≡ points_of (sparse_of line)) × Within (2 ^ 55) table.old }
     ensures walked { table.new ≡ lists_worked false (sparse_of line) line.place (walk_up line.axes line.level) table.old }

@@ -59,7 +59,7 @@ pub fn check_rated(shape: Shape, table: &[i64]) -> Result<(), Refusal>
     check_rates(table)
 }
 
-// A rate times 2^d. (That d is at most 8 stands in each contract: a type that holds d and this bound would be made anew at each call, with the same bound to show.)
+// A rate times 2^d. (That d is at most 8 stands in each contract: a type for d would take the bound out of four lines, and put in its own making.)
 fn scaled(axes: u32, rate: i64) -> i64
     requires { (axes ≤ 8) × (is_rate rate ≡ true) }
     ensures { result ≡ times axes rate }

@@ -1,5 +1,5 @@
 // The lines of a report, each put at the start of a buffer; how many characters were put is answered.
-ghost use Rattle.std.specs.Prelude.{◌+◌, ◌*◌, ◌≤◌, length};
+ghost use Rattle.std.specs.Prelude.{◌*◌, ◌≤◌, length};
 ghost use Rattle.texts.specs.Text.{heading_of, point_line, point_lines, refused_line};
 ghost use Rattle.buffers.specs.Put.{Put};
 

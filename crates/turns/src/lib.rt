@@ -1,7 +1,7 @@
 // Forward and back on one axis of a table, in the one lent buffer.
 #![tactic(auto)]
 
-ghost use Rattle.std.specs.Prelude.{true, false, not, ◌≡◌, ◌^◌, ◌≤◌, length, if◌then◌else◌};
+ghost use Rattle.std.specs.Prelude.{true, not, ◌≡◌, ◌^◌, ◌≤◌, length, if◌then◌else◌};
 ghost use Rattle.naturals.specs.Test.{all};
 ghost use Rattle.integers.specs.Half.{content_at};
 ghost use Rattle.shapes.specs.Shapes.{points_of};

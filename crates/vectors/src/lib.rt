@@ -1,4 +1,4 @@
-// Level vectors (document 01: level lists), eight levels: their sum, their order, the next (in place and by value) and the one before (in place).
+// Level vectors (document 01: level lists), eight levels: their sum, their order, and the next and the one before, in place.
 #![tactic(auto)]
 
 ghost use Rattle.std.specs.Prelude.{◌≡◌, ◌≤◌, ◌<◌};
@@ -10,13 +10,6 @@ ghost use Rattle.numbering.specs.Order.{order_of_levels};
 ghost use Rattle.vectors.specs.Steps.{VectorIn, NextVector, PreviousVector};
 
 use std::cmp::Ordering;
-
-// A level vector and its sum.
-#[derive(Clone, Copy)]
-pub struct Vector {
-    pub sum: u32,
-    pub levels: [u32; 8],
-}
 
 // The sum of the first levels.
 pub fn level_sum(axes: usize, levels: &[u32; 8]) -> u32
@@ -39,20 +32,14 @@ fn total(levels: [u32; 8]) -> u64
 pub fn compare_levels(a: [u32; 8], b: [u32; 8]) -> Ordering
     ensures { result ≡ order_of_levels 8 (at a) (at b) Equal }
 {
-    let x = total(a);
-    let y = total(b);
-    if x < y {
-        return Ordering::Less;
-    }
-    if y < x {
-        return Ordering::Greater;
+    match total(a).cmp(&total(b)) {
+        Ordering::Equal => {}
+        unequal => return unequal,
     }
     for t in (0..8).rev() {
-        if a[t] < b[t] {
-            return Ordering::Less;
-        }
-        if b[t] < a[t] {
-            return Ordering::Greater;
+        match a[t].cmp(&b[t]) {
+            Ordering::Equal => {}
+            unequal => return unequal,
         }
     }
     Ordering::Equal
@@ -76,19 +63,6 @@ pub fn to_next(axes: usize, sum: u32, levels: &mut [u32; 8]) -> u32
     let more = sum + 1;
     *levels = [more, 0, 0, 0, 0, 0, 0, 0];
     more
-}
-
-// The next level vector by value.
-pub fn next_vector(axes: usize, sum: u32, levels: [u32; 8]) -> Vector
-    requires { (1 ≤ axes) × (axes ≤ 8) × (sum ≤ 8) × VectorIn axes sum levels }
-    ensures { NextVector axes sum levels result.sum result.levels }
-{
-    let mut next = levels;
-    let more = to_next(axes, sum, &mut next);
-    Vector {
-        sum: more,
-        levels: next,
-    }
 }
 
 // The level vector before another, in place; answers its sum: of the same sum or, before the first of a sum, the last of the sum below. (Not one function with

@@ -1,7 +1,7 @@
 // A sum of coefficients times weights, kept in two numbers of 64 bits, and its division by the unit to the nearest.
 #![tactic(auto)]
 
-ghost use Rattle.std.specs.Prelude.{true, ◌≡◌, ◌+◌, ◌*◌, ◌/◌, ◌^◌, ◌≤◌, ◌<◌, pos, nat_abs, ◌+ℤ◌, ◌*ℤ◌};
+ghost use Rattle.std.specs.Prelude.{true, ◌≡◌, ◌+◌, ◌*◌, ◌/◌, ◌^◌, ◌≤◌, pos, nat_abs, ◌+ℤ◌, ◌*ℤ◌};
 ghost use Rattle.integers.specs.Half.{in_limit};
 ghost use Rattle.integers.specs.Floor.{floor, remainder};
 ghost use Rattle.surfaces.specs.Weights.{unit};

@@ -29,7 +29,8 @@ pub fn size_of(number: u32) -> usize
 }
 
 // A number in its fewest groups, from a place on; the place after it is answered.
-// With the part behind the place as its own slice, writing takes 51, 17 and 35 instructions for a rate in the place of 48, 16 and 32 (docs/BENCHMARKS.md).
+// (With the part behind the place as its own slice, writing takes 51, 17 and 35 instructions for a rate of the three kinds that docs/BENCHMARKS.md
+// counts, instead of 48, 16 and 32; plain code that takes many bytes at once takes 42, 13 and 42.)
 pub fn put_number(number: u32, out: &mut [u8], place: usize) -> usize
     requires { place + length (written number) ≤ length out.old }
     ensures { Put (written number) out.old place out.new result }
