@@ -5,17 +5,20 @@ use mathlib.Core.Path.{◌≡◌, sym, ap, ap₂, ◌∙◌}
 use mathlib.Core.List.{List}
 use Prim.Native.Nat.{ℕ, ◌/◌, ◌%◌, ◌^◌, ◌≤◌, ◌<◌}
 use native.Mathlib.Omega.{arith}
+use lib.ListN.{length}
 use Rattle.naturals.specs.Sum.{sum_to}
 use Rattle.naturals.proofs.Cases.{le_or_lt}
 use Rattle.naturals.proofs.Sums.{sum_to_cong}
 use Rattle.numbering.specs.Count.{vectors, shell, points}
 use Rattle.numbering.specs.Point.{at}
 use Rattle.numbering.specs.Inverse.{sum_at, within, level_of, level_at, index_of, index_at}
+use Rattle.numbering.proofs.Unrank.{level_past, sum_of_level}
 use Rattle.numbering.proofs.Numbering.{rank_within, point_of_number_lem, index_in, index_cong, index_zero}
 use Rattle.shapes.specs.Shapes.{sparse}
 use Rattle.grids.proofs.Sparse.{levels_sparse, indices_sparse}
 use Rattle.points.specs.Points.{eight, point_at}
-use Rattle.points.proofs.Eight.{eight_at, eight_cong}
+use Rattle.points.proofs.Eight.{eight_length, eight_at, eight_whole, eight_cong}
+use Rattle.vectors.specs.Steps.{VectorIn}
 use Rattle.numbers.specs.Steps.{Lies, indices_of}
 use Rattle.numbers.proofs.Places.{sum_found, within_found}
 use Rattle.numbers.proofs.Unpacked.{indices_before, indices_past}
@@ -36,6 +39,16 @@ module _ (d n p : ℕ) {s left : ℕ} (lt : p < points d n) (lies : Lies (shell 
 
   pub levels_found : eight (level_of d s (left / 2 ^ s)) ≡ eight (level_at d n p)
   levels_found = eight_cong (level_of d s (left / 2 ^ s)) (level_at d n p) (λ t h. level_found t)
+
+-- The levels of a rank and a sum in a list of eight places are a level vector of that sum.
+pub vector_read : (d s r : ℕ) {levels : List ℕ} → d ≤ 8 → r < vectors d s → levels ≡ eight (level_of d s r) → VectorIn d s levels
+vector_read d s r {levels} high lt made =
+    let whole : at levels ≡ level_of d s r = ap at made ∙ eight_whole (level_of d s r) (λ t past. level_past d s r t (omega arith)) in
+    record {
+      long = ap length made ∙ eight_length (level_of d s r);
+      total = ap (λ (l : ℕ → ℕ). sum_to l d) whole ∙ sum_of_level d s r lt;
+      rest = λ t past. ap (λ (l : ℕ → ℕ). l t) whole ∙ level_past d s r t past;
+    }
 
 module _ (d n p : ℕ) (high : d ≤ 8) (lt : p < points d n) {levels : List ℕ} (made : levels ≡ eight (level_at d n p)) where
   level_at_lem : (t : ℕ) → t < 8 → at levels t ≡ level_at d n p t

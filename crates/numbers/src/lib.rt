@@ -15,6 +15,7 @@ ghost use Rattle.numbers.specs.Steps.{Lies, Sizes, indices_of};
 use points::Point;
 use refusals::Refusal;
 use shapes::{Rows, Shape};
+use vectors::LevelVector;
 
 // ---- from point to number
 
@@ -137,25 +138,27 @@ fn indices_of(axes: u32, levels: [u32; 8], position: u64) -> [u32; 8]
     indices
 }
 
-// The level vector that a point lies in: its level sum, its levels, and how many points of it come before the point. (A struct, since two of the three are
-// plain numbers.)
+// The level vector that a point lies in, and how many points of it come before the point.
 #[derive(Clone, Copy)]
 pub struct Placed {
-    pub sum: u32,
-    pub levels: [u32; 8],
+    pub vector: LevelVector,
     pub position: u64,
 }
 
 // Where point number `number` of these axes and top level lies.
 pub fn vector_at(axes: u32, level: u32, number: u64) -> Placed
     requires { (1 ≤ axes) × (axes ≤ 8) × (level ≤ 8) × (number < points axes level) }
-    ensures { (result.sum ≡ sum_at axes level number) × (result.levels ≡ eight (level_at axes level number)) × (result.position ≡ within axes level number % 2 ^ sum_at axes level number) }
+    ensures { (result.vector.axes ≡ axes) × (result.vector.sum ≡ sum_at axes level number) × (result.vector.levels ≡ eight (level_at axes level number)) × (result.position ≡ within axes level number % 2 ^ sum_at axes level number) }
 {
     let rows = Rows::new();
     let (sum, rest) = block_at(level, number, |sum| rows.vectors(axes, sum) << sum);
-    Placed {
+    let vector = LevelVector {
+        axes,
         sum,
         levels: levels_of(&rows, axes, sum, rest >> sum),
+    };
+    Placed {
+        vector,
         position: low_bits(rest, sum),
     }
 }
@@ -166,7 +169,7 @@ fn point_at(axes: u32, level: u32, number: u64) -> Point
     ensures { result ≡ point_at (sparse axes level) number }
 {
     let placed = vector_at(axes, level, number);
-    let levels = placed.levels;
+    let levels = placed.vector.levels;
     Point {
         levels,
         indices: indices_of(axes, levels, placed.position),

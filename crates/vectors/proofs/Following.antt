@@ -17,8 +17,8 @@ use Rattle.std.specs.Prelude.{Option, Some, None}
 use Rattle.std.specs.Option.{MatchOption}
 use Rattle.std.specs.List.{AllWithin, HoldsAt}
 use Rattle.naturals.specs.Sum.{sum_to}
-use Rattle.naturals.proofs.Cases.{eq_or_not}
-use Rattle.naturals.proofs.Sums.{sum_to_suc, term_le}
+use Rattle.naturals.proofs.Cases.{eq_or_not, le_or_lt}
+use Rattle.naturals.proofs.Sums.{sum_to_zero, sum_to_suc, term_le}
 use Rattle.numbering.specs.Count.{vectors, start}
 use Rattle.numbering.specs.Point.{at}
 use Rattle.numbering.specs.Number.{rank, first_of}
@@ -84,11 +84,48 @@ unfolding vectors_before
 before_is d l = refl
 
 module _ {d sum : ℕ} {ls : List ℕ} (here : VectorIn d sum ls) where
-  pub here_first : first_of d (at ls) ≡ start d sum + 2 ^ sum * rank (at ls) d
+  here_first : first_of d (at ls) ≡ start d sum + 2 ^ sum * rank (at ls) d
   here_first = first_is d (at ls) ∙ ap (λ (s : ℕ). start d s + 2 ^ s * rank (at ls) d) here.total
 
   here_before : vectors_before d (at ls) ≡ sum_to (vectors d) sum + rank (at ls) d
   here_before = before_is d (at ls) ∙ ap (λ (s : ℕ). sum_to (vectors d) s + rank (at ls) d) here.total
+
+  -- The next of its sum has its first point 2^sum later.
+  pub first_steps : {ls' : List ℕ} {k : ℕ} → VectorIn d sum ls' → NextLevels d k (at ls) (at ls') → first_of d (at ls') ≡ first_of d (at ls) + 2 ^ sum
+  first_steps {ls'} there next =
+      omega (
+        arith,
+        here_first,
+        first_is d (at ls'),
+        ap (λ (s : ℕ). start d s + 2 ^ s * rank (at ls') d) there.total,
+        ap (λ (r : ℕ). 2 ^ sum * r) (next_rank next),
+        mul-suc (2 ^ sum) (rank (at ls) d),
+      )
+
+  -- The first of its sum starts where the sum does, and the last ends where the next sum starts.
+  pub starts_sum : rank (at ls) d ≡ 0 → first_of d (at ls) ≡ start d sum
+  starts_sum low = omega (arith, here_first, ap (λ (r : ℕ). 2 ^ sum * r) low, mul-zero (2 ^ sum))
+
+  pub ends_sum : suc (rank (at ls) d) ≡ vectors d sum → first_of d (at ls) + 2 ^ sum ≡ start d (suc sum)
+  ends_sum last = omega (arith, here_first, start_suc d sum, ap (λ (r : ℕ). 2 ^ sum * r) last, mul-suc (2 ^ sum) (rank (at ls) d))
+
+-- Eight zeros are the one of sum 0, and it has no other levels.
+pub eight_zeros : (t : ℕ) → at (first 0) t ≡ 0
+eight_zeros zero = refl
+eight_zeros (suc t) = first_zeros 0 (suc t) (omega arith)
+
+none : (d : ℕ) → sum_to (at (first 0)) d ≡ 0
+none zero = sum_to_zero (at (first 0))
+none (suc d) = omega (arith, sum_to_suc (at (first 0)) d, eight_zeros d, none d)
+
+pub first_of_all : (d : ℕ) → VectorIn d 0 (first 0)
+first_of_all d = record { long = refl; total = none d; rest = λ t past. eight_zeros t }
+
+pub no_levels : {d : ℕ} {ls : List ℕ} → VectorIn d 0 ls → (t : ℕ) → at ls t ≡ 0
+no_levels {d} {ls} here t =
+    le_or_lt d t
+    (λ past. here.rest t past)
+    (λ axis. omega (arith, term_le (at ls) d t axis, here.total))
 
 -- ---- the next of the same sum
 
@@ -156,14 +193,7 @@ module _ {d sum : ℕ} {ls : List ℕ} {k : ℕ} (fits : d ≤ 8) (here : Vector
         } in
         record {
           vector = vector;
-          first =
-              omega (
-                arith,
-                here_first here,
-                here_first vector,
-                ap (λ (r : ℕ). 2 ^ sum * r) (next_rank next_levels),
-                mul-suc (2 ^ sum) (rank (at ls) d),
-              );
+          first = first_steps here vector next_levels;
           count = omega (arith, here_before here, here_before vector, next_rank next_levels);
         }
 
@@ -191,18 +221,7 @@ module _ {d sum : ℕ} {ls : List ℕ} {k : ℕ} (here : VectorIn d sum ls) (bar
       let low : rank (at (first (sum + 1))) d ≡ 0 = rank_first (at (first (sum + 1))) d (λ t pos h. first_zeros (sum + 1) t pos) in
       record {
         vector = first_vector;
-        first =
-            omega (
-              arith,
-              here_first here,
-              here_first first_vector,
-              ap (start d) (add-one sum),
-              ap (λ (r : ℕ). 2 ^ (sum + 1) * r) low,
-              mul-zero (2 ^ (sum + 1)),
-              start_suc d sum,
-              ap (λ (r : ℕ). 2 ^ sum * r) last,
-              mul-suc (2 ^ sum) (rank (at ls) d),
-            );
+        first = starts_sum first_vector low ∙ ap (start d) (add-one sum) ∙ sym (ends_sum here last);
         count =
             omega (
               arith,

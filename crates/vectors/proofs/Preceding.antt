@@ -21,7 +21,7 @@ use Rattle.numbering.specs.Point.{at}
 use Rattle.numbering.proofs.Numbering.{start_is, start_suc}
 use Rattle.numbering.proofs.Succession.{NextLevels, next_sum, next_rank, rank_first, sum_last, rank_last}
 use Rattle.vectors.specs.Steps.{VectorIn, PreviousVector}
-use Rattle.vectors.proofs.Following.{First, first, first_zeros, here_first}
+use Rattle.vectors.proofs.Following.{First, first, eight_zeros, first_steps, starts_sum, ends_sum}
 
 pub record Flat (d : ℕ) (ls : List ℕ) (k : ℕ) : Type 0 where
   pub some : 1 ≤ k
@@ -126,23 +126,9 @@ module _ {d sum : ℕ} {ls : List ℕ} {k : ℕ} (fits : d ≤ 8) (here : Vector
         total = sym (next_sum (follows pos)) ∙ here.total;
         rest = λ t h. raised_past t (omega arith) ∙ here.rest t h;
       } in
-      record {
-        vector = vector;
-        first =
-            omega (
-              arith,
-              here_first here,
-              here_first vector,
-              ap (λ (r : ℕ). 2 ^ sum * r) (next_rank (follows pos)),
-              mul-suc (2 ^ sum) (rank (at (raised ls k)) d),
-            );
-      }
+      record { vector = vector; first = sym (first_steps vector here (follows pos)) }
 
 -- ---- the last vector of the sum below
-
-eight_zeros : (t : ℕ) → at (first 0) t ≡ 0
-eight_zeros zero = refl
-eight_zeros (suc t) = first_zeros 0 (suc t) (omega arith)
 
 abbrev pub last_of : ℕ → ℕ → List ℕ
 last_of d v = set (first 0) (d - 1) v
@@ -174,26 +160,9 @@ module _ (d v : ℕ) (some : 1 ≤ d) (fits : d ≤ 8) where
   last_rank_lem : suc (rank (at (last_of d v)) d) ≡ vectors d v
   last_rank_lem = rw whole at (rank_last (at (last_of d v)) (d - 1) last_zeros) ∙ ap (vectors d) last_total
 
-  -- It ends where the next sum starts.
-  last_ends : first_of d (at (last_of d v)) + 2 ^ v ≡ start d (suc v)
-  last_ends =
-      omega (
-        arith,
-        here_first last_vector,
-        start_suc d v,
-        ap (λ (r : ℕ). 2 ^ v * r) last_rank_lem,
-        mul-suc (2 ^ v) (rank (at (last_of d v)) d),
-      )
-
 module _ {d sum : ℕ} {ls : List ℕ} {k : ℕ} (some : 1 ≤ d) (fits : d ≤ 8) (here : VectorIn d sum ls) (flat : Flat d ls k) (whole : d ≤ k) where
   flat_first : first_of d (at ls) ≡ start d sum
-  flat_first =
-      omega (
-        arith,
-        here_first here,
-        ap (λ (r : ℕ). 2 ^ sum * r) (rank_first (at ls) d (λ t pos lt. flat.zeros t pos (omega arith))),
-        mul-zero (2 ^ sum),
-      )
+  flat_first = starts_sum here (rank_first (at ls) d (λ t pos lt. flat.zeros t pos (omega arith)))
 
   -- A vector with points before it has a level.
   pub some_level : 0 < first_of d (at ls) → 0 < sum
@@ -207,7 +176,7 @@ module _ {d sum : ℕ} {ls : List ℕ} {k : ℕ} (some : 1 ≤ d) (fits : d ≤ 
       record {
         vector = last_vector d (sum - 1) some fits;
         first =
-            last_ends d (sum - 1) some fits
+            ends_sum (last_vector d (sum - 1) some fits) (last_rank_lem d (sum - 1) some fits)
             ∙ ap (start d) (omega (arith, some_level pos))
             ∙ sym flat_first;
       }

@@ -1,7 +1,7 @@
 // Level vectors (document 01: level lists), eight levels: their sum, their order, and the next and the one before, in place.
 #![tactic(auto)]
 
-ghost use Rattle.std.specs.Prelude.{◌≡◌, ◌≤◌, ◌<◌};
+ghost use Rattle.std.specs.Prelude.{ℕ, ◌≡◌, ◌≤◌, ◌<◌};
 ghost use Rattle.naturals.specs.Sum.{sum_to};
 ghost use Rattle.std.specs.declared.cmp.Ordering.TheVariants.{Equal};
 ghost use Rattle.numbering.specs.Point.{at};
@@ -45,41 +45,79 @@ pub fn compare_levels(a: [u32; 8], b: [u32; 8]) -> Ordering
     Ordering::Equal
 }
 
-// ---- the next, and the one before
+// ---- a level vector with its sum
 
-// The next level vector, in place; answers its sum. Of the same sum: of the first level v above 0 that has an axis after it one moves there, the rest to axis 1.
-// Past the last of a sum, which has it all on the last axis: the first of the next sum, which has it all on axis 1.
-pub fn to_next(axes: usize, sum: u32, levels: &mut [u32; 8]) -> u32
-    requires { (1 ≤ axes) × (axes ≤ 8) × (sum ≤ 8) × VectorIn axes sum levels.old }
-    ensures { NextVector axes sum levels.old result levels.new }
-{
-    if let Some(k) = levels[..axes - 1].iter().position(|l| 0 < *l) {
-        let v = levels[k];
-        levels[k] = 0;
-        levels[0] = v - 1;
-        levels[k + 1] += 1;
-        return sum;
-    }
-    let more = sum + 1;
-    *levels = [more, 0, 0, 0, 0, 0, 0, 0];
-    more
+// A level vector of these axes, those past them zero, with its sum. It is stepped in place: a copy of eight levels right after one of them is written waits for
+// the write.
+#[derive(Clone, Copy)]
+pub struct LevelVector {
+    pub axes: u32,
+    pub sum: u32,
+    pub levels: [u32; 8],
+    ghost some: { 1 ≤ axes },
+    ghost few: { axes ≤ 8 },
+    ghost vector: { VectorIn axes sum levels },
 }
 
-// The level vector before another, in place; answers its sum: of the same sum or, before the first of a sum, the last of the sum below. (Not one function with
-// `to_next`: what moves, where it is looked for and where it goes differ.)
-pub fn to_previous(axes: usize, sum: u32, levels: &mut [u32; 8]) -> u32
-    requires { (1 ≤ axes) × (axes ≤ 8) × (sum ≤ 8) × VectorIn axes sum levels.old × (0 < first_of axes (at levels.old)) }
-    ensures { PreviousVector axes sum levels.old result levels.new }
-{
-    if let Some(k) = levels[1..axes].iter().position(|l| 0 < *l) {
-        let v = levels[0];
-        levels[0] = 0;
-        levels[k + 1] -= 1;
-        levels[k] = v + 1;
-        return sum;
+impl LevelVector {
+    // The first of these axes: the one of sum 0.
+    pub fn first(axes: u32) -> LevelVector
+        requires { (1 ≤ axes) × (axes ≤ 8) }
+        ensures { (result.axes ≡ axes) × (result.sum ≡ 0) }
+    {
+        LevelVector {
+            axes,
+            sum: 0,
+            levels: [0; 8],
+        }
     }
-    let less = sum - 1;
-    *levels = [0; 8];
-    levels[axes - 1] = less;
-    less
+
+    // The one of these levels.
+    pub fn of(axes: u32, levels: [u32; 8]) -> LevelVector
+        requires { (1 ≤ axes) × (axes ≤ 8) × (sum_to (at levels) axes ≤ 8) × ((t : ℕ) → axes ≤ t → at levels t ≡ 0) }
+        ensures { (result.axes ≡ axes) × (result.levels ≡ levels) }
+    {
+        LevelVector {
+            axes,
+            sum: level_sum(axes as usize, &levels),
+            levels,
+        }
+    }
+
+    // The next. Of the same sum: of the first level v above 0 that has an axis after it one moves there, the rest to axis 1. Past the last of a sum, which has
+    // it all on the last axis: the first of the next sum, which has it all on axis 1.
+    pub fn next(&mut self)
+        requires { self.old.sum ≤ 8 }
+        ensures { (self.new.axes ≡ self.old.axes) × NextVector self.old.axes self.old.sum self.old.levels self.new.sum self.new.levels }
+    {
+        let last = self.axes as usize - 1;
+        if let Some(k) = self.levels[..last].iter().position(|l| 0 < *l) {
+            let v = self.levels[k];
+            self.levels[k] = 0;
+            self.levels[0] = v - 1;
+            self.levels[k + 1] += 1;
+        } else {
+            self.sum += 1;
+            self.levels = [self.sum, 0, 0, 0, 0, 0, 0, 0];
+        }
+    }
+
+    // The one before: of the same sum or, before the first of a sum, the last of the sum below. (Not one function with `next`: what moves, where it is looked
+    // for and where it goes differ.)
+    pub fn previous(&mut self)
+        requires { (self.old.sum ≤ 8) × (0 < first_of self.old.axes (at self.old.levels)) }
+        ensures { (self.new.axes ≡ self.old.axes) × PreviousVector self.old.axes self.old.sum self.old.levels self.new.sum self.new.levels }
+    {
+        let axes = self.axes as usize;
+        if let Some(k) = self.levels[1..axes].iter().position(|l| 0 < *l) {
+            let v = self.levels[0];
+            self.levels[0] = 0;
+            self.levels[k + 1] -= 1;
+            self.levels[k] = v + 1;
+        } else {
+            self.sum -= 1;
+            self.levels = [0; 8];
+            self.levels[axes - 1] = self.sum;
+        }
+    }
 }

@@ -7,10 +7,10 @@ use Rattle.numbers.proofs.point_at.Goals as goal
 
 pub indices_of-requires : goal.indices_of-requires
 indices_of-requires c =
-    let few = levels_few _ _ _ (search rules) (search rules) c.vector_at-placed.ensures.1 in
+    let few = levels_few _ _ _ (search rules) (search rules) c.vector_at-placed.ensures.2 in
     (search rules, omega (arith, few))
 
 pub returns : goal.returns
 returns c =
     let placed = c.vector_at-placed.ensures in
-    point_found _ _ _ (search rules) (search rules) placed.1 _ placed.2 c.indices_of.ensures
+    point_found _ _ _ (search rules) (search rules) placed.2 _ placed.3 c.indices_of.ensures
