@@ -13,7 +13,7 @@ use Rattle.numbering.specs.Point.{at}
 use Rattle.numbering.proofs.Numbering.{start_suc}
 use Rattle.neighbours.specs.declared.subspaces.Line.{Line}
 use Rattle.cursors.specs.declared.starts.Starts.{Starts}
-use Rattle.cursors.specs.Steps.{Filled, passed}
+use Rattle.cursors.specs.Steps.{Filled, passed, Cursors}
 use Rattle.cursors.proofs.Lowering.{passed_none, passed_all}
 
 pub fills : {value : ℕ → ℕ} {long a : ℕ} {list : List ℕ} (j v : ℕ) → Filled value long a j list → j < long → v ≡ value j →
@@ -54,3 +54,10 @@ module _ (starts : Starts) (s j : ℕ) (low : s ≤ starts.line.level) (le : j �
       ∙ starts.first (suc (s - j)) (omega arith)
       ∙ start_suc line.axes (s - j)
       ∙ ap (λ (r : ℕ). start line.axes (s - j) + 2 ^ (s - j) * r) (sym (passed_all line.axes line.place s j line.axis le))
+
+-- Cursors that are filled in from the places, each `past` after the start of its sum, are those where b level vectors of the sum are passed, if each is.
+pub cursors_filled : (starts : Starts) (s past b : ℕ) {list : List ℕ} → s ≤ starts.line.level →
+    ((j : ℕ) → j ≤ s → at starts.places (s + past - j) ≡ cursor_at starts.line s b j) →
+    Filled (λ j. at starts.places (s + past - j)) 9 1 (suc s) list → Cursors starts.line s b list
+cursors_filled starts s past b low is filled =
+    record { low = low; long = filled.size; first = λ j from to. filled.holds j from (omega arith) ∙ is j to }

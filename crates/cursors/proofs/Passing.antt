@@ -70,13 +70,13 @@ moved_ends {own} stay moved =
     }
 
 -- A level vector that is met, of sum s.
-module _ {v : Subspace} {s : ℕ} (seen : Seen v) (sum : sum_to (at v.levels) v.line.axes ≡ s) where
+module _ {v : Subspace} {s : ℕ} (seen : Seen v) (sum : sum_to (at v.vector.levels) v.line.axes ≡ s) where
   -- How many level vectors of the sum come before it.
   abbrev before : ℕ
-  before = rank (at v.levels) v.line.axes
+  before = rank (at v.vector.levels) v.line.axes
 
   pub own_le : v.own ≤ s
-  own_le = omega (arith, seen.own, term_le (at v.levels) v.line.axes v.line.place seen.axis)
+  own_le = omega (arith, seen.own, term_le (at v.vector.levels) v.line.axes v.line.place seen.axis)
 
   pub sum_le : s ≤ 8
   sum_le = omega (arith, seen.sum, seen.top)
@@ -84,7 +84,7 @@ module _ {v : Subspace} {s : ℕ} (seen : Seen v) (sum : sum_to (at v.levels) v.
   -- The cursors past its level on the axis stay.
   stays : (j : ℕ) → v.own < j → cursor_at v.line s (suc before) j ≡ cursor_at v.line s before j
   stays j past =
-      let none = does_not_reach (at v.levels) v.line.axes v.line.place s j seen.axis sum (omega (arith, seen.own)) in
+      let none = does_not_reach (at v.vector.levels) v.line.axes v.line.place s j seen.axis sum (omega (arith, seen.own)) in
       ap (λ (r : ℕ). start v.line.axes (s - j) + 2 ^ (s - j) * r)
       (omega (arith, passed_step v.line.axes v.line.place s j before, none))
 
@@ -98,7 +98,7 @@ module _ {v : Subspace} {s : ℕ} (seen : Seen v) (sum : sum_to (at v.levels) v.
   module _ (j : ℕ) (to : j ≤ v.own) where
     steps : cursor_at v.line s (suc before) j ≡ cursor_at v.line s before j + 2 ^ (s - j)
     steps =
-        let one = does_reach (at v.levels) v.line.axes v.line.place s j seen.axis sum (omega (arith, seen.own)) in
+        let one = does_reach (at v.vector.levels) v.line.axes v.line.place s j seen.axis sum (omega (arith, seen.own)) in
         let more : passed v.line.axes v.line.place s j (suc before) ≡ suc (passed v.line.axes v.line.place s j before)
         = omega (arith, passed_step v.line.axes v.line.place s j before, one)
         in
@@ -123,11 +123,11 @@ module _ {v : Subspace} {s : ℕ} (seen : Seen v) (sum : sum_to (at v.levels) v.
     -- A step ends within the numbers of the smaller sum.
     pub cursor_small : cursor_at v.line s (suc before) j < 2 ^ 32
     cursor_small =
-        let high : j ≤ at v.levels v.line.place = omega (arith, seen.own) in
+        let high : j ≤ at v.vector.levels v.line.place = omega (arith, seen.own) in
         let le : j ≤ s = omega (arith, own_le) in
-        let lower = passed_lower v.line.axes v.line.place s j seen.axis le (at v.levels) sum high in
+        let lower = passed_lower v.line.axes v.line.place s j seen.axis le (at v.vector.levels) sum high in
         let below : suc (passed v.line.axes v.line.place s j before) ≤ vectors v.line.axes (s - j)
-        = omega (arith, lower, lowered_rank_lt v.line.axes v.line.place s j seen.axis le (at v.levels) sum high)
+        = omega (arith, lower, lowered_rank_lt v.line.axes v.line.place s j seen.axis le (at v.vector.levels) sum high)
         in
         omega (
           arith,

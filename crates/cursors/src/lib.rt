@@ -46,20 +46,20 @@ impl Starts {
 // One level list on: each cursor that stands at a list below this one steps over it. (The loop needs j for the cursor and for the
 // step; with `..=` it left goals open. Its twin back is as short as a call with a closure that adds or subtracts, which would have to ask that the result fits.)
 pub fn pass(v: Subspace, cursors: &mut [u64; 9])
-    requires { Cursors v.line v.sum (rank (at v.levels) v.line.axes) cursors.old }
-    ensures { Cursors v.line v.sum (suc (rank (at v.levels) v.line.axes)) cursors.new }
+    requires { Cursors v.line v.vector.sum (rank (at v.vector.levels) v.line.axes) cursors.old }
+    ensures { Cursors v.line v.vector.sum (suc (rank (at v.vector.levels) v.line.axes)) cursors.new }
 {
     for j in 1..v.own + 1 {
-        cursors[j as usize] += 1 << (v.sum - j);
+        cursors[j as usize] += 1 << (v.vector.sum - j);
     }
 }
 
 // One level list back: each cursor that stands after a list below this one steps back to it.
 pub fn pass_back(v: Subspace, cursors: &mut [u64; 9])
-    requires { Cursors v.line v.sum (suc (rank (at v.levels) v.line.axes)) cursors.old }
-    ensures { Cursors v.line v.sum (rank (at v.levels) v.line.axes) cursors.new }
+    requires { Cursors v.line v.vector.sum (suc (rank (at v.vector.levels) v.line.axes)) cursors.old }
+    ensures { Cursors v.line v.vector.sum (rank (at v.vector.levels) v.line.axes) cursors.new }
 {
     for j in 1..v.own + 1 {
-        cursors[j as usize] -= 1 << (v.sum - j);
+        cursors[j as usize] -= 1 << (v.vector.sum - j);
     }
 }

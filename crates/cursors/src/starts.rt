@@ -20,10 +20,8 @@ impl Starts {
     {
         let rows = shapes::Rows::new();
         let mut places = [0u64; 10];
-        let mut total: u64 = 0;
-        for s in 0..line.level + 1 {
-            total += rows.vectors(line.axes, s) << s;
-            places[s as usize + 1] = total;
+        for s in 1..line.level + 2 {
+            places[s as usize] = rows.start(line.axes, s);
         }
         Starts { line, places }
     }

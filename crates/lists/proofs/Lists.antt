@@ -28,7 +28,7 @@ use Rattle.shapes.specs.Shapes.{points_of}
 use Rattle.grids.specs.Grids.{neighbour}
 use Rattle.neighbours.specs.declared.subspaces.Subspace.{Subspace}
 use Rattle.neighbours.specs.Steps.{sparse_of, Below}
-use Rattle.neighbours.proofs.Seeing.{Seen, seen}
+use Rattle.neighbours.proofs.Seeing.{Seen, seen, vector_of}
 use Rattle.neighbours.proofs.Beside.{end_inside, parent_before, flat}
 use Rattle.lists.specs.Lists.{between, stepped_at, stepped_between, list_worked}
 use Rattle.lists.specs.Steps.{OnAxis, Within, RunStepped, Stepped, Workable, BlockAt}
@@ -63,14 +63,14 @@ stepped_list {ahead} {s} {t} {lo} {hi} {k} {xs} {ys} done long order =
 
 module _ {v : Subspace} (s : Seen v) where
   pub some_points : v.start < v.end
-  some_points = omega (arith, s.start, s.end, pow_pos (sum_to (at v.levels) v.line.axes))
+  some_points = omega (arith, s.start, s.end, pow_pos (sum_to (at v.vector.levels) v.line.axes))
 
   -- All parents stand before the list.
   pub list_before : (p : ℕ) → v.start ≤ p → p < v.end → (b : Side) → neighbour (sparse_of v.line) v.line.place b (suc p) ≤ v.start
   list_before p from to b = parent_before s p from to b
 
   pub list_worked_lem : {ahead : Bool} {k : ℕ} {xs ys : List ℤ} → OnAxis (sparse_of v.line) v.line.place xs →
-      Stepped ahead (sparse_of v.line) v.line.place v.start v.end xs k ys → ys ≡ list_worked ahead (sparse_of v.line) v.line.place (at v.levels) xs
+      Stepped ahead (sparse_of v.line) v.line.place v.start v.end xs k ys → ys ≡ list_worked ahead (sparse_of v.line) v.line.place (at v.vector.levels) xs
   unfolding list_worked
   list_worked_lem {ahead} {k} {xs} {ys} on done =
       stepped_list done on.long (omega (arith, some_points))
@@ -110,24 +110,24 @@ abbrev pub block_at : Subspace → ℕ → ℕ
 block_at v beyond = v.start + beyond * 2 ^ (v.low + v.own)
 
 abbrev pub blocks_of : Subspace → ℕ
-blocks_of v = 1 * 2 ^ (v.sum - (v.low + v.own)) % 2 ^ 64
+blocks_of v = 1 * 2 ^ (v.vector.sum - (v.low + v.own)) % 2 ^ 64
 
 module _ (v : Subspace) where
-  pub bits_within : v.low + v.own ≤ v.sum
+  pub bits_within : v.low + v.own ≤ v.vector.sum
   bits_within =
       omega (
         arith,
         v.before,
         v.there,
-        v.vector.total,
-        sum_to_suc (at v.levels) v.line.place,
-        sum_to_mono (at v.levels) (suc v.line.place) v.line.axes v.line.axis,
+        (vector_of v).total,
+        sum_to_suc (at v.vector.levels) v.line.place,
+        sum_to_mono (at v.vector.levels) (suc v.line.place) v.line.axes v.line.axis,
       )
 
-  blocks_whole : blocks_of v * 2 ^ (v.low + v.own) ≡ 2 ^ v.sum
+  blocks_whole : blocks_of v * 2 ^ (v.low + v.own) ≡ 2 ^ v.vector.sum
   blocks_whole =
-      let rest : ℕ = v.sum - (v.low + v.own) in
-      let all : rest + (v.low + v.own) ≡ v.sum = omega (arith, bits_within) in
+      let rest : ℕ = v.vector.sum - (v.low + v.own) in
+      let all : rest + (v.low + v.own) ≡ v.vector.sum = omega (arith, bits_within) in
       ap (λ (n : ℕ). n * 2 ^ (v.low + v.own)) (one_shifted 64 rest (omega (arith, v.inside, v.line.top)))
       ∙ sym (pow-add 2 rest (v.low + v.own))
       ∙ ap (λ (n : ℕ). 2 ^ n) all
@@ -146,7 +146,7 @@ module _ (v : Subspace) where
     -- Its first point, as the code has it: no bit is lost.
     pub shift_exact : beyond * 2 ^ (v.low + v.own) % 2 ^ 64 ≡ beyond * 2 ^ (v.low + v.own)
     shift_exact =
-        let small : 2 ^ v.sum ≤ 2 ^ 8 = pow_mono {i = v.sum} {j = 8} (omega (arith, v.inside, v.line.top)) in
+        let small : 2 ^ v.vector.sum ≤ 2 ^ 8 = pow_mono {i = v.vector.sum} {j = 8} (omega (arith, v.inside, v.line.top)) in
         mod-eq_of_lt (omega (arith, next_within, v.after, small, pow_pos (v.low + v.own)))
 
     module _ {xs : List ℤ} (on : OnAxis (sparse_of v.line) v.line.place xs) where

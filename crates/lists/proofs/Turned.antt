@@ -108,7 +108,7 @@ module _ {v : Subspace} (seen : Seen v) where
   abbrev shape : Shape
   shape = sparse_of v.line
 
-  list_turned : (ahead : Bool) (k : ℕ) (xs ys zs : List ℤ) → length xs ≡ points_of shape → ys ≡ came_to ahead shape v.line.place (at v.levels) xs →
+  list_turned : (ahead : Bool) (k : ℕ) (xs ys zs : List ℤ) → length xs ≡ points_of shape → ys ≡ came_to ahead shape v.line.place (at v.vector.levels) xs →
       Stepped ahead shape v.line.place v.start v.end ys k zs → (p : ℕ) → v.start ≤ p → p < v.end →
       value_at zs (suc p) ≡ value_at (whole_turn ahead shape v.line.place xs) (suc p)
   unfolding came_to
@@ -120,7 +120,7 @@ module _ {v : Subspace} (seen : Seen v) where
       (rw (sym seen.start) at came) done p from to
 
   pub work_turned : (ahead : Bool) (k : ℕ) (xs ys zs : List ℤ) → Stepped ahead shape v.line.place v.start v.end ys k zs → length xs ≡ points_of shape →
-      ys ≡ came_to ahead shape v.line.place (at v.levels) xs → ListTurned ahead shape v.line.place (at v.levels) xs ys zs
+      ys ≡ came_to ahead shape v.line.place (at v.vector.levels) xs → ListTurned ahead shape v.line.place (at v.vector.levels) xs ys zs
   work_turned ahead k xs ys zs done long came =
       record {
         holds = λ p from to. list_turned ahead k xs ys zs long came done p (omega (arith, seen.start)) (omega (arith, seen.end));

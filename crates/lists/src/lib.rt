@@ -101,7 +101,7 @@ fn all_blocks<D: Direction>(v: Subspace, starts: &[u64; 9], table: &mut [i64]) -
 {
     let bits = v.low + v.own;
     let mut odd: u64 = 0;
-    for beyond in 0..1u64 << (v.sum - bits) {
+    for beyond in 0..1u64 << (v.vector.sum - bits) {
         let first = v.start + (beyond << bits);
         odd += sized_block::<D>(v, starts, table, first, beyond);
     }
@@ -112,9 +112,9 @@ fn all_blocks<D: Direction>(v: Subspace, starts: &[u64; 9], table: &mut [i64]) -
 // that has come so far, the list's points then hold what the whole turn leaves them, and no other place changes.
 pub fn work<D: Direction>(v: Subspace, starts: &[u64; 9], table: &mut [i64]) -> u64
     requires { Below v starts.now × (length table.old ≡ points_of (sparse_of v.line)) × Within (2 ^ 60) table.old }
-    ensures worked { table.new ≡ list_worked D.ahead (sparse_of v.line) v.line.place (at v.levels) table.old }
+    ensures worked { table.new ≡ list_worked D.ahead (sparse_of v.line) v.line.place (at v.vector.levels) table.old }
     ensures odds { odd_sums (sparse_of v.line) v.line.place table.old v.start + result ≡ odd_sums (sparse_of v.line) v.line.place table.old v.end }
-    ensures turned { (xs : List ℤ) → length xs ≡ length table.old → table.old ≡ came_to D.ahead (sparse_of v.line) v.line.place (at v.levels) xs → ListTurned D.ahead (sparse_of v.line) v.line.place (at v.levels) xs table.old table.new }
+    ensures turned { (xs : List ℤ) → length xs ≡ length table.old → table.old ≡ came_to D.ahead (sparse_of v.line) v.line.place (at v.vector.levels) xs → ListTurned D.ahead (sparse_of v.line) v.line.place (at v.vector.levels) xs table.old table.new }
 {
     if v.own == 0 {
         return 0;

@@ -141,17 +141,17 @@ module _ {v : Subspace} {starts : List ℕ} (s : Seen v) (held : Below v starts)
 
 module _ {v : Subspace} (s : Seen v) (beyond : ℕ) (there : v.start + beyond * 2 ^ (v.low + v.own) < v.end) where
   abbrev bits_beyond : ℕ
-  bits_beyond = sum_to (at v.levels) v.line.axes - (v.low + v.own)
+  bits_beyond = sum_to (at v.vector.levels) v.line.axes - (v.low + v.own)
 
-  blocks : 2 ^ sum_to (at v.levels) v.line.axes ≡ 2 ^ bits_beyond * 2 ^ (v.low + v.own)
+  blocks : 2 ^ sum_to (at v.vector.levels) v.line.axes ≡ 2 ^ bits_beyond * 2 ^ (v.low + v.own)
   blocks =
       ap (λ (a : ℕ). 2 ^ a)
       (omega (
         arith,
         s.low,
         s.own,
-        sum_to_suc (at v.levels) v.line.place,
-        sum_to_mono (at v.levels) (suc v.line.place) v.line.axes s.axis,
+        sum_to_suc (at v.vector.levels) v.line.place,
+        sum_to_mono (at v.vector.levels) (suc v.line.place) v.line.axes s.axis,
       ))
       ∙ pow-add 2 bits_beyond (v.low + v.own)
 

@@ -15,6 +15,7 @@ use Rattle.numbering.proofs.Numbering.{points_is}
 use Rattle.numbering.proofs.Subspaces.{block_below}
 use Rattle.shapes.proofs.Totals.{start_small}
 use Rattle.vectors.specs.Steps.{VectorIn}
+use Rattle.vectors.specs.declared.LevelVector.{LevelVector}
 use Rattle.neighbours.specs.declared.subspaces.Line.{Line}
 use Rattle.neighbours.specs.declared.subspaces.Subspace.{Subspace}
 
@@ -24,12 +25,15 @@ pub record Seen (v : Subspace) : Type 0 where
   pub few : v.line.axes ≤ 8
   pub top : v.line.level ≤ 8
   pub axis : v.line.place < v.line.axes
-  pub rest : (u : ℕ) → v.line.axes ≤ u → at v.levels u ≡ 0
-  pub sum : sum_to (at v.levels) v.line.axes ≤ v.line.level
-  pub start : v.start ≡ first_of v.line.axes (at v.levels)
-  pub end : v.end ≡ first_of v.line.axes (at v.levels) + 2 ^ sum_to (at v.levels) v.line.axes
-  pub low : v.low ≡ sum_to (at v.levels) v.line.place
-  pub own : v.own ≡ at v.levels v.line.place
+  pub rest : (u : ℕ) → v.line.axes ≤ u → at v.vector.levels u ≡ 0
+  pub sum : sum_to (at v.vector.levels) v.line.axes ≤ v.line.level
+  pub start : v.start ≡ first_of v.line.axes (at v.vector.levels)
+  pub end : v.end ≡ first_of v.line.axes (at v.vector.levels) + 2 ^ sum_to (at v.vector.levels) v.line.axes
+  pub low : v.low ≡ sum_to (at v.vector.levels) v.line.place
+  pub own : v.own ≡ at v.vector.levels v.line.place
+
+pub vector_of : (v : Subspace) → VectorIn v.line.axes v.vector.sum v.vector.levels
+vector_of v = rw v.same at v.vector.vector
 
 pub seen : (v : Subspace) → Seen v
 seen v =
@@ -37,32 +41,32 @@ seen v =
       few = v.line.few;
       top = v.line.top;
       axis = v.line.axis;
-      rest = v.vector.rest;
-      sum = omega (arith, v.vector.total, v.inside);
+      rest = (vector_of v).rest;
+      sum = omega (arith, (vector_of v).total, v.inside);
       start = v.first;
-      end = omega (arith, v.after, v.first, ap (λ (s : ℕ). 2 ^ s) v.vector.total);
+      end = omega (arith, v.after, v.first, ap (λ (s : ℕ). 2 ^ s) (vector_of v).total);
       low = v.before;
       own = v.there;
     }
 
-module _ (line : Line) (sum : ℕ) (ls : List ℕ) (start : ℕ) (vector : VectorIn line.axes sum ls) (low : sum ≤ line.level)
-    (first : start ≡ first_of line.axes (at ls)) where
-  pub before_small : sum_to (at ls) line.place ≤ 8
-  before_small = omega (arith, vector.total, line.top, sum_to_mono (at ls) line.place line.axes (omega (arith, line.axis)))
+module _ (line : Line) (v : LevelVector) (start : ℕ) (same : v.axes ≡ line.axes) (low : v.sum ≤ line.level)
+    (first : start ≡ first_of line.axes (at v.levels)) where
+  vector : VectorIn line.axes v.sum v.levels
+  vector = rw same at v.vector
+
+  pub before_small : sum_to (at v.levels) line.place ≤ 8
+  before_small = omega (arith, vector.total, line.top, sum_to_mono (at v.levels) line.place line.axes (omega (arith, line.axis)))
 
   -- The end is small, since the level vector lies within the table.
-  pub end_small : start + 1 * 2 ^ sum % 2 ^ 64 < 2 ^ 33
+  pub end_small : start + 1 * 2 ^ v.sum % 2 ^ 64 < 2 ^ 33
   end_small =
       omega (
         arith,
         first,
         line.top,
-        one_shifted 64 sum (omega (arith, line.top)),
-        pow_mono {i = sum} {j = 8} (omega (arith, line.top)),
-        block_below line.axes line.level (at ls) vector.rest (omega (arith, vector.total)) 0 (pow_pos (sum_to (at ls) line.axes)),
+        one_shifted 64 v.sum (omega (arith, line.top)),
+        pow_mono {i = v.sum} {j = 8} (omega (arith, line.top)),
+        block_below line.axes line.level (at v.levels) vector.rest (omega (arith, vector.total)) 0 (pow_pos (sum_to (at v.levels) line.axes)),
         points_is line.axes line.level,
         start_small line.axes (omega (arith, line.axis)) line.few (suc line.level) (omega (arith, line.top)),
       )
-
-  pub end_is : start + 1 * 2 ^ sum % 2 ^ 64 ≡ start + 2 ^ sum
-  end_is = omega (arith, one_shifted 64 sum (omega (arith, low, line.top)))

@@ -17,7 +17,7 @@ sparse_of line = sparse line.axes line.level
 -- Other places are not read.
 pub record Below (v : Subspace) (starts : List ℕ) : Type 0 where
   pub long : length starts ≡ 9
-  pub first : (j : ℕ) → 1 ≤ j → j ≤ v.own → at starts j ≡ first_of v.line.axes (update (at v.levels) v.line.place (v.own - j))
+  pub first : (j : ℕ) → 1 ≤ j → j ≤ v.own → at starts j ≡ first_of v.line.axes (update (at v.vector.levels) v.line.place (v.own - j))
 
 -- The code of the parent at numerator m of a point, to whose position the axes before this one add `before`, those beyond it `beyond` in units of
 -- 2^(sum of the levels up to this axis): the parent's level vector is lower on the axis by as many levels as factors of two were dropped, and what the

@@ -3,7 +3,8 @@ ghost use Rattle.std.specs.Prelude.{◌≡◌, ◌+◌, ◌^◌, ◌≤◌, ◌<
 ghost use Rattle.naturals.specs.Sum.{sum_to};
 ghost use Rattle.numbering.specs.Point.{at};
 ghost use Rattle.numbering.specs.Number.{first_of};
-ghost use Rattle.vectors.specs.Steps.{VectorIn};
+
+use vectors::LevelVector;
 
 // A shape within the limits and the place of one of its axes, from 0: a turn works on the lines along that axis.
 #[derive(Clone, Copy)]
@@ -21,35 +22,33 @@ pub struct Line {
 #[derive(Clone, Copy)]
 pub struct Subspace {
     pub line: Line,
-    pub levels: [u32; 8],
-    pub sum: u32,
+    pub vector: LevelVector,
     pub start: u64,
     pub end: u64,
     pub low: u32,
     pub own: u32,
-    ghost vector: { VectorIn line.axes sum levels },
-    ghost inside: { sum ≤ line.level },
-    ghost first: { start ≡ first_of line.axes (at levels) },
-    ghost after: { end ≡ start + 2 ^ sum },
-    ghost before: { low ≡ sum_to (at levels) line.place },
-    ghost there: { own ≡ at levels line.place },
+    ghost same: { vector.axes ≡ line.axes },
+    ghost inside: { vector.sum ≤ line.level },
+    ghost first: { start ≡ first_of line.axes (at vector.levels) },
+    ghost after: { end ≡ start + 2 ^ vector.sum },
+    ghost before: { low ≡ sum_to (at vector.levels) line.place },
+    ghost there: { own ≡ at vector.levels line.place },
 }
 
 impl Subspace {
-    // A level vector with this sum and first number, for a turn on an axis.
-    pub fn on(line: Line, sum: u32, levels: &[u32; 8], start: u64) -> Subspace
-        requires { VectorIn line.axes sum levels.now × (sum ≤ line.level) × (start ≡ first_of line.axes (at levels.now)) }
-        ensures { (result.line ≡ line) × (result.sum ≡ sum) × (result.start ≡ start) × (result.levels ≡ levels.now) }
+    // A level vector with this first number, for a turn on an axis.
+    pub fn on(line: Line, vector: &LevelVector, start: u64) -> Subspace
+        requires { (vector.now.axes ≡ line.axes) × (vector.now.sum ≤ line.level) × (start ≡ first_of line.axes (at vector.now.levels)) }
+        ensures { (result.line ≡ line) × (result.vector ≡ vector.now) × (result.start ≡ start) }
     {
         let place = line.place as usize;
         Subspace {
             line,
-            levels: *levels,
-            sum,
+            vector: *vector,
             start,
-            end: start + (1 << sum),
-            low: vectors::level_sum(place, levels),
-            own: levels[place],
+            end: start + (1 << vector.sum),
+            low: vectors::level_sum(place, &vector.levels),
+            own: vector.levels[place],
         }
     }
 }

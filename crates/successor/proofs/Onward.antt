@@ -17,13 +17,11 @@ use Rattle.numbering.specs.Number.{number, first_of}
 use Rattle.numbering.proofs.Numbering.{points_is, start_mono}
 use Rattle.numbering.proofs.Subspaces.{first_is, number_from_first}
 use Rattle.numbering.proofs.Succession.{first_position}
-use Rattle.vectors.specs.Steps.{VectorIn, NextVector}
+use Rattle.vectors.specs.declared.LevelVector.{LevelVector}
+use Rattle.vectors.specs.Steps.{NextVector}
 use Rattle.points.specs.Steps.{PointIn}
 use Rattle.successor.specs.Steps.{StepsIndices}
 use Rattle.successor.proofs.Reached.{reached, following, reaches, ended}
-
-pub vector_of : {d n : ℕ} {ls is : List ℕ} → PointIn d n ls is → (sum : ℕ) → sum ≡ sum_to (at ls) d → VectorIn d sum ls
-vector_of p sum e = record { long = p.long_levels; total = sym e; rest = p.no_level }
 
 module _ {d n : ℕ} {ls is js : List ℕ} {past : Bool} (p : PointIn d n ls is) (turned : StepsIndices d ls is past js) where
   pub next_index : past ≡ false → reached ls js ≡ following d n (at ls) (at is)
@@ -38,7 +36,14 @@ module _ {d n : ℕ} {ls is js : List ℕ} {past : Bool} (p : PointIn d n ls is)
       reaches point (at ls) (at is)
       (omega (arith, number_from_first d (at ls) (at js), number_from_first d (at ls) (at is), turned.higher e))
 
-  module _ (e : past ≡ true) {sum sum' : ℕ} {ms : List ℕ} (whole : sum ≡ sum_to (at ls) d) (next : NextVector d sum ls sum' ms) where
+  module _ (e : past ≡ true) (v : LevelVector) (of : (v.axes ≡ d) × (v.levels ≡ ls)) {sum' : ℕ} {ms : List ℕ}
+      (stepped : NextVector v.axes v.sum v.levels sum' ms) where
+    next : NextVector d v.sum ls sum' ms
+    next = rw (of.0, of.1) at stepped
+
+    whole : sum_to (at ls) d ≡ v.sum
+    whole = rw (of.0, of.1) at v.vector.total
+
     -- The next vector starts one past this point.
     starts : first_of d (at ms) ≡ suc (number d (at ls) (at is))
     starts =

@@ -11,6 +11,7 @@ ghost use Rattle.successor.specs.Successor.{after, successor_of};
 use points::Point;
 use refusals::Refusal;
 use shapes::Shape;
+use vectors::LevelVector;
 
 // The indices stepped to the next on the same levels, in place, axis 1 fastest. Answers whether they were the last: then all are 1 again.
 fn next_indices(axes: usize, levels: &[u32; 8], indices: &mut [u32; 8]) -> bool
@@ -33,17 +34,20 @@ fn next_point(shape: Shape, p: Point) -> Option<Point>
     requires { (1 ≤ shape.axes) × (shape.axes ≤ 8) × (shape.level ≤ 8) × PointIn shape.axes shape.level p.levels p.indices }
     ensures { result ≡ after shape (number_of shape (at p.levels) (at p.indices)) }
 {
-    let axes = shape.axes as usize;
-    let mut levels = p.levels;
+    let levels = p.levels;
     let mut indices = p.indices;
-    if !next_indices(axes, &levels, &mut indices) {
+    if !next_indices(shape.axes as usize, &levels, &mut indices) {
         return Some(Point { levels, indices });
     }
-    let sum = vectors::level_sum(axes, &levels);
-    if shape.level < vectors::to_next(axes, sum, &mut levels) {
+    let mut vector = LevelVector::of(shape.axes, levels);
+    vector.next();
+    if shape.level < vector.sum {
         return None;
     }
-    Some(Point { levels, indices })
+    Some(Point {
+        levels: vector.levels,
+        indices,
+    })
 }
 
 // The successor of a point, or none, the end, after the last.

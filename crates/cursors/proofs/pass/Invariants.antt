@@ -8,5 +8,5 @@ use Rattle.cursors.proofs.pass.Given as goal
 
 abbrev pub invariant-loop-j : goal.invariant-loop-j
 invariant-loop-j l =
-    (l.v.own ≤ l.v.sum) × (l.v.sum ≤ 8)
-    × Moved l.v.line l.v.sum (rank (at l.v.levels) l.v.line.axes) (suc (rank (at l.v.levels) l.v.line.axes)) l.j l.cursors
+    (l.v.own ≤ l.v.vector.sum) × (l.v.vector.sum ≤ 8)
+    × Moved l.v.line l.v.vector.sum (rank (at l.v.vector.levels) l.v.line.axes) (suc (rank (at l.v.vector.levels) l.v.line.axes)) l.j l.cursors

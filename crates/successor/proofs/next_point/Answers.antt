@@ -7,14 +7,12 @@ pub returns-then-not-next_indices : goal.returns-then-not-next_indices
 returns-then-not-next_indices c =
     next_index c.requires.3 c.next_indices.ensures c.if-not-next_indices.true
 
-pub returns-then-shape-to_next : goal.returns-then-shape-to_next
-returns-then-shape-to_next c =
-    let pre = c.requires in
-    none_left pre.3 c.next_indices.ensures c.if-not-next_indices.false c.level_sum-sum.ensures c.to_next.ensures
-    c.if-shape-to_next.true
+pub returns-then-shape-vector : goal.returns-then-shape-vector
+returns-then-shape-vector c =
+    none_left c.requires.3 c.next_indices.ensures c.if-not-next_indices.false c.of-vector.result c.of-vector.ensures c.next.ensures.1
+    c.if-shape-vector.true
 
 pub returns : goal.returns
 returns c =
-    let pre = c.requires in
-    first_of_next pre.3 c.next_indices.ensures c.if-not-next_indices.false c.level_sum-sum.ensures c.to_next.ensures
-    c.if-shape-to_next.false
+    first_of_next c.requires.3 c.next_indices.ensures c.if-not-next_indices.false c.of-vector.result c.of-vector.ensures c.next.ensures.1
+    c.if-shape-vector.false

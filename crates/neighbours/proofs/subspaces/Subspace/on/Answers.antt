@@ -5,8 +5,8 @@ use Rattle.neighbours.proofs.Seeing.{before_small, end_small}
 use Rattle.neighbours.proofs.subspaces.Subspace.on.Goals as goal
 
 pub overflow_add-result : goal.overflow_add-result
-overflow_add-result c = omega (arith, end_small c.args.line _ _ _ c.requires.0 c.requires.1 c.requires.2)
+overflow_add-result c = omega (arith, end_small c.args.line c.args.vector.now _ c.requires.0 c.requires.1 c.requires.2)
 
 pub level_sum-requires : goal.level_sum-requires
 level_sum-requires c =
-    (omega (arith, c.args.line.few, c.args.line.axis), before_small c.args.line _ _ _ c.requires.0 c.requires.1 c.requires.2)
+    (omega (arith, c.args.line.few, c.args.line.axis), before_small c.args.line c.args.vector.now _ c.requires.0 c.requires.1 c.requires.2)
