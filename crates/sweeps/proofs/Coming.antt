@@ -81,13 +81,20 @@ module _ (d n t : ℕ) (xs : List ℤ) (on : OnAxis (sparse d n) t xs) where
     seen_as =
         record {
           line = record { axes = d; level = n; place = t; few = on.few; top = on.low; axis = on.place };
-          levels = ls;
-          sum = sum_to (at ls) d;
+          vector =
+              record {
+                axes = d;
+                sum = sum_to (at ls) d;
+                levels = ls;
+                some = omega (arith, on.place);
+                few = on.few;
+                vector = record { long = eight_long; total = refl; rest = inside.rest };
+              };
           start = first_in shape (at ls);
           end = end_of shape (at ls);
           low = sum_to (at ls) t;
           own = at ls t;
-          vector = record { long = eight_long; total = refl; rest = inside.rest };
+          same = refl;
           inside = inside.low;
           first = refl;
           after = refl;

@@ -22,6 +22,7 @@ use Rattle.grids.specs.Turned.{turned_table}
 use Rattle.grids.proofs.Sparse.{points_sparse}
 use Rattle.grids.proofs.Turned.{turned_length}
 use Rattle.walks.specs.Walks.{walk_down}
+use Rattle.vectors.specs.declared.LevelVector.{LevelVector}
 use Rattle.neighbours.specs.declared.subspaces.Line.{Line}
 use Rattle.neighbours.specs.declared.subspaces.Subspace.{Subspace}
 use Rattle.neighbours.specs.Steps.{sparse_of}
@@ -34,7 +35,7 @@ use Rattle.sweeps.proofs.Room.{turned_within}
 use Rattle.sweeps.proofs.Parted.{Parted, all_below, above_only, below_codes, parted_within}
 use Rattle.sweeps.proofs.Odds.{odds_none, odds_few}
 use Rattle.sweeps.proofs.Walking.{same_walk, first_worked, none_worked, left_down, down_all, down_first, down_sum, down_none}
-use Rattle.sweeps.proofs.Standing.{Standing, first_at_lem, levels_of_rank}
+use Rattle.sweeps.proofs.Standing.{Standing, first_at_lem, levels_of_rank, vector_in}
 use Rattle.sweeps.proofs.Coming.{comes_down, goes_down}
 use Rattle.sweeps.proofs.Meeting.{Met, met_odds}
 
@@ -106,56 +107,56 @@ module _ (line : Line) (xs : List ℤ) (long : length xs ≡ points_of (sparse_o
           none_worked true (sparse_of line) line.place ys (ap₂ (left_down line.axes) none.0 none.1 ∙ down_none line.axes) ∙ s.walked
 
   -- The last list that is left of the sum.
-  module _ {sum k odd : ℕ} {ls : List ℕ} {ys : List ℤ} (here : Standing line.axes line.level sum ls)
-      (s : Lowering line xs sum (suc (rank (at ls) line.axes)) k odd ys) where
-    ends : k ≡ first_of line.axes (at ls) + 2 ^ sum
-    ends = omega (arith, s.first, first_at_lem here.vector, mul-suc (2 ^ sum) (rank (at ls) line.axes))
+  module _ {vector : LevelVector} {k odd : ℕ} {ys : List ℤ} (here : Standing line vector)
+      (s : Lowering line xs vector.sum (suc (rank (at vector.levels) line.axes)) k odd ys) where
+    ends : k ≡ first_of line.axes (at vector.levels) + 2 ^ vector.sum
+    ends = omega (arith, s.first, first_at_lem (vector_in here), mul-suc (2 ^ vector.sum) (rank (at vector.levels) line.axes))
 
-    ends_list : k ≡ end_of (sparse_of line) (at ls)
-    ends_list = ends ∙ ap (λ (u : ℕ). first_of line.axes (at ls) + 2 ^ u) (sym here.vector.total)
+    ends_list : k ≡ end_of (sparse_of line) (at vector.levels)
+    ends_list = ends ∙ ap (λ (u : ℕ). first_of line.axes (at vector.levels) + 2 ^ u) (sym (vector_in here).total)
 
     -- Its first number, as the code reckons it.
-    pub lowering_first : k - 1 * 2 ^ sum % 2 ^ 64 ≡ first_of line.axes (at ls)
-    lowering_first = omega (arith, ends, one_shifted 64 sum (omega (arith, here.low, line.top)))
+    pub lowering_first : k - 1 * 2 ^ vector.sum % 2 ^ 64 ≡ first_of line.axes (at vector.levels)
+    lowering_first = omega (arith, ends, one_shifted 64 vector.sum (omega (arith, here.low, line.top)))
 
-    came : ys ≡ came_to true (sparse_of line) line.place (at ls) xs
+    came : ys ≡ came_to true (sparse_of line) line.place (at vector.levels) xs
     unfolding whole_turn
-    came = comes_down line.axes line.level line.place xs (on_line line long) (at ls) ys (rw ends_list at s.parted)
+    came = comes_down line.axes line.level line.place xs (on_line line long) (at vector.levels) ys (rw ends_list at s.parted)
 
-    list_first : left_down line.axes sum (suc (rank (at ls) line.axes)) ≡ at ls ∷ left_down line.axes sum (rank (at ls) line.axes)
+    list_first : left_down line.axes vector.sum (suc (rank (at vector.levels) line.axes)) ≡ at vector.levels ∷ left_down line.axes vector.sum (rank (at vector.levels) line.axes)
     list_first =
-        down_first line.axes sum (rank (at ls) line.axes)
-        ∙ ap (λ (l : ℕ → ℕ). l ∷ left_down line.axes sum (rank (at ls) line.axes)) (levels_of_rank here.vector)
+        down_first line.axes vector.sum (rank (at vector.levels) line.axes)
+        ∙ ap (λ (l : ℕ → ℕ). l ∷ left_down line.axes vector.sum (rank (at vector.levels) line.axes)) (levels_of_rank (vector_in here))
 
-    module _ (zs : List ℤ) (more : ℕ) (worked : zs ≡ list_worked true (sparse_of line) line.place (at ls) ys)
-        (counted : odd_sums (sparse_of line) line.place xs (first_in (sparse_of line) (at ls)) + more
-        ≡ odd_sums (sparse_of line) line.place xs (end_of (sparse_of line) (at ls)))
-        (turned : ListTurned true (sparse_of line) line.place (at ls) xs ys zs) where
-      list_parted : Parted (points_of (sparse_of line)) (first_in (sparse_of line) (at ls)) xs (turned_on line xs) zs
+    module _ (zs : List ℤ) (more : ℕ) (worked : zs ≡ list_worked true (sparse_of line) line.place (at vector.levels) ys)
+        (counted : odd_sums (sparse_of line) line.place xs (first_in (sparse_of line) (at vector.levels)) + more
+        ≡ odd_sums (sparse_of line) line.place xs (end_of (sparse_of line) (at vector.levels)))
+        (turned : ListTurned true (sparse_of line) line.place (at vector.levels) xs ys zs) where
+      list_parted : Parted (points_of (sparse_of line)) (first_in (sparse_of line) (at vector.levels)) xs (turned_on line xs) zs
       unfolding whole_turn
-      list_parted = rw worked (goes_down line.axes line.level line.place xs (on_line line long) (at ls) ys (rw ends_list at s.parted) (rw worked at turned))
+      list_parted = rw worked (goes_down line.axes line.level line.place xs (on_line line long) (at vector.levels) ys (rw ends_list at s.parted) (rw worked at turned))
 
-      list_done : Lowering line xs sum (rank (at ls) line.axes) (first_in (sparse_of line) (at ls)) (odd + more) zs
+      list_done : Lowering line xs vector.sum (rank (at vector.levels) line.axes) (first_in (sparse_of line) (at vector.levels)) (odd + more) zs
       list_done =
           record {
-            first = first_at_lem here.vector;
+            first = first_at_lem (vector_in here);
             parted = list_parted;
             odds = omega (arith, counted, s.odds, ap (odd_sums (sparse_of line) line.place xs) ends_list);
             walked = first_worked true (sparse_of line) line.place ys zs list_first worked ∙ s.walked;
           }
 
     -- As it is met: the work on it does its part of the turn.
-    pub lowering_worked : (v : Subspace) → Met line sum ls v → (zs : List ℤ) (more : ℕ) →
-        zs ≡ list_worked true (sparse_of v.line) v.line.place (at v.levels) ys →
+    pub lowering_worked : (v : Subspace) → Met line vector v → (zs : List ℤ) (more : ℕ) →
+        zs ≡ list_worked true (sparse_of v.line) v.line.place (at v.vector.levels) ys →
         odd_sums (sparse_of v.line) v.line.place ys v.start + more ≡ odd_sums (sparse_of v.line) v.line.place ys v.end →
-        ((ws : List ℤ) → length ws ≡ length ys → ys ≡ came_to true (sparse_of v.line) v.line.place (at v.levels) ws →
-        ListTurned true (sparse_of v.line) v.line.place (at v.levels) ws ys zs) →
-        Lowering line xs sum (rank (at ls) line.axes) (k - 1 * 2 ^ sum % 2 ^ 64) (odd + more) zs
+        ((ws : List ℤ) → length ws ≡ length ys → ys ≡ came_to true (sparse_of v.line) v.line.place (at v.vector.levels) ws →
+        ListTurned true (sparse_of v.line) v.line.place (at v.vector.levels) ws ys zs) →
+        Lowering line xs vector.sum (rank (at vector.levels) line.axes) (k - 1 * 2 ^ vector.sum % 2 ^ 64) (odd + more) zs
     lowering_worked v m zs more worked counted turned =
         let held : (code : ℕ) → code ≤ k → value_at xs code ≡ value_at ys code
         = below_codes _ xs (turned_on line xs) long turned_long k ys s.parted in
         rw lowering_first
         (list_done zs more
-        (rw (m.on, m.levels) at worked)
+        (rw (m.on, m.same) at worked)
         (met_odds v m xs ys (λ code h. held code (omega (arith, ends))) more counted)
-        (rw (m.on, m.levels) at (turned xs (long ∙ sym s.parted.long) (rw (m.on, m.levels) came))))
+        (rw (m.on, m.same) at (turned xs (long ∙ sym s.parted.long) (rw (m.on, m.same) came))))

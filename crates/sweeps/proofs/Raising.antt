@@ -24,6 +24,7 @@ use Rattle.grids.specs.Turned.{former_table}
 use Rattle.grids.proofs.Sparse.{points_sparse}
 use Rattle.grids.proofs.Turned.{former_length}
 use Rattle.walks.specs.Walks.{walk_up}
+use Rattle.vectors.specs.declared.LevelVector.{LevelVector}
 use Rattle.neighbours.specs.declared.subspaces.Line.{Line}
 use Rattle.neighbours.specs.declared.subspaces.Subspace.{Subspace}
 use Rattle.neighbours.specs.Steps.{sparse_of}
@@ -36,7 +37,7 @@ use Rattle.sweeps.proofs.Room.{former_within}
 use Rattle.sweeps.proofs.Parted.{Parted, all_above, below_only, below_codes, parted_within}
 use Rattle.sweeps.proofs.Odds.{odds_none, odds_few}
 use Rattle.sweeps.proofs.Walking.{same_walk, first_worked, none_worked, left_up, up_all, up_first, up_sum, up_none}
-use Rattle.sweeps.proofs.Standing.{Standing, first_at_lem, rank_in, levels_of_rank, end_inside}
+use Rattle.sweeps.proofs.Standing.{Standing, first_at_lem, rank_in, levels_of_rank, end_inside, vector_in}
 use Rattle.sweeps.proofs.Coming.{comes_up, goes_up}
 use Rattle.sweeps.proofs.Meeting.{Met, met_odds}
 
@@ -123,59 +124,59 @@ module _ (line : Line) (xs : List ℤ) (long : length xs ≡ points_of (sparse_o
         ∙ s.walked
 
   -- The first list that is left of the sum.
-  module _ {sum k odd : ℕ} {ls : List ℕ} {ys : List ℤ} (here : Standing line.axes line.level sum ls)
-      (s : Raising line xs sum (rank (at ls) line.axes) k odd ys) where
-    pub raising_first : k ≡ first_of line.axes (at ls)
-    raising_first = omega (arith, s.first, first_at_lem here.vector)
+  module _ {vector : LevelVector} {k odd : ℕ} {ys : List ℤ} (here : Standing line vector)
+      (s : Raising line xs vector.sum (rank (at vector.levels) line.axes) k odd ys) where
+    pub raising_first : k ≡ first_of line.axes (at vector.levels)
+    raising_first = omega (arith, s.first, first_at_lem (vector_in here))
 
     -- Its end, as the code reckons it.
-    pub raising_end : k + 1 * 2 ^ sum % 2 ^ 64 ≡ first_of line.axes (at ls) + 2 ^ sum
-    raising_end = omega (arith, raising_first, one_shifted 64 sum (omega (arith, here.low, line.top)))
+    pub raising_end : k + 1 * 2 ^ vector.sum % 2 ^ 64 ≡ first_of line.axes (at vector.levels) + 2 ^ vector.sum
+    raising_end = omega (arith, raising_first, one_shifted 64 vector.sum (omega (arith, here.low, line.top)))
 
-    ends_list : k + 1 * 2 ^ sum % 2 ^ 64 ≡ end_of (sparse_of line) (at ls)
-    ends_list = raising_end ∙ ap (λ (u : ℕ). first_of line.axes (at ls) + 2 ^ u) (sym here.vector.total)
+    ends_list : k + 1 * 2 ^ vector.sum % 2 ^ 64 ≡ end_of (sparse_of line) (at vector.levels)
+    ends_list = raising_end ∙ ap (λ (u : ℕ). first_of line.axes (at vector.levels) + 2 ^ u) (sym (vector_in here).total)
 
-    pub raising_inside : k + 1 * 2 ^ sum % 2 ^ 64 ≤ points_of (sparse_of line)
+    pub raising_inside : k + 1 * 2 ^ vector.sum % 2 ^ 64 ≤ points_of (sparse_of line)
     raising_inside = omega (arith, raising_end, end_inside here, points_sparse line.axes line.level)
 
-    came : ys ≡ came_to false (sparse_of line) line.place (at ls) xs
+    came : ys ≡ came_to false (sparse_of line) line.place (at vector.levels) xs
     unfolding whole_turn
-    came = comes_up line.axes line.level line.place xs (on_line line long) (at ls) ys (rw raising_first at s.parted)
+    came = comes_up line.axes line.level line.place xs (on_line line long) (at vector.levels) ys (rw raising_first at s.parted)
 
-    list_first : left_up line.axes line.level sum (rank (at ls) line.axes) ≡ at ls ∷ left_up line.axes line.level sum (suc (rank (at ls) line.axes))
+    list_first : left_up line.axes line.level vector.sum (rank (at vector.levels) line.axes) ≡ at vector.levels ∷ left_up line.axes line.level vector.sum (suc (rank (at vector.levels) line.axes))
     list_first =
-        up_first line.axes line.level sum (rank (at ls) line.axes) (rank_in here.vector)
-        ∙ ap (λ (l : ℕ → ℕ). l ∷ left_up line.axes line.level sum (suc (rank (at ls) line.axes))) (levels_of_rank here.vector)
+        up_first line.axes line.level vector.sum (rank (at vector.levels) line.axes) (rank_in (vector_in here))
+        ∙ ap (λ (l : ℕ → ℕ). l ∷ left_up line.axes line.level vector.sum (suc (rank (at vector.levels) line.axes))) (levels_of_rank (vector_in here))
 
-    module _ (zs : List ℤ) (more : ℕ) (worked : zs ≡ list_worked false (sparse_of line) line.place (at ls) ys)
-        (counted : odd_sums (sparse_of line) line.place (former_on line xs) (first_in (sparse_of line) (at ls)) + more
-        ≡ odd_sums (sparse_of line) line.place (former_on line xs) (end_of (sparse_of line) (at ls)))
-        (turned : ListTurned false (sparse_of line) line.place (at ls) xs ys zs) where
-      list_parted : Parted (points_of (sparse_of line)) (end_of (sparse_of line) (at ls)) (former_on line xs) xs zs
+    module _ (zs : List ℤ) (more : ℕ) (worked : zs ≡ list_worked false (sparse_of line) line.place (at vector.levels) ys)
+        (counted : odd_sums (sparse_of line) line.place (former_on line xs) (first_in (sparse_of line) (at vector.levels)) + more
+        ≡ odd_sums (sparse_of line) line.place (former_on line xs) (end_of (sparse_of line) (at vector.levels)))
+        (turned : ListTurned false (sparse_of line) line.place (at vector.levels) xs ys zs) where
+      list_parted : Parted (points_of (sparse_of line)) (end_of (sparse_of line) (at vector.levels)) (former_on line xs) xs zs
       unfolding whole_turn
-      list_parted = rw worked (goes_up line.axes line.level line.place xs (on_line line long) (at ls) ys (rw raising_first at s.parted) (rw worked at turned))
+      list_parted = rw worked (goes_up line.axes line.level line.place xs (on_line line long) (at vector.levels) ys (rw raising_first at s.parted) (rw worked at turned))
 
-      list_done : Raising line xs sum (suc (rank (at ls) line.axes)) (end_of (sparse_of line) (at ls)) (odd + more) zs
+      list_done : Raising line xs vector.sum (suc (rank (at vector.levels) line.axes)) (end_of (sparse_of line) (at vector.levels)) (odd + more) zs
       list_done =
           record {
-            first = omega (arith, ends_list, raising_end, first_at_lem here.vector, mul-suc (2 ^ sum) (rank (at ls) line.axes));
+            first = omega (arith, ends_list, raising_end, first_at_lem (vector_in here), mul-suc (2 ^ vector.sum) (rank (at vector.levels) line.axes));
             parted = list_parted;
             odds = omega (arith, counted, s.odds, ap (odd_sums (sparse_of line) line.place (former_on line xs)) raising_first);
             walked = first_worked false (sparse_of line) line.place ys zs list_first worked ∙ s.walked;
           }
 
     -- As it is met: the work on it does its part of the turn.
-    pub raising_worked : (v : Subspace) → Met line sum ls v → (zs : List ℤ) (more : ℕ) →
-        zs ≡ list_worked false (sparse_of v.line) v.line.place (at v.levels) ys →
+    pub raising_worked : (v : Subspace) → Met line vector v → (zs : List ℤ) (more : ℕ) →
+        zs ≡ list_worked false (sparse_of v.line) v.line.place (at v.vector.levels) ys →
         odd_sums (sparse_of v.line) v.line.place ys v.start + more ≡ odd_sums (sparse_of v.line) v.line.place ys v.end →
-        ((ws : List ℤ) → length ws ≡ length ys → ys ≡ came_to false (sparse_of v.line) v.line.place (at v.levels) ws →
-        ListTurned false (sparse_of v.line) v.line.place (at v.levels) ws ys zs) →
-        Raising line xs sum (suc (rank (at ls) line.axes)) (k + 1 * 2 ^ sum % 2 ^ 64) (odd + more) zs
+        ((ws : List ℤ) → length ws ≡ length ys → ys ≡ came_to false (sparse_of v.line) v.line.place (at v.vector.levels) ws →
+        ListTurned false (sparse_of v.line) v.line.place (at v.vector.levels) ws ys zs) →
+        Raising line xs vector.sum (suc (rank (at vector.levels) line.axes)) (k + 1 * 2 ^ vector.sum % 2 ^ 64) (odd + more) zs
     raising_worked v m zs more worked counted turned =
         let held : (code : ℕ) → code ≤ k → value_at (former_on line xs) code ≡ value_at ys code
         = below_codes _ (former_on line xs) xs former_long long k ys s.parted in
         rw ends_list
         (list_done zs more
-        (rw (m.on, m.levels) at worked)
+        (rw (m.on, m.same) at worked)
         (met_odds v m (former_on line xs) ys (λ code h. held code (omega (arith, raising_first))) more counted)
-        (rw (m.on, m.levels) at (turned xs (long ∙ sym s.parted.long) (rw (m.on, m.levels) came))))
+        (rw (m.on, m.same) at (turned xs (long ∙ sym s.parted.long) (rw (m.on, m.same) came))))

@@ -1,6 +1,7 @@
 -- The level list at which a way over the table stands: a level vector of the shape, with its sum. It is known by its sum and its rank, and by the number of its
 -- first point. Forward, a way begins at the one that the last point lies in.
 -- Assumes nothing.
+use mathlib.Core.Logic.{⊎_elim}
 use mathlib.Core.List.{List}
 use mathlib.Core.Path.{◌≡◌, refl, ap, sym, ◌∙◌, fun_ext}
 use Prim.Native.Nat.{ℕ, zero, suc, ◌+◌, ◌-◌, ◌%◌, ◌^◌, ◌≤◌, ◌<◌}
@@ -24,17 +25,21 @@ use Rattle.numbering.proofs.Subspaces.{first_is, number_behind_first}
 use Rattle.shapes.specs.Shapes.{points_of}
 use Rattle.grids.proofs.Sparse.{points_sparse}
 use Rattle.vectors.specs.Steps.{VectorIn, NextVector, PreviousVector}
-use Rattle.vectors.proofs.Following.{first, first_zeros}
+use Rattle.vectors.specs.declared.LevelVector.{LevelVector}
+use Rattle.vectors.proofs.Following.{no_levels}
 use Rattle.points.specs.Points.{eight}
 use Rattle.points.proofs.Eight.{eight_length, eight_whole}
 use Rattle.neighbours.specs.declared.subspaces.Line.{Line}
 use Rattle.neighbours.specs.Steps.{sparse_of}
 use Rattle.sweeps.proofs.Ranks.{first_at, end_le, some_points, Follows, following, last_of_all}
 
--- A level vector of the shape of d axes and top level n.
-pub record Standing (d n sum : ℕ) (ls : List ℕ) : Type 0 where
-  pub vector : VectorIn d sum ls
-  pub low : sum ≤ n
+-- A level vector of the shape.
+pub record Standing (line : Line) (vector : LevelVector) : Type 0 where
+  pub same : vector.axes ≡ line.axes
+  pub low : vector.sum ≤ line.level
+
+pub vector_in : {line : Line} {vector : LevelVector} → Standing line vector → VectorIn line.axes vector.sum vector.levels
+vector_in {line} {vector} s = rw s.same at vector.vector
 
 module _ {d sum : ℕ} {ls : List ℕ} (vector : VectorIn d sum ls) where
   pub first_at_lem : first_of d (at ls) ≡ first_at d sum (rank (at ls) d)
@@ -58,45 +63,59 @@ module _ {d sum : ℕ} {ls : List ℕ} (vector : VectorIn d sum ls) where
       le_or_lt sum n (λ low. low)
       (λ high. absurd (omega (arith, inside, first_at_lem, points_is d n, start_mono d (suc n) sum high)))
 
-module _ {d n sum : ℕ} {ls : List ℕ} (s : Standing d n sum ls) where
-  pub end_inside : first_of d (at ls) + 2 ^ sum ≤ points d n
+module _ {line : Line} {vector : LevelVector} (s : Standing line vector) where
+  pub end_inside : first_of line.axes (at vector.levels) + 2 ^ vector.sum ≤ points line.axes line.level
   end_inside =
       omega (
         arith,
-        first_at_lem s.vector,
-        end_le d sum (rank (at ls) d) (rank_in s.vector),
-        start_mono d (suc sum) (suc n) (omega (arith, s.low)),
-        points_is d n,
+        first_at_lem (vector_in s),
+        end_le line.axes vector.sum (rank (at vector.levels) line.axes) (rank_in (vector_in s)),
+        start_mono line.axes (suc vector.sum) (suc line.level) (omega (arith, s.low)),
+        points_is line.axes line.level,
       )
 
--- ---- the first of all, which has no level
+-- The first of all has no level, so none comes before it.
+pub first_standing : (line : Line) (vector : LevelVector) → (vector.axes ≡ line.axes) × (vector.sum ≡ 0) → Standing line vector
+first_standing line vector first = record { same = first.0; low = omega (arith, first.1) }
 
-none : (t : ℕ) → at (first 0) t ≡ 0
-none zero = refl
-none (suc t) = first_zeros 0 (suc t) (omega arith)
-
-none_sum : (k : ℕ) → sum_to (at (first 0)) k ≡ 0
-none_sum zero = sum_to_zero (at (first 0))
-none_sum (suc k) = omega (arith, sum_to_suc (at (first 0)) k, none k, none_sum k)
-
-pub first_standing : (d n : ℕ) → Standing d n 0 (first 0)
-first_standing d n = record { vector = record { long = refl; total = none_sum d; rest = λ t past. none t }; low = omega arith }
-
-pub first_rank_lem : (d : ℕ) → rank (at (first 0)) d ≡ 0
-first_rank_lem d = rank_first (at (first 0)) d (λ t some axis. none t)
+pub first_rank : (line : Line) (vector : LevelVector) → (vector.axes ≡ line.axes) × (vector.sum ≡ 0) → rank (at vector.levels) line.axes ≡ 0
+first_rank line vector first =
+    rank_first (at vector.levels) line.axes (λ t some axis. no_levels (rw (first.0, first.1) at vector.vector) t)
 
 -- ---- the one before and the next
 
-module _ {d sum sum' : ℕ} {ls ls' : List ℕ} (some : 1 ≤ d) (vector : VectorIn d sum ls) where
-  pub previous_follows : PreviousVector d sum ls sum' ls' → Follows d sum' (rank (at ls') d) sum (rank (at ls) d)
-  previous_follows before =
-      following d some sum' (rank (at ls') d) (rank_in before.vector) sum (rank (at ls) d) (rank_in vector)
-      (omega (arith, before.first, first_at_lem vector, first_at_lem before.vector))
+module _ {line : Line} {vector : LevelVector} (s : Standing line vector) (vector' : LevelVector) where
+  module _ (stepped : (vector'.axes ≡ vector.axes) × PreviousVector vector.axes vector.sum vector.levels vector'.sum vector'.levels) where
+    before : PreviousVector line.axes vector.sum vector.levels vector'.sum vector'.levels
+    before = rw s.same at stepped.1
 
-  pub next_follows : NextVector d sum ls sum' ls' → Follows d sum (rank (at ls) d) sum' (rank (at ls') d)
-  next_follows next =
-      following d some sum (rank (at ls) d) (rank_in vector) sum' (rank (at ls') d) (rank_in next.vector)
-      (omega (arith, next.first, first_at_lem vector, first_at_lem next.vector))
+    pub previous_follows : Follows line.axes vector'.sum (rank (at vector'.levels) line.axes) vector.sum (rank (at vector.levels) line.axes)
+    previous_follows =
+        following line.axes (omega (arith, line.axis)) vector'.sum (rank (at vector'.levels) line.axes) (rank_in before.vector)
+        vector.sum (rank (at vector.levels) line.axes) (rank_in (vector_in s))
+        (omega (arith, before.first, first_at_lem (vector_in s), first_at_lem before.vector))
+
+    pub previous_standing : Standing line vector'
+    previous_standing =
+        record {
+          same = stepped.0 ∙ s.same;
+          low = ⊎_elim (λ same. omega (arith, same.0, s.low)) (λ below. omega (arith, below.0, s.low)) previous_follows;
+        }
+
+  module _ (stepped : (vector'.axes ≡ vector.axes) × NextVector vector.axes vector.sum vector.levels vector'.sum vector'.levels) where
+    next : NextVector line.axes vector.sum vector.levels vector'.sum vector'.levels
+    next = rw s.same at stepped.1
+
+    pub next_follows : Follows line.axes vector.sum (rank (at vector.levels) line.axes) vector'.sum (rank (at vector'.levels) line.axes)
+    next_follows =
+        following line.axes (omega (arith, line.axis)) vector.sum (rank (at vector.levels) line.axes) (rank_in (vector_in s))
+        vector'.sum (rank (at vector'.levels) line.axes) (rank_in next.vector)
+        (omega (arith, next.first, first_at_lem (vector_in s), first_at_lem next.vector))
+
+    -- It is one of the shape if the other ends before the table does.
+    pub next_standing : first_of line.axes (at vector.levels) + 2 ^ vector.sum < points line.axes line.level → Standing line vector'
+    next_standing more =
+        record { same = stepped.0 ∙ s.same; low = sum_inside next.vector line.level (omega (arith, next.first, more)) }
 
 -- ---- the one that the last point lies in
 
@@ -108,38 +127,33 @@ module _ (line : Line) (xs : List ℤ) (long : length xs ≡ points_of (sparse_o
   pub some_place : 1 ≤ length xs
   some_place = omega (arith, places, some_points line.axes line.level (omega (arith, line.axis)))
 
-  module _ {ls : List ℕ} {sum : ℕ} (sum_is : sum ≡ sum_at line.axes line.level (length xs - 1))
-      (ls_is : ls ≡ eight (level_at line.axes line.level (length xs - 1))) where
+  module _ (vector : LevelVector) (same : vector.axes ≡ line.axes) (sum_is : vector.sum ≡ sum_at line.axes line.level (length xs - 1))
+      (levels_are : vector.levels ≡ eight (level_at line.axes line.level (length xs - 1))) where
     inside : length xs - 1 < points line.axes line.level
     inside = omega (arith, places, some_place)
 
-    whole : at ls ≡ level_at line.axes line.level (length xs - 1)
-    whole = ap at ls_is ∙ eight_whole _ (λ u h. level_zero line.axes line.level (length xs - 1) u (omega (arith, line.few)))
+    here : VectorIn line.axes vector.sum vector.levels
+    here = rw same at vector.vector
 
-    last_vector : VectorIn line.axes sum ls
-    last_vector =
-        record {
-          long = ap length ls_is ∙ eight_length _;
-          total = ap (λ (f : ℕ → ℕ). sum_to f line.axes) whole ∙ levels_sum line.axes line.level (length xs - 1) inside ∙ sym sum_is;
-          rest = λ t past. ap (λ (f : ℕ → ℕ). f t) whole ∙ level_zero line.axes line.level (length xs - 1) t past;
-        }
+    whole : at vector.levels ≡ level_at line.axes line.level (length xs - 1)
+    whole = ap at levels_are ∙ eight_whole _ (λ u h. level_zero line.axes line.level (length xs - 1) u (omega (arith, line.few)))
 
-    behind : first_of line.axes (at ls) + within line.axes line.level (length xs - 1) % 2 ^ sum ≡ length xs - 1
+    behind : first_of line.axes (at vector.levels) + within line.axes line.level (length xs - 1) % 2 ^ vector.sum ≡ length xs - 1
     behind = rw (whole, sum_is) (number_behind_first line.axes line.level (length xs - 1) inside)
 
-    pub last_standing : Standing line.axes line.level sum ls
-    last_standing = record { vector = last_vector; low = sum_inside last_vector line.level (omega (arith, behind, inside)) }
+    pub last_standing : Standing line vector
+    last_standing = record { same = same; low = sum_inside here line.level (omega (arith, behind, inside)) }
 
     -- It ends with the last point, so it is the last of the top level.
-    pub last_of_table : (sum ≡ line.level) × (suc (rank (at ls) line.axes) ≡ vectors line.axes sum)
+    pub last_of_table : (vector.sum ≡ line.level) × (suc (rank (at vector.levels) line.axes) ≡ vectors line.axes vector.sum)
     last_of_table =
-        last_of_all line.axes (omega (arith, line.axis)) sum (rank (at ls) line.axes) (rank_in last_vector) line.level last_standing.low
+        last_of_all line.axes (omega (arith, line.axis)) vector.sum (rank (at vector.levels) line.axes) (rank_in here) line.level last_standing.low
         (omega (
           arith,
           behind,
-          mod-lt (within line.axes line.level (length xs - 1)) (pow_pos sum),
+          mod-lt (within line.axes line.level (length xs - 1)) (pow_pos vector.sum),
           end_inside last_standing,
-          first_at_lem last_vector,
+          first_at_lem here,
           points_is line.axes line.level,
           places,
           some_place,

@@ -13,6 +13,7 @@ ghost use Rattle.sweeps.specs.Sweeps.{lists_worked};
 use cursors::Starts;
 use integers::{Back, Forward};
 use neighbours::{Line, Subspace};
+use vectors::LevelVector;
 
 // The forward turn of a table, whether or not it is accepted: the level lists from the last down. Answers how many sums were odd.
 pub fn lower(line: Line, table: &mut [i64]) -> u64
@@ -23,24 +24,21 @@ pub fn lower(line: Line, table: &mut [i64]) -> u64
 {
     let starts = Starts::of(line);
     let mut start = table.len() as u64;
-    let last = numbers::vector_at(line.axes, line.level, start - 1);
-    let mut sum = last.sum;
-    let mut levels = last.levels;
-    let mut cursors = starts.after_last(sum);
+    let mut vector = numbers::vector_at(line.axes, line.level, start - 1).vector;
+    let mut cursors = starts.after_last(vector.sum);
     let mut odd: u64 = 0;
     loop {
-        start -= 1 << sum;
-        let v = Subspace::on(line, sum, &levels, start);
+        start -= 1 << vector.sum;
+        let v = Subspace::on(line, &vector, start);
         cursors::pass_back(v, &mut cursors);
         odd += lists::work::<Forward>(v, &cursors, table);
         if start == 0 {
             return odd;
         }
-        let before = vectors::to_previous(line.axes as usize, sum, &mut levels);
-        if before < sum {
-            cursors = starts.after_last(before);
+        vector.previous();
+        if vector.sum < v.vector.sum {
+            cursors = starts.after_last(vector.sum);
         }
-        sum = before;
     }
 }
 
@@ -53,23 +51,21 @@ pub fn raise(line: Line, table: &mut [i64]) -> u64
     ensures odds { result ≡ odd_sums (sparse_of line) line.place table.new (points_of (sparse_of line)) }
 {
     let starts = Starts::of(line);
-    let mut sum: u32 = 0;
-    let mut levels = [0u32; 8];
     let mut start: u64 = 0;
-    let mut cursors = starts.before_first(sum);
+    let mut vector = LevelVector::first(line.axes);
+    let mut cursors = starts.before_first(vector.sum);
     let mut odd: u64 = 0;
     loop {
-        let v = Subspace::on(line, sum, &levels, start);
+        let v = Subspace::on(line, &vector, start);
         odd += lists::work::<Back>(v, &cursors, table);
-        start += 1 << sum;
+        start += 1 << vector.sum;
         if start == table.len() as u64 {
             return odd;
         }
         cursors::pass(v, &mut cursors);
-        let next = vectors::to_next(line.axes as usize, sum, &mut levels);
-        if sum < next {
-            cursors = starts.before_first(next);
+        vector.next();
+        if v.vector.sum < vector.sum {
+            cursors = starts.before_first(vector.sum);
         }
-        sum = next;
     }
 }

@@ -12,9 +12,9 @@ use Rattle.sweeps.proofs.raise.Given as goal
 
 abbrev pub invariant-loop-start : goal.invariant-loop-start
 invariant-loop-start l =
-    Standing l.line.axes l.line.level l.sum l.levels
-    × Cursors l.line l.sum (rank (at l.levels) l.line.axes) l.cursors
-    × Raising l.line l.initial.table l.sum (rank (at l.levels) l.line.axes) l.start l.odd l.table
+    Standing l.line l.vector
+    × Cursors l.line l.vector.sum (rank (at l.vector.levels) l.line.axes) l.cursors
+    × Raising l.line l.initial.table l.vector.sum (rank (at l.vector.levels) l.line.axes) l.start l.odd l.table
 
 abbrev pub decreases-loop-start : goal.decreases-loop-start
 decreases-loop-start l = length l.initial.table - l.start
