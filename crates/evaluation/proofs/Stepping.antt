@@ -23,39 +23,40 @@ use Rattle.shapes.specs.Shapes.{points_of}
 use Rattle.shapes.proofs.Totals.{start_small}
 use Rattle.surfaces.specs.Weights.{unit}
 use Rattle.surfaces.specs.Surface.{joint_at}
+use Rattle.vectors.specs.declared.LevelVector.{LevelVector}
 use Rattle.vectors.specs.Steps.{NextVector}
 use Rattle.evaluation.specs.declared.Hat.{Hat}
 use Rattle.evaluation.specs.Steps.{Tabulated, joint_of, position_of, Evaluable}
 use Rattle.evaluation.proofs.Blocks.{count_is, taken_at, taken_joint}
 use Rattle.evaluation.proofs.Reading.{position_taken, joint_taken}
-use Rattle.evaluation.proofs.Walking.{high_term, low_term, weight_small, Walked, sum_low, taken_here, next_within, walked_steps}
+use Rattle.evaluation.proofs.Walking.{high_term, low_term, weight_small, Walked, vector_in, sum_low, taken_here, next_within, walked_steps}
 use Rattle.wide_sums.proofs.Parts.{fits_below}
 
-module _ {s : Shape} {xs : List ℤ} {cs : List ℕ} (ev : Evaluable s xs cs) {high : ℤ} {low first sum : ℕ} {ls : List ℕ}
-    (w : Walked s xs (at cs) high low first sum ls) (more : first < length xs) where
+module _ {s : Shape} {xs : List ℤ} {cs : List ℕ} (ev : Evaluable s xs cs) {high : ℤ} {low first : ℕ} {vector : LevelVector}
+    (w : Walked s xs (at cs) high low first vector) (more : first < length xs) where
   before_last : first < points_of s
   before_last = omega (arith, ev.long)
 
-  pub sum_small : sum ≤ 8
+  pub sum_small : vector.sum ≤ 8
   sum_small = omega (arith, sum_low w before_last, ev.low)
 
-  pub levels_small : sum_to (at ls) s.axes ≤ 8
-  levels_small = omega (arith, sum_small, w.vector.total)
+  pub levels_small : sum_to (at vector.levels) s.axes ≤ 8
+  levels_small = omega (arith, sum_small, (vector_in w).total)
 
   table_small : points_of s < 4294967296
   table_small = omega (arith, count_is s, start_small s.axes ev.some ev.listed.few (suc s.level) (omega (arith, ev.low)))
 
   -- The shifted one of the code is the size of the vector.
-  pub vector_size : 1 * 2 ^ sum % 2 ^ 64 ≡ 2 ^ sum
-  vector_size = one_shifted 64 sum (omega (arith, sum_small))
+  pub vector_size : 1 * 2 ^ vector.sum % 2 ^ 64 ≡ 2 ^ vector.sum
+  vector_size = one_shifted 64 vector.sum (omega (arith, sum_small))
 
-  pub vector_within : first + 2 ^ sum ≤ length xs
+  pub vector_within : first + 2 ^ vector.sum ≤ length xs
   vector_within = omega (arith, next_within w before_last ev.listed.coordinates, ev.long)
 
   module _ {hats : List (List Hat)} (table : Tabulated (at cs) s.axes hats) {position joint : ℕ}
-      (found : (position ≡ position_of hats (at ls) s.axes) × (joint ≡ joint_of hats (at ls) s.axes)) where
-    taken : position ≡ taken_at (at cs) (at ls) s.axes
-    taken = found.0 ∙ position_taken (at cs) (at ls) s.axes hats table levels_small
+      (found : (position ≡ position_of hats (at vector.levels) s.axes) × (joint ≡ joint_of hats (at vector.levels) s.axes)) where
+    taken : position ≡ taken_at (at cs) (at vector.levels) s.axes
+    taken = found.0 ∙ position_taken (at cs) (at vector.levels) s.axes hats table levels_small
 
     pub place_read : first + position < length xs
     place_read = omega (arith, taken, taken_here w before_last ev.listed.coordinates, ev.long)
@@ -66,8 +67,8 @@ module _ {s : Shape} {xs : List ℤ} {cs : List ℕ} (ev : Evaluable s xs cs) {h
     weight_read : joint ≡ joint_at s (at cs) (first + position)
     weight_read =
         found.1
-        ∙ joint_taken (at cs) (at ls) s.axes hats table levels_small
-        ∙ sym (taken_joint s (at cs) (at ls) w.vector.rest (omega (arith, w.vector.total, sum_low w before_last)))
+        ∙ joint_taken (at cs) (at vector.levels) s.axes hats table levels_small
+        ∙ sym (taken_joint s (at cs) (at vector.levels) (vector_in w).rest (omega (arith, (vector_in w).total, sum_low w before_last)))
         ∙ ap₂ (λ (a q : ℕ). joint_at s (at cs) (a + q)) w.here (sym taken)
 
     pub weight_in_lem : joint ≤ unit
@@ -80,25 +81,26 @@ module _ {s : Shape} {xs : List ℤ} {cs : List ℕ} (ev : Evaluable s xs cs) {h
     value_fits = fits_below (get_or xs (first + position) (pos 0)) (omega (arith, limit_size (get_or xs (first + position) (pos 0)) value_in))
 
     -- The terms that the code adds.
-    high_added : floor unit (get_or xs (first + position) (pos 0)) *ℤ pos joint ≡ high_term s xs (at cs) (first + taken_at (at cs) (at ls) s.axes)
+    high_added : floor unit (get_or xs (first + position) (pos 0)) *ℤ pos joint ≡ high_term s xs (at cs) (first + taken_at (at cs) (at vector.levels) s.axes)
     unfolding high_term
     high_added =
         ap₂ (λ (z : ℤ) (k : ℕ). floor unit z *ℤ pos k) (sym (value_suc xs (first + position))) weight_read
         ∙ ap (λ (q : ℕ). floor unit (value_at xs (suc (first + q))) *ℤ pos (joint_at s (at cs) (first + q))) taken
 
-    low_added : remainder unit (get_or xs (first + position) (pos 0)) * joint ≡ low_term s xs (at cs) (first + taken_at (at cs) (at ls) s.axes)
+    low_added : remainder unit (get_or xs (first + position) (pos 0)) * joint ≡ low_term s xs (at cs) (first + taken_at (at cs) (at vector.levels) s.axes)
     unfolding low_term
     low_added =
         ap₂ (λ (z : ℤ) (k : ℕ). remainder unit z * k) (sym (value_suc xs (first + position))) weight_read
         ∙ ap (λ (q : ℕ). remainder unit (value_at xs (suc (first + q))) * joint_at s (at cs) (first + q)) taken
 
     -- The invariant after the step.
-    pub stepped : {high' : ℤ} {low' sum' : ℕ} {ls' : List ℕ} → NextVector s.axes sum ls sum' ls' →
+    pub stepped : {high' : ℤ} {low' : ℕ} (vector' : LevelVector) →
+        (vector'.axes ≡ vector.axes) × NextVector vector.axes vector.sum vector.levels vector'.sum vector'.levels →
         high' ≡ high +ℤ floor unit (get_or xs (first + position) (pos 0)) *ℤ pos joint →
         low' ≡ low + remainder unit (get_or xs (first + position) (pos 0)) * joint →
-        Walked s xs (at cs) high' low' (first + 2 ^ sum) sum' ls'
-    stepped {high'} {low'} {sum'} {ls'} next eh el =
+        Walked s xs (at cs) high' low' (first + 2 ^ vector.sum) vector'
+    stepped {high'} {low'} vector' next eh el =
         rw (eh ∙ ap (λ (z : ℤ). high +ℤ z) high_added, el ∙ ap (λ (k : ℕ). low + k) low_added)
-        (walked_steps w before_last ev.listed.coordinates sum' ls' ev.some ev.listed.few ev.low next
+        (walked_steps w before_last ev.listed.coordinates vector' ev.low next
         (ap (λ (q : ℕ). in_limit (value_at xs (suc (first + q)))) (sym taken)
         ∙ ev.contents (first + position) (omega (arith, place_read, ev.long))))

@@ -9,7 +9,6 @@ use native.Mathlib.Nat.{mul_comm, mul-zero, mul-le-mul_right, suc-mul}
 use native.Mathlib.Omega.{arith}
 use lib.Dec.{leb}
 use lib.IntN.{ℤ, pos, nat_abs, ◌+ℤ◌, ◌*ℤ◌, *ℤ-zero}
-use lib.ListN.{length}
 use lib.Pow.{pow_pos}
 use borrow.Author.Tests.{leb-true}
 use Rattle.naturals.specs.Sum.{sum_to}
@@ -43,7 +42,9 @@ use Rattle.surfaces.specs.Surface.{weight_in, joint_in, joint_sum_in, rounded, e
 use Rattle.surfaces.proofs.Cells.{weight_le}
 use Rattle.surfaces.proofs.Joint.{joint_le}
 use Rattle.surfaces.proofs.Unit.{unit_bits, unit_pos}
+use Rattle.vectors.specs.declared.LevelVector.{LevelVector}
 use Rattle.vectors.specs.Steps.{VectorIn, vectors_before, NextVector}
+use Rattle.vectors.proofs.Following.{no_levels}
 use Rattle.evaluation.proofs.Blocks.{count_is, block_within, taken_at, taken_below, block_zero}
 use Rattle.wide_sums.proofs.Parts.{high_size, low_size}
 
@@ -129,35 +130,38 @@ module _ (s : Shape) (xs : List ℤ) (x : ℕ → ℕ) where
 
 -- ---- the walk
 
-pub record Walked (s : Shape) (xs : List ℤ) (x : ℕ → ℕ) (high : ℤ) (low first sum : ℕ) (ls : List ℕ) : Type 0 where
-  pub vector : VectorIn s.axes sum ls
-  pub here : first_of s.axes (at ls) ≡ first
+pub record Walked (s : Shape) (xs : List ℤ) (x : ℕ → ℕ) (high : ℤ) (low first : ℕ) (vector : LevelVector) : Type 0 where
+  pub same : vector.axes ≡ s.axes
+  pub here : first_of s.axes (at vector.levels) ≡ first
   pub within : first ≤ points_of s
   pub highs : high ≡ total (high_term s xs x) first
   pub lows : low ≡ sum_to (low_term s xs x) first
-  pub few : vectors_before s.axes (at ls) ≤ 12870
-  pub high_small : nat_abs high ≤ vectors_before s.axes (at ls) * 2 ^ 47
-  pub low_small : low ≤ vectors_before s.axes (at ls) * 2 ^ (unit_bits + unit_bits)
+  pub few : vectors_before s.axes (at vector.levels) ≤ 12870
+  pub high_small : nat_abs high ≤ vectors_before s.axes (at vector.levels) * 2 ^ 47
+  pub low_small : low ≤ vectors_before s.axes (at vector.levels) * 2 ^ (unit_bits + unit_bits)
+
+pub vector_in : {s : Shape} {xs : List ℤ} {x : ℕ → ℕ} {high : ℤ} {low first : ℕ} {vector : LevelVector} → Walked s xs x high low first vector →
+    VectorIn s.axes vector.sum vector.levels
+vector_in {vector = vector} w = rw w.same at vector.vector
 
 -- The walk starts at the vector of zeros.
-module _ (s : Shape) (xs : List ℤ) (x : ℕ → ℕ) (ls : List ℕ) (long : length ls ≡ 8) (zeros : (t : ℕ) → at ls t ≡ 0) where
-  no_levels : (k : ℕ) → sum_to (at ls) k ≡ 0
-  no_levels zero = sum_to_zero (at ls)
-  no_levels (suc k) = omega (arith, sum_to_suc (at ls) k, no_levels k, zeros k)
+module _ (s : Shape) (xs : List ℤ) (x : ℕ → ℕ) (vector : LevelVector) (starts : (vector.axes ≡ s.axes) × (vector.sum ≡ 0)) where
+  zeros : VectorIn s.axes 0 vector.levels
+  zeros = rw (starts.0, starts.1) at vector.vector
 
-  no_rank : rank (at ls) s.axes ≡ 0
-  no_rank = rank_first (at ls) s.axes (λ t pos h. zeros t)
+  no_rank : rank (at vector.levels) s.axes ≡ 0
+  no_rank = rank_first (at vector.levels) s.axes (λ t pos h. no_levels zeros t)
 
-  none_before : vectors_before s.axes (at ls) ≡ 0
+  none_before : vectors_before s.axes (at vector.levels) ≡ 0
   unfolding vectors_before
-  none_before = rw (no_levels s.axes, no_rank) (omega (arith, sum_to_zero (vectors s.axes)))
+  none_before = rw (zeros.total, no_rank) (omega (arith, sum_to_zero (vectors s.axes)))
 
-  pub walked_starts : Walked s xs x (pos 0) 0 0 0 ls
+  pub walked_starts : Walked s xs x (pos 0) 0 0 vector
   unfolding first_of
   walked_starts =
       record {
-        vector = record { long = long; total = no_levels s.axes; rest = λ t h. zeros t };
-        here = rw (no_levels s.axes, no_rank) (omega (arith, start_zero s.axes));
+        same = starts.0;
+        here = rw (zeros.total, no_rank) (omega (arith, start_zero s.axes));
         within = omega arith;
         highs = sym (total_zero (high_term s xs x));
         lows = sym (sum_to_zero (low_term s xs x));
@@ -167,7 +171,7 @@ module _ (s : Shape) (xs : List ℤ) (x : ℕ → ℕ) (ls : List ℕ) (long : l
       }
 
 -- Both sums leave room for one term more.
-module _ {s : Shape} {xs : List ℤ} {x : ℕ → ℕ} {high : ℤ} {low first sum : ℕ} {ls : List ℕ} (w : Walked s xs x high low first sum ls) where
+module _ {s : Shape} {xs : List ℤ} {x : ℕ → ℕ} {high : ℤ} {low first : ℕ} {vector : LevelVector} (w : Walked s xs x high low first vector) where
   pub high_room : nat_abs high ≤ 2 ^ 62
   high_room = omega (arith, w.high_small, mul-le-mul_right (2 ^ 47) w.few)
 
@@ -175,80 +179,82 @@ module _ {s : Shape} {xs : List ℤ} {x : ℕ → ℕ} {high : ℤ} {low first s
   low_room = omega (arith, w.low_small, mul-le-mul_right (2 ^ (unit_bits + unit_bits)) w.few)
 
   -- Before the last point the level sum is at most the top level.
-  pub sum_low : first < points_of s → sum ≤ s.level
+  pub sum_low : first < points_of s → vector.sum ≤ s.level
   unfolding first_of
   sum_low h =
-      le_or_lt sum s.level (λ le. le)
+      le_or_lt vector.sum s.level (λ le. le)
       (λ lt.
       absurd (omega (
         arith,
         w.here,
-        w.vector.total,
+        (vector_in w).total,
         count_is s,
-        start_mono s.axes (suc s.level) (sum_to (at ls) s.axes) (omega (arith, w.vector.total)),
+        start_mono s.axes (suc s.level) (sum_to (at vector.levels) s.axes) (omega (arith, (vector_in w).total)),
       )))
 
   module _ (h : first < points_of s) (inside : (t : ℕ) → t < s.axes → x t ≤ unit) where
-    levels_low : sum_to (at ls) s.axes ≤ s.level
-    levels_low = omega (arith, w.vector.total, sum_low h)
+    levels_low : sum_to (at vector.levels) s.axes ≤ s.level
+    levels_low = omega (arith, (vector_in w).total, sum_low h)
 
     -- The point taken is one of the table's.
-    pub taken_here : first + taken_at x (at ls) s.axes < points_of s
+    pub taken_here : first + taken_at x (at vector.levels) s.axes < points_of s
     taken_here =
         rw (sym w.here)
-        (block_within s (at ls) w.vector.rest levels_low (taken_at x (at ls) s.axes) (taken_below x (at ls) s.axes))
+        (block_within s (at vector.levels) (vector_in w).rest levels_low (taken_at x (at vector.levels) s.axes) (taken_below x (at vector.levels) s.axes))
 
-    pub next_within : first + 2 ^ sum ≤ points_of s
+    pub next_within : first + 2 ^ vector.sum ≤ points_of s
     next_within =
-        let power : 2 ^ sum_to (at ls) s.axes ≡ 2 ^ sum = ap (λ (k : ℕ). 2 ^ k) w.vector.total in
-        let last : 2 ^ sum - 1 < 2 ^ sum_to (at ls) s.axes = omega (arith, power, pow_pos sum) in
-        omega (arith, w.here, pow_pos sum, block_within s (at ls) w.vector.rest levels_low (2 ^ sum - 1) last)
+        let power : 2 ^ sum_to (at vector.levels) s.axes ≡ 2 ^ vector.sum = ap (λ (k : ℕ). 2 ^ k) (vector_in w).total in
+        let last : 2 ^ vector.sum - 1 < 2 ^ sum_to (at vector.levels) s.axes = omega (arith, power, pow_pos vector.sum) in
+        omega (arith, w.here, pow_pos vector.sum, block_within s (at vector.levels) (vector_in w).rest levels_low (2 ^ vector.sum - 1) last)
 
-    others_zero : (j : ℕ) → j < 2 ^ sum → (j ≡ taken_at x (at ls) s.axes → ⊥) → joint_at s x (first + j) ≡ 0
+    others_zero : (j : ℕ) → j < 2 ^ vector.sum → (j ≡ taken_at x (at vector.levels) s.axes → ⊥) → joint_at s x (first + j) ≡ 0
     others_zero j lt ne =
         ap (λ (a : ℕ). joint_at s x (a + j)) (sym w.here)
-        ∙ block_zero s x (at ls) w.vector.rest levels_low inside j (rw w.vector.total lt) ne
+        ∙ block_zero s x (at vector.levels) (vector_in w).rest levels_low inside j (rw (vector_in w).total lt) ne
 
-    taken_in : taken_at x (at ls) s.axes < 2 ^ sum
-    taken_in = rw (sym w.vector.total) (taken_below x (at ls) s.axes)
+    taken_in : taken_at x (at vector.levels) s.axes < 2 ^ vector.sum
+    taken_in = rw (sym (vector_in w).total) (taken_below x (at vector.levels) s.axes)
 
-    high_step : total (high_term s xs x) (first + 2 ^ sum) ≡ high +ℤ high_term s xs x (first + taken_at x (at ls) s.axes)
+    high_step : total (high_term s xs x) (first + 2 ^ vector.sum) ≡ high +ℤ high_term s xs x (first + taken_at x (at vector.levels) s.axes)
     unfolding high_term
     high_step =
-        total_block (high_term s xs x) first (2 ^ sum) (taken_at x (at ls) s.axes) taken_in
+        total_block (high_term s xs x) first (2 ^ vector.sum) (taken_at x (at vector.levels) s.axes) taken_in
         (λ j lt ne.
         ap (λ (k : ℕ). floor unit (value_at xs (suc (first + j))) *ℤ pos k) (others_zero j lt ne)
         ∙ *ℤ-zero (floor unit (value_at xs (suc (first + j)))))
-        ∙ ap (λ (z : ℤ). z +ℤ high_term s xs x (first + taken_at x (at ls) s.axes)) (sym w.highs)
+        ∙ ap (λ (z : ℤ). z +ℤ high_term s xs x (first + taken_at x (at vector.levels) s.axes)) (sym w.highs)
 
-    low_step : sum_to (low_term s xs x) (first + 2 ^ sum) ≡ low + low_term s xs x (first + taken_at x (at ls) s.axes)
+    low_step : sum_to (low_term s xs x) (first + 2 ^ vector.sum) ≡ low + low_term s xs x (first + taken_at x (at vector.levels) s.axes)
     unfolding low_term
     low_step =
-        sum_block (low_term s xs x) first (2 ^ sum) (taken_at x (at ls) s.axes) taken_in
+        sum_block (low_term s xs x) first (2 ^ vector.sum) (taken_at x (at vector.levels) s.axes) taken_in
         (λ j lt ne.
         ap (λ (k : ℕ). remainder unit (value_at xs (suc (first + j))) * k) (others_zero j lt ne)
         ∙ mul-zero (remainder unit (value_at xs (suc (first + j)))))
-        ∙ ap (λ (k : ℕ). k + low_term s xs x (first + taken_at x (at ls) s.axes)) (sym w.lows)
+        ∙ ap (λ (k : ℕ). k + low_term s xs x (first + taken_at x (at vector.levels) s.axes)) (sym w.lows)
 
     -- One vector more.
-    pub walked_steps : (sum' : ℕ) (ls' : List ℕ) → 1 ≤ s.axes → s.axes ≤ 8 → s.level ≤ 8 → NextVector s.axes sum ls sum' ls' →
-        in_limit (value_at xs (suc (first + taken_at x (at ls) s.axes))) ≡ true →
-        Walked s xs x (high +ℤ high_term s xs x (first + taken_at x (at ls) s.axes)) (low + low_term s xs x (first + taken_at x (at ls) s.axes))
-        (first + 2 ^ sum) sum' ls'
-    walked_steps sum' ls' some axes top next limited =
-        let p : ℕ = first + taken_at x (at ls) s.axes in
+    pub walked_steps : (vector' : LevelVector) → s.level ≤ 8 →
+        (vector'.axes ≡ vector.axes) × NextVector vector.axes vector.sum vector.levels vector'.sum vector'.levels →
+        in_limit (value_at xs (suc (first + taken_at x (at vector.levels) s.axes))) ≡ true →
+        Walked s xs x (high +ℤ high_term s xs x (first + taken_at x (at vector.levels) s.axes)) (low + low_term s xs x (first + taken_at x (at vector.levels) s.axes))
+        (first + 2 ^ vector.sum) vector'
+    walked_steps vector' top stepped limited =
+        let next : NextVector s.axes vector.sum vector.levels vector'.sum vector'.levels = rw w.same at stepped.1 in
+        let p : ℕ = first + taken_at x (at vector.levels) s.axes in
         record {
-          vector = next.vector;
-          here = next.first ∙ ap (λ (a : ℕ). a + 2 ^ sum) w.here;
+          same = stepped.0 ∙ w.same;
+          here = next.first ∙ ap (λ (a : ℕ). a + 2 ^ vector.sum) w.here;
           within = next_within;
           highs = sym high_step;
           lows = sym low_step;
-          few = omega (arith, next.count, next_counted s.axes (at ls) some axes (omega (arith, levels_low)));
+          few = omega (arith, next.count, next_counted s.axes (at vector.levels) (omega (arith, vector.some, w.same)) (omega (arith, vector.few, w.same)) (omega (arith, levels_low)));
           high_small =
               omega (
                 arith,
                 next.count,
-                suc-mul (vectors_before s.axes (at ls)) (2 ^ 47),
+                suc-mul (vectors_before s.axes (at vector.levels)) (2 ^ 47),
                 w.high_small,
                 sum_size high (high_term s xs x p),
                 high_term_lem s xs x p limited,
@@ -258,7 +264,7 @@ module _ {s : Shape} {xs : List ℤ} {x : ℕ → ℕ} {high : ℤ} {low first s
               omega (
                 arith,
                 next.count,
-                suc-mul (vectors_before s.axes (at ls)) (2 ^ (unit_bits + unit_bits)),
+                suc-mul (vectors_before s.axes (at vector.levels)) (2 ^ (unit_bits + unit_bits)),
                 w.low_small,
                 low_term_lem s xs x p,
                 ap (λ (k : ℕ). k * 2 ^ (unit_bits + unit_bits)) next.count,
@@ -266,7 +272,7 @@ module _ {s : Shape} {xs : List ℤ} {x : ℕ → ℕ} {high : ℤ} {low first s
         }
 
 -- Past the last point both sums are over all points.
-pub walked_ends : {s : Shape} {xs : List ℤ} {x : ℕ → ℕ} {high : ℤ} {low first sum : ℕ} {ls : List ℕ} → Walked s xs x high low first sum ls →
+pub walked_ends : {s : Shape} {xs : List ℤ} {x : ℕ → ℕ} {high : ℤ} {low first : ℕ} {vector : LevelVector} → Walked s xs x high low first vector →
     points_of s ≤ first → rounded unit (high *ℤ pos unit +ℤ pos low) ≡ estimate_at s (value_at xs) x
 walked_ends {s} {xs} {x} {high} {low} {first} w h =
     let all_points : first ≡ points_of s = omega (arith, w.within) in

@@ -11,6 +11,7 @@ ghost use Rattle.evaluation.specs.Steps.{AxisHats, Tabulated, joint_of, position
 
 use shapes::Shape;
 use surfaces::BITS;
+use vectors::LevelVector;
 use wide_sums::Sum;
 
 // Of one axis and level: the cell in which the coordinate lies, and the weight of the point in its middle.
@@ -75,18 +76,16 @@ pub fn evaluate(shape: Shape, table: &[i64], coordinates: &[u32]) -> i64
     requires { Evaluable shape table.now coordinates.now }
     ensures { result ≡ estimate_at shape (value_at table.now) (at coordinates.now) }
 {
-    let axes = shape.axes as usize;
     let tabulated = tabulated(coordinates);
-    let hats = &tabulated[..axes];
+    let hats = &tabulated[..shape.axes as usize];
     let mut sum = Sum::new();
     let mut rest = table;
-    let mut level_sum: u32 = 0;
-    let mut levels = [0; 8];
+    let mut vector = LevelVector::first(shape.axes);
     while !rest.is_empty() {
-        let term = taken(hats, &levels);
+        let term = taken(hats, &vector.levels);
         sum.add(rest[term.position as usize], term.joint);
-        rest = rest.split_at(1 << level_sum).1;
-        level_sum = vectors::to_next(axes, level_sum, &mut levels);
+        rest = rest.split_at(1 << vector.sum).1;
+        vector.next();
     }
     sum.joined()
 }

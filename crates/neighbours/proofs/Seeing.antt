@@ -1,7 +1,6 @@
 -- What is known of a level vector that a turn meets, in the form that the other laws take; and one as `Subspace::on` puts it together: its first number is
 -- handed in, and it has 2^(level sum) points.
 -- Assumes nothing.
-use mathlib.Core.List.{List}
 use mathlib.Core.Path.{◌≡◌, ap}
 use Prim.Native.Nat.{ℕ, suc, ◌+◌, ◌*◌, ◌%◌, ◌^◌, ◌≤◌, ◌<◌}
 use native.Mathlib.Omega.{arith}

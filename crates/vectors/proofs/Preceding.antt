@@ -3,9 +3,9 @@
 -- below, whose rank is one below their count, ends where it starts.
 -- Assumes nothing.
 use mathlib.Core.List.{List}
-use mathlib.Core.Path.{◌≡◌, refl, ap, sym, ◌∙◌}
-use Prim.Native.Nat.{ℕ, zero, suc, ◌+◌, ◌-◌, ◌*◌, ◌^◌, ◌≤◌, ◌<◌}
-use native.Mathlib.Nat.{add_comm, mul-suc, mul-zero}
+use mathlib.Core.Path.{◌≡◌, ap, sym, ◌∙◌}
+use Prim.Native.Nat.{ℕ, suc, ◌+◌, ◌-◌, ◌≤◌, ◌<◌}
+use native.Mathlib.Nat.{add_comm}
 use native.Mathlib.Omega.{arith}
 use lib.ListN.{length, set, take, drop, get_or, length-set}
 use lib.Seq.{get_or-set_same, get_or-set_other, get_or-take, length-take-le}
@@ -18,8 +18,8 @@ use Rattle.naturals.proofs.Sums.{sum_to_zero, term_le}
 use Rattle.numbering.specs.Count.{vectors, shell, start}
 use Rattle.numbering.specs.Number.{rank, first_of}
 use Rattle.numbering.specs.Point.{at}
-use Rattle.numbering.proofs.Numbering.{start_is, start_suc}
-use Rattle.numbering.proofs.Succession.{NextLevels, next_sum, next_rank, rank_first, sum_last, rank_last}
+use Rattle.numbering.proofs.Numbering.{start_is}
+use Rattle.numbering.proofs.Succession.{NextLevels, next_sum, rank_first, sum_last, rank_last}
 use Rattle.vectors.specs.Steps.{VectorIn, PreviousVector}
 use Rattle.vectors.proofs.Following.{First, first, eight_zeros, first_steps, starts_sum, ends_sum}
 

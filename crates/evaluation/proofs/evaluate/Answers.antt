@@ -1,9 +1,7 @@
-use Rattle.std.proofs.Common.{◌≡◌, ℕ, ◌+◌, ◌-◌, ◌^◌, ◌<◌, List, [], ◌∷◌, length, get_or, take, drop, replicate, ℤ, pos, refl, sym, ap, ap₂, ◌∙◌, arith, pow_pos, drop-drop, w64, length-take-le}
+use Rattle.std.proofs.Common.{◌≡◌, ℕ, ◌+◌, ◌-◌, ◌^◌, ◌<◌, List, length, get_or, take, drop, ℤ, pos, refl, sym, ap, ap₂, ◌∙◌, arith, pow_pos, drop-drop, w64, length-take-le}
 use Rattle.std.proofs.lemmas.List.{get_or-drop}
 use Rattle.std.proofs.lemmas.Bool.{eqb-true, eqb-false}
-use lib.ListN.{get_or-replicate, get_or-eq_default}
 use mir.ValLaws.{to_z-of_z}
-use Rattle.naturals.proofs.Cases.{le_or_lt}
 use Rattle.integers.specs.Half.{in_limit}
 use Rattle.numbering.specs.Point.{at}
 use Rattle.evaluation.specs.Steps.{Tabulated, position_of, joint_of}
@@ -13,18 +11,12 @@ use Rattle.evaluation.proofs.Tabulating.{tabulated_bounded, tabulated_front}
 use Rattle.evaluation.proofs.evaluate.Goals.{After-tabulated-tabulated, In-loop-hats, After-taken-term}
 use Rattle.evaluation.proofs.evaluate.Goals as goal
 
-eight_zeros : (t : ℕ) → at (0 ∷ 0 ∷ 0 ∷ 0 ∷ 0 ∷ 0 ∷ 0 ∷ 0 ∷ []) t ≡ 0
-eight_zeros t =
-    le_or_lt 8 t
-    (λ past. get_or-eq_default (replicate 8 0) 0 past)
-    (λ h. get_or-replicate 8 t 0 0 h)
-
 pub loop-hats-init : goal.loop-hats-init
 loop-hats-init c =
     let a = c.args in
     let none : length a.table.now - length a.table.now ≡ 0 = omega arith in
     rw (none, c.new-sum.ensures.high, c.new-sum.ensures.low)
-    (walked_starts a.shape a.table.now (at a.coordinates.now) _ refl eight_zeros, omega arith, refl)
+    (walked_starts a.shape a.table.now (at a.coordinates.now) c.first-vector.result c.first-vector.ensures, omega arith, refl)
 
 -- ---- the table of hats
 
@@ -57,7 +49,7 @@ taken-term-requires c =
 found : (c : After-taken-term) → length (take c.args.shape.axes c.tabulated-tabulated.result) ≡ c.args.shape.axes →
     let hats = take c.args.shape.axes c.tabulated-tabulated.result in
     let axes = c.args.shape.axes in
-    (c.taken-term.result.position ≡ position_of hats (at c.loop-hats.levels) axes) × (c.taken-term.result.joint ≡ joint_of hats (at c.loop-hats.levels) axes)
+    (c.taken-term.result.position ≡ position_of hats (at c.loop-hats.vector.levels) axes) × (c.taken-term.result.joint ≡ joint_of hats (at c.loop-hats.vector.levels) axes)
 found c long = rw long at c.taken-term.ensures
 
 -- The value read, as the table has it.
@@ -97,10 +89,10 @@ add-requires c =
       weight_in_lem c.requires inv here hats term,
     )
 
-pub overflow_shl-level_sum : goal.overflow_shl-level_sum
+pub overflow_shl-vector : goal.overflow_shl-vector
 unfolding first
-overflow_shl-level_sum c =
-    omega (arith, sum_small c.requires c.loop-hats.invariant.0 (more (goal.at.overflow_shl-level_sum c).In-loop-hats))
+overflow_shl-vector c =
+    omega (arith, sum_small c.requires c.loop-hats.invariant.0 (more (goal.at.overflow_shl-vector c).In-loop-hats))
 
 pub split_at-requires : goal.split_at-requires
 unfolding first
@@ -109,18 +101,16 @@ split_at-requires c =
     let inv = c.loop-hats.invariant in
     omega (arith, vector_size c.requires inv.0 here, vector_within c.requires inv.0 here, inv.1)
 
-pub to_next-level_sum-requires : goal.to_next-level_sum-requires
+pub next-requires : goal.next-requires
 unfolding first
-to_next-level_sum-requires c =
-    let inv = c.loop-hats.invariant.0 in
-    (c.requires.some, c.requires.listed.few, sum_small c.requires inv (more (goal.at.to_next-level_sum-requires c).In-loop-hats), inv.vector)
+next-requires c = sum_small c.requires c.loop-hats.invariant.0 (more (goal.at.next-requires c).In-loop-hats)
 
 pub loop-hats-smaller : goal.loop-hats-smaller
 unfolding first
 loop-hats-smaller c =
     let here = more (goal.at.loop-hats-smaller c).In-loop-hats in
     let inv = c.loop-hats.invariant in
-    omega (arith, c.split_at.ensures.back_len, vector_size c.requires inv.0 here, pow_pos c.loop-hats.level_sum)
+    omega (arith, c.split_at.ensures.back_len, vector_size c.requires inv.0 here, pow_pos c.loop-hats.vector.sum)
 
 pub loop-hats-preserved : goal.loop-hats-preserved
 unfolding first
@@ -132,14 +122,14 @@ loop-hats-preserved c =
     let term = found seen.After-taken-term (hats_long seen.After-tabulated-tabulated) in
     let xs = c.args.table.now in
     let before : ℕ = length xs - length c.loop-hats.rest.now in
-    let step : ℕ = 2 ^ c.loop-hats.level_sum in
+    let step : ℕ = 2 ^ c.loop-hats.vector.sum in
     let size = vector_size c.requires inv.0 here in
     let next : length xs - length c.split_at.result.1.now ≡ before + step =
     omega (arith, c.split_at.ensures.back_len, size, vector_within c.requires inv.0 here, inv.1) in
     let value = to_z-of_z w64 (get_or xs (before + c.taken-term.result.position) (pos 0)) (value_fits c.requires inv.0 here hats term) in
     let is = read seen.After-taken-term in
     rw next (
-      stepped c.requires inv.0 here hats term c.to_next-level_sum.ensures (rw (is, value) at c.add.ensures.high) (rw (is, value) at c.add.ensures.low),
+      stepped c.requires inv.0 here hats term c.next.new.self c.next.ensures (rw (is, value) at c.add.ensures.high) (rw (is, value) at c.add.ensures.low),
       omega (arith, c.split_at.ensures.back_len, inv.1),
       c.split_at.ensures.back ∙ ap₂ (λ (n : ℕ) (l : List ℤ). drop n l) size inv.2 ∙ drop-drop step before xs,
     )

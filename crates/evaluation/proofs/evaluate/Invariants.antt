@@ -8,7 +8,7 @@ use Rattle.evaluation.proofs.evaluate.Given as goal
 
 abbrev pub invariant-loop-hats : goal.invariant-loop-hats
 invariant-loop-hats l =
-    Walked l.fn.shape l.table (at l.coordinates) l.sum.high l.sum.low (length l.table - length l.rest) l.level_sum l.levels
+    Walked l.fn.shape l.table (at l.coordinates) l.sum.high l.sum.low (length l.table - length l.rest) l.vector
     × (length l.rest ≤ length l.table)
     × (l.rest ≡ drop (length l.table - length l.rest) l.table)
 

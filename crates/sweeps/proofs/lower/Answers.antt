@@ -8,7 +8,7 @@ use Rattle.numbering.specs.Number.{rank}
 use Rattle.cursors.proofs.Below.{cursors_below}
 use Rattle.lists.proofs.Blocks.{on_line, table_small}
 use Rattle.sweeps.proofs.Ranks.{Follows}
-use Rattle.sweeps.proofs.Standing.{Standing, rank_in, previous_follows, previous_standing, places, some_place, last_standing, last_of_table, vector_in}
+use Rattle.sweeps.proofs.Standing.{rank_in, previous_follows, previous_standing, places, some_place, last_standing, last_of_table, vector_in}
 use Rattle.sweeps.proofs.Meeting.{met}
 use Rattle.sweeps.proofs.Lowering.{Lowering, lowering_starts, lowering_room, lowering_few, lowering_next, lowering_turned, lowering_odds, lowering_walked, lowering_first, lowering_worked}
 use Rattle.sweeps.proofs.lower.Goals.{After-work-odd, After-previous}
