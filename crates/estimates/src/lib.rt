@@ -6,14 +6,13 @@ ghost use Rattle.surfaces.specs.Weights.{unit};
 ghost use Rattle.estimates.specs.Estimates.{check_forward, check_coordinates, estimate};
 
 use refusals::Refusal;
-use states::State;
+use states::{CheckedState, State};
 
 // Every axis is forward, else refused with 17 and the first that is not. (As short as a call of one function for this and `tables::check_sampled`.)
-fn check_forward(state: State) -> Result<(), Refusal>
-    requires { state.shape.axes ≤ 8 }
-    ensures { result ≡ check_forward state }
+fn check_forward(checked: CheckedState) -> Result<(), Refusal>
+    ensures { result ≡ check_forward checked.state }
 {
-    if let Some(first) = state.first_axis(false) {
+    if let Some(first) = checked.first_axis(false) {
         return Err(Refusal::StillSampled(first + 1));
     }
     Ok(())
@@ -39,8 +38,8 @@ fn check_coordinates(axes: u32, coordinates: &[u32]) -> Result<(), Refusal>
 pub fn estimate(state: State, table: &[i64], coordinates: &[u32]) -> Result<i64, Refusal>
     ensures { result ≡ estimate state table.now coordinates.now }
 {
-    states::check_state(state, table.len())?;
-    check_forward(state)?;
+    let checked = state.check(table.len())?;
+    check_forward(checked)?;
     let shape = state.shape;
     check_coordinates(shape.axes, coordinates)?;
     if !integers::all_in_limit(table) {

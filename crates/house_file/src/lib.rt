@@ -1,15 +1,16 @@
 // The reader of house files: a shape and its rates from bytes, into a lent buffer; and the shape alone.
 #![tactic(auto)]
 
-ghost use Rattle.std.specs.Prelude.{◌≡◌, length};
+ghost use Rattle.std.specs.Prelude.{◌≡◌, length, IfOk};
+ghost use Rattle.refusals.specs.Checks.{verdict};
 ghost use Rattle.house_numbers.specs.Steps.{read_in};
 ghost use Rattle.house_file.specs.Files.{read_head, shape_of_file, read_table, after_reading, filled_with, read_file};
-ghost use Rattle.house_file.specs.Steps.{check_places, table_in};
+ghost use Rattle.house_file.specs.Steps.{check_places, table_in, of_checked};
 
 use house_numbers::read_number;
 use house_rates::CheckedRates;
 use refusals::Refusal;
-use shapes::Shape;
+use shapes::{CheckedShape, Shape};
 
 // d and n, with the bytes after them.
 pub fn read_head(bytes: &[u8]) -> Result<(Shape, &[u8]), Refusal>
@@ -22,22 +23,23 @@ pub fn read_head(bytes: &[u8]) -> Result<(Shape, &[u8]), Refusal>
 
 // Refused with 1, 2 or 3: the shape, and fewer than N places.
 #[tactic(auto, unfolding(crate::specs::Steps::check_places))]
-fn check_places(shape: Shape, places: usize) -> Result<(), Refusal>
-    ensures { result ≡ check_places shape places }
+fn check_places(shape: Shape, places: usize) -> Result<CheckedShape, Refusal>
+    ensures verdict { verdict result ≡ check_places shape places }
+    ensures shape { IfOk result (λ checked. checked.shape ≡ shape) }
 {
-    shapes::check_shape(shape)?;
-    if (places as u64) < shapes::points_of(shape) {
+    let checked = shape.check()?;
+    if (places as u64) < checked.points() {
         return Err(Refusal::TableLength);
     }
-    Ok(())
+    Ok(checked)
 }
 
 // The checks of all that follows d and n: the shape, fewer than N places, then the rates.
 pub fn check_rest(rest: &[u8], shape: Shape, places: usize) -> Result<CheckedRates<'_>, Refusal>
     ensures { table_in shape result ≡ read_table places shape rest.now }
 {
-    check_places(shape, places)?;
-    CheckedRates::check(rest, shapes::points_of(shape) as usize)
+    let checked = check_places(shape, places)?;
+    CheckedRates::check(rest, checked.points() as usize)
 }
 
 // Once d and n are read: first all checks, then the rates into the buffer.
@@ -60,10 +62,9 @@ pub fn read(bytes: &[u8], table: &mut [i64]) -> Result<Shape, Refusal>
 
 // The shape that a file names, from its first two numbers alone.
 #[tactic(auto, unfolding(crate::specs::Files::shape_of_file, crate::specs::Files::head_checked))]
-pub fn shape_of(bytes: &[u8]) -> Result<Shape, Refusal>
-    ensures { result ≡ shape_of_file bytes.now }
+pub fn shape_of(bytes: &[u8]) -> Result<CheckedShape, Refusal>
+    ensures { of_checked result ≡ shape_of_file bytes.now }
 {
     let (shape, _) = read_head(bytes)?;
-    shapes::check_shape(shape)?; // the shape alone
-    Ok(shape)
+    shape.check() // the shape alone
 }

@@ -41,9 +41,9 @@ pub extern "C" fn numolefays_house_file_shape(
     match house_file::shape_of(bytes) {
         Err(r) => answers::refuse(r, place),
         Ok(named) => {
-            *axes = named.axes;
-            *level = named.level;
-            *points = shapes::points_of(named);
+            *axes = named.shape.axes;
+            *level = named.shape.level;
+            *points = named.points();
             answers::succeed(place)
         }
     }

@@ -12,7 +12,7 @@ ghost use Rattle.answers.specs.Answers.{shape_of, side_of, of_value, of_point, o
 pub extern "C" fn numolefays_count(axes: u32, level: u32, points: &mut u64, place: &mut u64) -> u32
     ensures { returned result place.new points.new ≡ of_value points.old (counted (shape_of axes level)) }
 {
-    let answer = shapes::count(answers::shape_of(axes, level));
+    let answer = answers::shape_of(axes, level).count();
     answers::hand(answer, points, place)
 }
 

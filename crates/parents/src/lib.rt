@@ -67,7 +67,7 @@ fn parent_on(t: usize, side: Side, p: Point) -> Option<Point>
 }
 
 // The parent of a point that is handed in as two lists, or none, the border.
-#[tactic(auto, unfolding(crate::specs::Parents::parent_of))]
+#[tactic(auto, using(points::proofs::Handed::lists_refused), unfolding(crate::specs::Parents::parent_of))]
 pub fn parent(
     shape: Shape,
     levels: &[u32],
@@ -77,8 +77,8 @@ pub fn parent(
 ) -> Result<Option<Point>, Refusal>
     ensures { result ≡ parent_of shape levels.now indices.now axis side }
 {
-    shapes::check_shape(shape)?;
-    shapes::check_axis(shape, axis)?;
-    let p = points::point_from(shape, levels, indices)?; // tests the shape once more
+    let checked = shape.check()?;
+    shape.check_axis(axis)?;
+    let p = points::point_in(checked, levels, indices)?;
     Ok(parent_on((axis - 1) as usize, side, p))
 }

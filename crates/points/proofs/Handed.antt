@@ -10,9 +10,9 @@ use Rattle.refusals.proofs.Passing.{result_passed, result_refused}
 use Rattle.shapes.specs.declared.Shape.{Shape}
 use Rattle.shapes.proofs.Checked.{InRange}
 use Rattle.points.specs.declared.Point.{Point}
-use Rattle.points.specs.Points.{check_point, point_of, point_from}
+use Rattle.points.specs.Points.{check_lists, check_point, point_of, point_in, point_from}
 use Rattle.points.specs.Steps.{PointIn}
-use Rattle.points.proofs.Passed.{point_passed, levels_by_value, indices_by_value, point_by_value}
+use Rattle.points.proofs.Passed.{Passes, passes_in, point_passed, levels_by_value, indices_by_value, point_by_value}
 
 pub record Handed (s : Shape) (ls is : List ℕ) (p : Point) : Type 0 where
   pub shape : InRange s
@@ -20,10 +20,23 @@ pub record Handed (s : Shape) (ls is : List ℕ) (p : Point) : Type 0 where
   pub levels : at p.levels ≡ at ls
   pub indices : at p.indices ≡ at is
 
+by_value : (s : Shape) (ls is : List ℕ) → Passes s ls is → Handed s ls is (point_of (at ls) (at is))
+by_value s ls is passes =
+    record {
+      shape = passes.shape;
+      inside = point_by_value passes;
+      levels = levels_by_value passes;
+      indices = indices_by_value passes;
+    }
+
 -- A point that was refused, by the check.
 pub turned_away : (s : Shape) (ls is : List ℕ) {r : Refusal} → point_from s ls is ≡ Err r → check_point s ls is ≡ Err r
 unfolding point_from
 turned_away s ls is {r} e = result_refused (check_point s ls is) (point_of (at ls) (at is)) r e
+
+pub lists_refused : (s : Shape) (ls is : List ℕ) {r : Refusal} → point_in s ls is ≡ Err r → check_lists s ls is ≡ Err r
+unfolding point_in
+lists_refused s ls is {r} e = result_refused (check_lists s ls is) (point_of (at ls) (at is)) r e
 
 module _ (s : Shape) (ls is : List ℕ) {p : Point} (e : point_from s ls is ≡ Ok p) where
   both : (check_point s ls is ≡ Ok tt) × (point_of (at ls) (at is) ≡ p)
@@ -34,12 +47,16 @@ module _ (s : Shape) (ls is : List ℕ) {p : Point} (e : point_from s ls is ≡ 
   point_checked = both.0
 
   pub handed : Handed s ls is p
-  handed =
-      let passes = point_passed s ls is point_checked in
-      rw (← both.1)
-      (record {
-        shape = passes.shape;
-        inside = point_by_value passes;
-        levels = levels_by_value passes;
-        indices = indices_by_value passes;
-      })
+  handed = rw (← both.1) (by_value s ls is (point_passed s ls is point_checked))
+
+-- Of a shape in range.
+module _ (s : Shape) (ls is : List ℕ) {p : Point} (e : point_in s ls is ≡ Ok p) where
+  given : (check_lists s ls is ≡ Ok tt) × (point_of (at ls) (at is) ≡ p)
+  unfolding point_in
+  given = result_passed (check_lists s ls is) (point_of (at ls) (at is)) p e
+
+  pub lists_checked : check_lists s ls is ≡ Ok tt
+  lists_checked = given.0
+
+  pub handed_in : InRange s → Handed s ls is p
+  handed_in range = rw (← given.1) (by_value s ls is (passes_in s ls is range lists_checked))

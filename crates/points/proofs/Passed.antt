@@ -48,16 +48,16 @@ module _ (s : Shape) (ls is : List ℕ) where
       let named = test_passed point NoPoint (next_passed (unless lengths ListLength) (unless point NoPoint) e) in
       (eqb-true (length ls) s.axes left, eqb-true (length is) s.axes right, is_point_lem named)
 
+  pub passes_in : InRange s → check_lists s ls is ≡ Ok tt → Passes s ls is
+  passes_in range e =
+      let lists = lists_passed e in
+      record { shape = range; levels = lists.0; indices = lists.1; point = lists.2 }
+
   pub point_passed : check_point s ls is ≡ Ok tt → Passes s ls is
   unfolding check_point
   point_passed e =
-      let lists = lists_passed (next_passed (check_shape s) (check_lists s ls is) e) in
-      record {
-        shape = passed_in_range s (first_passed (check_shape s) (check_lists s ls is) e);
-        levels = lists.0;
-        indices = lists.1;
-        point = lists.2;
-      }
+      passes_in (passed_in_range s (first_passed (check_shape s) (check_lists s ls is) e))
+      (next_passed (check_shape s) (check_lists s ls is) e)
 
 -- The point by value.
 module _ {s : Shape} {ls is : List ℕ} (p : Passes s ls is) where

@@ -28,6 +28,10 @@ eight f = f 0 ∷ f 1 ∷ f 2 ∷ f 3 ∷ f 4 ∷ f 5 ∷ f 6 ∷ f 7 ∷ []
 abbrev pub point_of : (ℕ → ℕ) → (ℕ → ℕ) → Point
 point_of l i = record { levels = eight l; indices = eight i }
 
+-- Of a shape that passes, it is refused with 7 or 9.
+unfoldable pub point_in : Shape → List ℕ → List ℕ → Result Point Refusal
+point_in s ls is = answer Err (check_lists s ls is) (Ok (point_of (at ls) (at is)))
+
 -- A point handed in as two lists: by value.
 unfoldable pub point_from : Shape → List ℕ → List ℕ → Result Point Refusal
 point_from s ls is = answer Err (check_point s ls is) (Ok (point_of (at ls) (at is)))

@@ -3,10 +3,10 @@
 
 ghost use Rattle.std.specs.Prelude.{◌≡◌, ◌≤◌, length};
 ghost use Rattle.numbering.specs.Point.{at, is_index, is_point};
-ghost use Rattle.points.specs.Points.{eight, check_lists, check_point, point_from};
+ghost use Rattle.points.specs.Points.{eight, check_lists, point_in, point_from};
 
 use refusals::Refusal;
-use shapes::Shape;
+use shapes::{CheckedShape, Shape};
 
 // A level and an index on each axis; places past the last axis are 0.
 #[derive(Clone, Copy)]
@@ -45,43 +45,41 @@ fn is_point(level: u32, levels: &[u32], indices: &[u32]) -> bool
 }
 
 // Refused with 7 or 9.
-fn check_lists(shape: Shape, levels: &[u32], indices: &[u32]) -> Result<(), Refusal>
-    requires { (shape.axes ≤ 8) × (shape.level ≤ 8) }
-    ensures { result ≡ check_lists shape levels.now indices.now }
+fn check_lists(shape: CheckedShape, levels: &[u32], indices: &[u32]) -> Result<(), Refusal>
+    ensures { result ≡ check_lists shape.shape levels.now indices.now }
 {
-    let axes = shape.axes as usize;
+    let axes = shape.shape.axes as usize;
     if levels.len() != axes {
         return Err(Refusal::ListLength);
     }
     if indices.len() != axes {
         return Err(Refusal::ListLength);
     }
-    if is_point(shape.level, levels, indices) {
+    if is_point(shape.shape.level, levels, indices) {
         Ok(())
     } else {
         Err(Refusal::NoPoint)
     }
 }
 
-// Refused with 1, 2, 7 or 9.
-#[tactic(auto, using(shapes::proofs::Checked::passed_in_range), unfolding(crate::specs::Points::check_point))]
-fn check_point(shape: Shape, levels: &[u32], indices: &[u32]) -> Result<(), Refusal>
-    ensures { result ≡ check_point shape levels.now indices.now }
+// A point of a checked shape that is handed in as two lists: by value.
+#[tactic(auto, unfolding(crate::specs::Points::point_in))]
+pub fn point_in(shape: CheckedShape, levels: &[u32], indices: &[u32]) -> Result<Point, Refusal>
+    ensures { result ≡ point_in shape.shape levels.now indices.now }
 {
-    shapes::check_shape(shape)?;
-    check_lists(shape, levels, indices)
-}
-
-// A point that is handed in as two lists: by value.
-#[tactic(auto, unfolding(crate::specs::Points::point_from))]
-pub fn point_from(shape: Shape, levels: &[u32], indices: &[u32]) -> Result<Point, Refusal>
-    ensures { result ≡ point_from shape levels.now indices.now }
-{
-    check_point(shape, levels, indices)?;
+    check_lists(shape, levels, indices)?;
     Ok(Point {
         levels: padded(levels),
         indices: padded(indices),
     })
+}
+
+// A point that is handed in as two lists: by value.
+#[tactic(auto, unfolding(crate::specs::Points::point_from, crate::specs::Points::check_point, crate::specs::Points::point_in))]
+pub fn point_from(shape: Shape, levels: &[u32], indices: &[u32]) -> Result<Point, Refusal>
+    ensures { result ≡ point_from shape levels.now indices.now }
+{
+    point_in(shape.check()?, levels, indices)
 }
 
 // What a list holds at a place, and 0 past its end.

@@ -7,6 +7,11 @@ use Rattle.refusals.specs.declared.Refusal.{Refusal}
 abbrev pub Verdict : Type 0
 Verdict = Result ⊤ Refusal
 
+-- The verdict of a call that also answers something.
+abbrev pub verdict : {A : Type 0} → Result A Refusal → Verdict
+verdict (Ok _) = Ok tt
+verdict (Err r) = Err r
+
 -- Refused, unless the test holds.
 abbrev pub unless : Bool → Refusal → Verdict
 unless true r = Ok tt

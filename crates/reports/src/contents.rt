@@ -38,7 +38,7 @@ pub fn put_table(shape: Shape, table: &mut [i64], out: &mut [u8]) -> usize
     requires { 81 + 43 * length table.old ≤ length out.old }
     ensures { Put (rates_text shape table.old) out.old 0 out.new result }
 {
-    match shapes::count(shape) {
+    match shape.count() {
         Err(why) => put_refused(why, out),
         Ok(count) => put_counted(shape, count, table, out),
     }

@@ -45,7 +45,7 @@ pub fn run(
 ) -> Result<State, Refusal>
     ensures { report result table.new numbers.new places.new ≡ run_calls state table.old directions.now axes.now numbers.old places.old }
 {
-    states::check_state(state, table.len())?;
+    state.check(table.len())?;
     let count = directions.len();
     if axes.len() != count || numbers.len() != count || places.len() != count {
         return Err(Refusal::ListLength);

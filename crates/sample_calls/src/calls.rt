@@ -162,7 +162,7 @@ fn call(
         b'F' => return answered(out, turns::hierarchize(state, table, axis), set),
         b'G' => return answered(out, turns::dehierarchize(state, table, axis), set),
         b'T' => return answered(out, run(out, state, l, indices, table)?, set),
-        b'C' => numbered(out, shapes::count(shape))?,
+        b'C' => numbered(out, shape.count())?,
         b'E' => numbered(out, estimates::estimate(state, table, levels))?,
         b'L' => located(
             out,

@@ -12,6 +12,7 @@ use Rattle.refusals.specs.declared.Refusal.TheVariants.{Axes, Level, TableLength
 use Rattle.refusals.specs.Checks.{unless}
 use Rattle.refusals.proofs.Passing.{first_passed, next_passed, test_passed}
 use Rattle.shapes.specs.declared.Shape.{Shape}
+use Rattle.shapes.specs.declared.CheckedShape.{CheckedShape}
 use Rattle.shapes.specs.Shapes.{check_shape, check_axis, points_of, check_length}
 
 pub record InRange (s : Shape) : Type 0 where
@@ -38,6 +39,10 @@ passed_in_range s e =
 pub in_range_passed : (s : Shape) → InRange s → check_shape s ≡ Ok tt
 unfolding check_shape
 in_range_passed s r = simp (le-leb 1 s.axes r.low, le-leb s.axes 8 r.high, le-leb s.level 8 r.top)
+
+-- The type of a checked shape says as much.
+pub checked_in_range : (c : CheckedShape) → InRange c.shape
+checked_in_range c = record { low = c.some; high = c.few; top = c.top }
 
 pub axis_in_range : (s : Shape) (axis : ℕ) → check_axis s axis ≡ Ok tt → (1 ≤ axis) × (axis ≤ s.axes)
 unfolding check_axis

@@ -1,7 +1,8 @@
 // Shapes: the check of a shape, the constant rows of binomials, the count of points, and the check of a table's length.
 #![tactic(auto)]
 
-ghost use Rattle.std.specs.Prelude.{◌≡◌, ◌≤◌, Ok};
+ghost use Rattle.std.specs.Prelude.{◌≡◌, ◌≤◌, IfOk};
+ghost use Rattle.refusals.specs.Checks.{verdict};
 ghost use Rattle.numbering.specs.Count.{vectors, start};
 ghost use Rattle.shapes.specs.Shapes.{check_shape, check_axis, points_of, check_length, counted};
 ghost use Rattle.shapes.specs.Rows.{Binomials};
@@ -30,35 +31,54 @@ const ROWS: [[u16; 9]; 8] = [
     [1, 8, 36, 120, 330, 792, 1716, 3432, 6435],
 ];
 
-// Refused with 1 or 2.
-pub fn check_shape(shape: Shape) -> Result<(), Refusal>
-    ensures { result ≡ check_shape shape }
-{
-    let axes = shape.axes;
-    let level = shape.level;
-    if axes < 1 {
-        return Err(Refusal::Axes);
-    }
-    if 8 < axes {
-        return Err(Refusal::Axes);
-    }
-    if 8 < level {
-        return Err(Refusal::Level);
-    }
-    Ok(())
+// A shape that the check passes: 1 to 8 axes, and a top level of at most 8.
+#[derive(Clone, Copy)]
+pub struct CheckedShape {
+    pub shape: Shape,
+    ghost some: { 1 ≤ shape.axes },
+    ghost few: { shape.axes ≤ 8 },
+    ghost top: { shape.level ≤ 8 },
 }
 
-// Refused with 5.
-pub fn check_axis(shape: Shape, axis: u32) -> Result<(), Refusal>
-    ensures { result ≡ check_axis shape axis }
-{
-    if axis < 1 {
-        return Err(Refusal::Axis(axis));
+impl Shape {
+    // Refused with 1 or 2.
+    pub fn check(self) -> Result<CheckedShape, Refusal>
+        ensures verdict { verdict result ≡ check_shape self }
+        ensures shape { IfOk result (λ checked. checked.shape ≡ self) }
+    {
+        let Shape { axes, level } = self;
+        if axes < 1 {
+            return Err(Refusal::Axes);
+        }
+        if 8 < axes {
+            return Err(Refusal::Axes);
+        }
+        if 8 < level {
+            return Err(Refusal::Level);
+        }
+        Ok(CheckedShape { shape: self })
     }
-    if shape.axes < axis {
-        return Err(Refusal::Axis(axis));
+
+    // Refused with 5.
+    pub fn check_axis(self, axis: u32) -> Result<(), Refusal>
+        ensures { result ≡ check_axis self axis }
+    {
+        if axis < 1 {
+            return Err(Refusal::Axis(axis));
+        }
+        if self.axes < axis {
+            return Err(Refusal::Axis(axis));
+        }
+        Ok(())
     }
-    Ok(())
+
+    // How many points it has.
+    #[tactic(auto, unfolding(crate::specs::Shapes::counted))]
+    pub fn count(self) -> Result<u64, Refusal>
+        ensures { result ≡ counted self }
+    {
+        Ok(self.check()?.points())
+    }
 }
 
 // The constant rows of binomials, which the counts are read from: built once and lent to what reads it.
@@ -94,30 +114,21 @@ impl Rows {
     }
 }
 
-// How many points a shape has that the check passes.
-pub fn points_of(shape: Shape) -> u64
-    requires { check_shape shape ≡ Ok tt }
-    ensures { result ≡ points_of shape }
-{
-    Rows::new().start(shape.axes, shape.level + 1)
-}
-
-// Refused with 3, for a shape that the check passes.
-pub fn check_length(shape: Shape, places: usize) -> Result<(), Refusal>
-    requires { check_shape shape ≡ Ok tt }
-    ensures { result ≡ check_length shape places }
-{
-    if places as u64 != points_of(shape) {
-        return Err(Refusal::TableLength);
+impl CheckedShape {
+    // How many points it has.
+    pub fn points(self) -> u64
+        ensures { result ≡ points_of self.shape }
+    {
+        Rows::new().start(self.shape.axes, self.shape.level + 1)
     }
-    Ok(())
-}
 
-// How many points a shape has.
-#[tactic(auto, unfolding(crate::specs::Shapes::counted))]
-pub fn count(shape: Shape) -> Result<u64, Refusal>
-    ensures { result ≡ counted shape }
-{
-    check_shape(shape)?;
-    Ok(points_of(shape))
+    // Refused with 3.
+    pub fn check_length(self, places: usize) -> Result<(), Refusal>
+        ensures { result ≡ check_length self.shape places }
+    {
+        if places as u64 != self.points() {
+            return Err(Refusal::TableLength);
+        }
+        Ok(())
+    }
 }

@@ -1,8 +1,8 @@
 // The state of a table: its shape and the axes that are forward, one bit for each.
 #![tactic(auto)]
 
-ghost use Rattle.std.specs.Prelude.{◌≡◌, ◌≤◌, ◌<◌, Ok};
-ghost use Rattle.shapes.specs.Shapes.{check_shape};
+ghost use Rattle.std.specs.Prelude.{◌≡◌, ◌≤◌, ◌<◌, IfOk};
+ghost use Rattle.refusals.specs.Checks.{verdict};
 ghost use Rattle.states.specs.States.{has, toggled, found_axis, check_bits, check_state};
 
 use refusals::Refusal;
@@ -13,6 +13,13 @@ use shapes::Shape;
 pub struct State {
     pub shape: Shape,
     pub forward: u8,
+}
+
+// A state that the check passes.
+#[derive(Clone, Copy)]
+pub struct CheckedState {
+    pub state: State,
+    ghost few: { state.shape.axes ≤ 8 },
 }
 
 impl State {
@@ -35,35 +42,36 @@ impl State {
         }
     }
 
+    // Refused with 14.
+    fn check_bits(self) -> Result<(), Refusal>
+        requires { self.shape.axes ≤ 8 }
+        ensures { result ≡ check_bits self }
+    {
+        if 1 << self.shape.axes <= u32::from(self.forward) {
+            return Err(Refusal::StrayBit);
+        }
+        Ok(())
+    }
+
+    // Refused with 1, 2, 14 or 3.
+    #[tactic(auto, unfolding(crate::specs::States::check_state))]
+    pub fn check(self, places: usize) -> Result<CheckedState, Refusal>
+        ensures verdict { verdict result ≡ check_state self places }
+        ensures state { IfOk result (λ checked. checked.state ≡ self) }
+    {
+        let shape = self.shape.check()?;
+        self.check_bits()?;
+        shape.check_length(places)?;
+        Ok(CheckedState { state: self })
+    }
+}
+
+impl CheckedState {
     // The first axis whose bit is the one looked for, counted from 0.
     pub fn first_axis(self, bit: bool) -> Option<u32>
-        requires { self.shape.axes ≤ 8 }
-        ensures { result ≡ found_axis bit self }
+        ensures { result ≡ found_axis bit self.state }
     {
-        (0..self.shape.axes).find(|&t| self.has_axis(t) == bit)
+        let state = self.state;
+        (0..state.shape.axes).find(|&t| state.has_axis(t) == bit)
     }
-}
-
-// Refused with 14.
-fn check_bits(state: State) -> Result<(), Refusal>
-    requires { check_shape state.shape ≡ Ok tt }
-    ensures { result ≡ check_bits state }
-{
-    let shape = state.shape;
-    let forward = u32::from(state.forward);
-    if 1 << shape.axes <= forward {
-        return Err(Refusal::StrayBit);
-    }
-    Ok(())
-}
-
-// Refused with 1, 2, 14 or 3.
-#[tactic(auto, unfolding(crate::specs::States::check_state))]
-pub fn check_state(state: State, places: usize) -> Result<(), Refusal>
-    ensures { result ≡ check_state state places }
-{
-    let shape = state.shape;
-    shapes::check_shape(shape)?;
-    check_bits(state)?;
-    shapes::check_length(shape, places)
 }

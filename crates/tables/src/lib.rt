@@ -10,15 +10,14 @@ ghost use Rattle.tables.specs.Tables.{check_table, rate_at, check_rates, check_r
 
 use refusals::Refusal;
 use shapes::Shape;
-use states::State;
+use states::{CheckedState, State};
 
 // Refused with 1, 2 or 3.
 #[tactic(auto, unfolding(crate::specs::Tables::check_table))]
 fn check_table(shape: Shape, table: &[i64]) -> Result<(), Refusal>
     ensures { result ≡ check_table shape table.now }
 {
-    shapes::check_shape(shape)?;
-    shapes::check_length(shape, table.len())
+    shape.check()?.check_length(table.len())
 }
 
 // All values are rates, seen without a branch for each.
@@ -112,11 +111,10 @@ pub fn adopt(shape: Shape, table: &[i64]) -> Result<State, Refusal>
 }
 
 // No axis is forward, else refused with 18 and the first that is. (Its twin in `estimates` differs in bit and refusal: one for both would be handed the two.)
-fn check_sampled(state: State) -> Result<(), Refusal>
-    requires { state.shape.axes ≤ 8 }
-    ensures { result ≡ check_sampled state }
+fn check_sampled(checked: CheckedState) -> Result<(), Refusal>
+    ensures { result ≡ check_sampled checked.state }
 {
-    if let Some(first) = state.first_axis(true) {
+    if let Some(first) = checked.first_axis(true) {
         return Err(Refusal::StillForward(first + 1));
     }
     Ok(())
@@ -163,10 +161,9 @@ fn divide(axes: u32, table: &mut [i64])
 pub fn unload(state: State, table: &mut [i64]) -> Result<(), Refusal>
     ensures { left result table.new ≡ unload state table.old }
 {
-    states::check_state(state, table.len())?;
-    check_sampled(state)?;
-    let shape = state.shape;
-    let axes = shape.axes;
+    let checked = state.check(table.len())?;
+    check_sampled(checked)?;
+    let axes = state.shape.axes;
     if !all_scaled(axes, table) {
         return Err(Refusal::Contents);
     }

@@ -75,8 +75,8 @@ impl Turning for Back {
 fn check_turn(state: State, places: usize, axis: u32) -> Result<(), Refusal>
     ensures { result ≡ check_turn state places axis }
 {
-    states::check_state(state, places)?;
-    shapes::check_axis(state.shape, axis)
+    state.check(places)?;
+    state.shape.check_axis(axis)
 }
 
 // A turn on a line's axis where it is accepted (back: where the forward turn that leads here is); else the table is as it was. All values are within the

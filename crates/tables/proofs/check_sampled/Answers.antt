@@ -9,18 +9,18 @@ use Rattle.tables.proofs.check_sampled.Goals as goal
 
 pub overflow_add-result : goal.overflow_add-result
 overflow_add-result c =
-    let found = some_first true c.args.state c.in-Some.first (sym c.first_axis.ensures ∙ c.in-Some.is) in
+    let found = some_first true c.args.checked.state c.in-Some.first (sym c.first_axis.ensures ∙ c.in-Some.is) in
     record { fits = omega arith }
 
 pub returns-in-Some : goal.returns-in-Some
 unfolding check_sampled
 returns-in-Some c =
-    let s = c.args.state in
+    let s = c.args.checked.state in
     let found = some_first true s c.in-Some.first (sym c.first_axis.ensures ∙ c.in-Some.is) in
     sym (axis_found true StillForward s c.in-Some.first found.0 found.1)
 
 pub returns : goal.returns
 unfolding check_sampled
 returns c =
-    let s = c.args.state in
+    let s = c.args.checked.state in
     sym (none_found true StillForward s _ refl (none_first true s (sym c.first_axis.ensures ∙ c.in_default.is)))

@@ -1,13 +1,7 @@
 -- `numolefays_house_file_shape` meets its contract: the call decides, a shape goes out with its points, and a refusal leaves the outputs.
 -- Assumes nothing.
-use mathlib.Core.Path.{sym, ◌∙◌}
-use Rattle.house_file.proofs.Heads.{shape_passes}
 use Rattle.answers.proofs.Handing.{beside}
 use Rattle.numolefays.proofs.file_calls.numolefays_house_file_shape.Goals as goal
-
-pub points_of-requires : goal.points_of-requires
-points_of-requires c =
-    shape_passes c.args.bytes.now c.in-Ok.named (sym c.shape_of.ensures ∙ c.in-Ok.is)
 
 pub returns-in-Err : goal.returns-in-Err
 returns-in-Err c =
@@ -17,5 +11,5 @@ returns-in-Err c =
 
 pub returns-in-Ok : goal.returns-in-Ok
 returns-in-Ok c =
-    rw (← c.shape_of.ensures, c.in-Ok.is, ← c.points_of.ensures)
+    rw (← c.shape_of.ensures, c.in-Ok.is, ← c.points.ensures)
     (beside _ c.succeed.ensures)
