@@ -36,11 +36,6 @@ module _ (s : Shape) (t : ℕ) (b : Side) (p : ℕ) where
     pub parent_there : is_border (level_on s p t) numerator_on ≡ false → PointOf s parent_levels parent_indices
     parent_there = zero_border.parent_there (numbering s) t b p h axis
 
-    -- A neighbour that there is lies off the border.
-    pub off_border : (neighbour s t b (suc p) ≡ 0 → ⊥) → is_border (level_on s p t) numerator_on ≡ false
-    unfolding neighbour
-    off_border = zero_border.off_border (numbered s) t b p h axis
-
     -- The border lies beside a point only where the neighbour's coordinate is 0 or 1.
     pub border_at : neighbour s t b (suc p) ≡ 0 → (numerator_on ≡ 0) ⊎ (numerator_on ≡ 2 ^ suc (level_on s p t))
     unfolding neighbour

@@ -6,12 +6,12 @@ use mathlib.Core.Bool.{Bool, true}
 use Prim.Native.Nat.{ℕ, zero, suc, ◌*◌, ◌^◌, ◌≤◌}
 use native.Mathlib.Nat.{le_of_eq}
 use native.Mathlib.Omega.{arith}
+use Rattle.std.proofs.lemmas.Int.{ints}
 use lib.IntN.{ℤ, nat_abs}
 use borrow.Author.Tests.{le-leb}
 use Rattle.naturals.proofs.Cases.{le_or_lt, true_or_false}
 use Rattle.numbering.specs.declared.Side.TheVariants.{Left, Right}
 use Rattle.integers.specs.Half.{limit, in_limit}
-use Rattle.integers.proofs.Linear.{leaf, ◌⊕◌, ⊖◌, size, size_of}
 use Rattle.hierarchy.specs.Grid.{Neighbours}
 use Rattle.hierarchy.proofs.Turned.{twice, turned}
 use Rattle.hierarchy.specs.Sets.{table_of}
@@ -36,24 +36,11 @@ eight_axes d h = omega (arith, grow_mono d 8 (2 ^ 31) h)
 module _ (nb : Neighbours) where
   turned_size : (t b : ℕ) (f : ℕ → ℤ) → ((p : ℕ) → nat_abs (f p) ≤ b) → (p : ℕ) → nat_abs (turned nb t f p) ≤ 4 * b
   unfolding turned
-  turned_size t b f small p =
-      let v = leaf (f p) in
-      let x = leaf (f (nb t Left p)) in
-      let y = leaf (f (nb t Right p)) in
-      omega (
-        arith,
-        size_of (v ⊕ v ⊕ ⊖ x ⊕ ⊖ y),
-        size (f p),
-        size (f (nb t Left p)),
-        size (f (nb t Right p)),
-        small p,
-        small (nb t Left p),
-        small (nb t Right p),
-      )
+  turned_size t b f small p = omega (arith, ints, small p, small (nb t Left p), small (nb t Right p))
 
   twice_size : (b : ℕ) (f : ℕ → ℤ) → ((p : ℕ) → nat_abs (f p) ≤ b) → (p : ℕ) → nat_abs (twice f p) ≤ 4 * b
   unfolding twice
-  twice_size b f small p = omega (arith, size_of (leaf (f p) ⊕ leaf (f p)), size (f p), small p)
+  twice_size b f small p = omega (arith, ints, small p)
 
   closed_size : (set : ℕ → Bool) (k b : ℕ) (r : ℕ → ℤ) → ((p : ℕ) → nat_abs (r p) ≤ b) → (p : ℕ) → nat_abs (closed nb set k r p) ≤ grow k b
   unfolding closed grow

@@ -4,9 +4,9 @@ use mathlib.Core.Path.{◌≡◌, refl, ap, ap₂, sym, ◌∙◌, fun_ext}
 use mathlib.Core.Bool.{Bool}
 use Prim.Native.Nat.{ℕ, zero, suc}
 use native.Mathlib.Omega.{arith}
+use Rattle.std.proofs.lemmas.Int.{ints}
 use lib.IntN.{ℤ}
 use Rattle.naturals.proofs.Cases.{true_or_false}
-use Rattle.integers.proofs.Linear.{leaf, ◌⊕◌, equal}
 use Rattle.hierarchy.specs.Grid.{Neighbours}
 use Rattle.hierarchy.specs.Sets.{table_of}
 use Rattle.hierarchy.proofs.Turned.{twice, plus, turned, turned_plus}
@@ -14,10 +14,7 @@ use Rattle.hierarchy.proofs.Closed.{closed, table_closed}
 
 twice_plus_at : (f g : ℕ → ℤ) (p : ℕ) → twice (plus f g) p ≡ plus (twice f) (twice g) p
 unfolding twice plus
-twice_plus_at f g p =
-    let a = leaf (f p) in
-    let b = leaf (g p) in
-    equal ((a ⊕ b) ⊕ (a ⊕ b)) ((a ⊕ a) ⊕ (b ⊕ b)) (omega arith)
+twice_plus_at f g p = omega (arith, ints)
 
 module _ (nb : Neighbours) where
   closed_plus : (set : ℕ → Bool) (k : ℕ) (r s : ℕ → ℤ) → closed nb set k (plus r s) ≡ plus (closed nb set k r) (closed nb set k s)

@@ -7,14 +7,13 @@ use mathlib.Core.Logic.{⊎_elim}
 use Prim.Native.Nat.{ℕ, zero, suc, ◌+◌, ◌-◌, ◌*◌, ◌/◌, ◌%◌, ◌≤◌, ◌<◌}
 use native.Mathlib.Nat.{suc-mul, mod-lt, div-add-mod', mul-le-mul, mul-le-mul_right, le_of_mul-le-mul_right, eq_of_mul-eq-mul_right, eq-zero-or-pos}
 use native.Mathlib.Omega.{arith}
+use Rattle.std.proofs.lemmas.Int.{ints}
 use lib.IntN.{ℤ, pos, negsuc, neg_ℤ, nat_abs, ◌+ℤ◌, ◌-ℤ◌, ◌*ℤ◌, neg_ℤ-neg_ℤ, +ℤ_idr}
 use borrow.Author.Tests.{le-leb, lt-leb, lt-ltb, le-ltb}
 use Rattle.naturals.proofs.Cases.{le_or_lt}
 use Rattle.integers.specs.Nearest.{nearest_up, nearest, apart, Nearest, step_up}
-use Rattle.integers.proofs.Linear.{leaf, ◌⊕◌, ⊖◌, equal, difference}
 use Rattle.integers.proofs.Floors.{still_below}
-use Rattle.integers.proofs.Products.{times_times, plus_times, neg_times, size_neg, size_negated, size_times, no_difference}
-use Rattle.integers.proofs.Sizes.{sum_size, difference_size}
+use Rattle.integers.proofs.Products.{times_times, plus_times, neg_times, size_neg, size_times, no_difference}
 
 -- ---- natural numbers
 
@@ -55,11 +54,7 @@ nearest_odd m (negsuc n) some = sym (neg_ℤ-neg_ℤ (pos (nearest_up m (suc n))
 -- Negated numbers are as far apart.
 apart_negated : (m : ℕ) (z q : ℤ) → apart m (neg_ℤ z) (neg_ℤ q) ≡ apart m z q
 apart_negated m z q =
-    ap nat_abs
-    (ap (λ (v : ℤ). v -ℤ neg_ℤ z) (neg_times q m)
-    ∙ (let a = leaf (q *ℤ pos m) in
-    equal (⊖ a ⊕ ⊖ (⊖ leaf z)) (⊖ (a ⊕ ⊖ leaf z)) (omega arith)))
-    ∙ size_negated (q *ℤ pos m -ℤ z)
+    omega (arith, ints, neg_times q m)
 
 -- What is said of a natural number and its nearest holds of every whole number, where it is said of sizes and distances alone.
 module _ (m : ℕ) (P : ℕ → ℕ → ℕ → Type 0) (above : (n : ℕ) → P n (apart m (pos n) (pos (nearest_up m n))) (nearest_up m n)) where
@@ -75,14 +70,14 @@ module _ (m : ℕ) (z : ℤ) (some : 0 < m) where
   pub nearest_half : 2 * apart m z (nearest m z) ≤ m
   nearest_half =
       by_size m (λ a e k. 2 * e ≤ m)
-      (λ n. omega (arith, difference (nearest_up m n * m) n, up_high m n some, up_low m n some))
+      (λ n. omega (arith, ints, up_high m n some, up_low m n some))
       z
 
   -- Where it lies just half a divisor away, it is further from zero than the number.
   half_away : 2 * apart m z (nearest m z) ≡ m → nat_abs z + apart m z (nearest m z) ≡ nat_abs (nearest m z) * m
   half_away =
       by_size m (λ a e k. 2 * e ≡ m → a + e ≡ k * m)
-      (λ n half. omega (arith, difference (nearest_up m n * m) n, up_high m n some, up_low m n some))
+      (λ n half. omega (arith, ints, up_high m n some, up_low m n some))
       z
 
 -- ---- the paper's words
@@ -90,28 +85,17 @@ module _ (m : ℕ) (z : ℤ) (some : 0 < m) where
 -- The distances of two multiples to a number are together at least what lies between the two.
 both_apart : (m : ℕ) (z p q : ℤ) → nat_abs (p -ℤ q) * m ≤ apart m z p + apart m z q
 both_apart m z p q =
-    let a = leaf (p *ℤ pos m) in
-    let b = leaf (q *ℤ pos m) in
     omega (
       arith,
+      ints,
       size_times (p -ℤ q) m,
-      ap nat_abs
-          (plus_times p (neg_ℤ q) m
-          ∙ ap (λ (v : ℤ). p *ℤ pos m +ℤ v) (neg_times q m)
-          ∙ equal (a ⊕ ⊖ b) ((a ⊕ ⊖ leaf z) ⊕ ⊖ (b ⊕ ⊖ leaf z)) (omega arith)),
-      difference_size (p *ℤ pos m -ℤ z) (q *ℤ pos m -ℤ z),
+      plus_times p (neg_ℤ q) m,
+      neg_times q m,
     )
 
 -- A multiple is no further from zero than the number and its distance to it.
 no_further : (m : ℕ) (z p : ℤ) → nat_abs p * m ≤ nat_abs z + apart m z p
-no_further m z p =
-    let a = leaf (p *ℤ pos m) in
-    omega (
-      arith,
-      size_times p m,
-      ap nat_abs (equal a (leaf z ⊕ (a ⊕ ⊖ leaf z)) (omega arith)),
-      sum_size z (p *ℤ pos m -ℤ z),
-    )
+no_further m z p = omega (arith, ints, size_times p m)
 
 same_or_apart : {A : Type 0} (p q : ℤ) → (p ≡ q → A) → (1 ≤ nat_abs (p -ℤ q) → A) → A
 same_or_apart p q same other =

@@ -4,8 +4,8 @@ use mathlib.Core.Path.{◌≡◌, refl, ap, ap₂, sym, ◌∙◌}
 use Prim.Native.Nat.{ℕ, zero, suc, ◌+◌, ◌*◌, ◌<◌}
 use native.Mathlib.Nat.{mul-add, mul_assoc, mul-one, zero-mul, eq_of_mul-eq-mul_right}
 use native.Mathlib.Omega.{arith}
-use lib.IntN.{ℤ, pos, negsuc, neg_ℤ, nat_abs, ◌+ℤ◌, ◌-ℤ◌, ◌*ℤ◌, neg_ℤ-+ℤ, neg_ℤ-neg_ℤ, *ℤ-zero, +ℤ_invr, +ℤ_idl, -ℤ-+ℤ_cancel}
-use Rattle.integers.proofs.Linear.{leaf, ◌⊕◌, equal}
+use Rattle.std.proofs.lemmas.Int.{ints}
+use lib.IntN.{ℤ, pos, negsuc, neg_ℤ, nat_abs, ◌+ℤ◌, ◌-ℤ◌, ◌*ℤ◌, neg_ℤ-+ℤ, neg_ℤ-neg_ℤ, *ℤ-zero, +ℤ_invr}
 
 pub times_plus : (z : ℤ) (a b : ℕ) → z *ℤ pos (a + b) ≡ z *ℤ pos a +ℤ z *ℤ pos b
 times_plus (pos n) a b = ap pos (mul-add n a b)
@@ -35,10 +35,7 @@ plus_times x y zero = rw (*ℤ-zero (x +ℤ y), *ℤ-zero x, *ℤ-zero y)
 plus_times x y (suc n) =
     times_suc (x +ℤ y) n
     ∙ ap (λ (v : ℤ). v +ℤ (x +ℤ y)) (plus_times x y n)
-    ∙ (let a = leaf (x *ℤ pos n) in
-    let b = leaf (y *ℤ pos n) in
-    equal (a ⊕ b ⊕ (leaf x ⊕ leaf y)) (a ⊕ leaf x ⊕ (b ⊕ leaf y)) (omega arith))
-    ∙ ap₂ ◌+ℤ◌ (sym (times_suc x n)) (sym (times_suc y n))
+    ∙ omega (arith, ints, times_suc x n, times_suc y n)
 
 pub size_neg : (k : ℕ) → nat_abs (neg_ℤ (pos k)) ≡ k
 size_neg zero = refl
@@ -54,11 +51,7 @@ size_times (negsuc m) n = size_neg (suc m * n)
 
 -- Numbers with no difference are the same.
 pub no_difference : (x y : ℤ) → nat_abs (x -ℤ y) ≡ 0 → x ≡ y
-no_difference x y e = sym (-ℤ-+ℤ_cancel x y) ∙ ap (λ (z : ℤ). z +ℤ y) (only_zero (x -ℤ y) e) ∙ +ℤ_idl y
-  where
-    only_zero : (z : ℤ) → nat_abs z ≡ 0 → z ≡ pos 0
-    only_zero (pos k) none = ap pos none
-    only_zero (negsuc k) none = absurd (omega arith)
+no_difference x y e = omega (arith, ints)
 
 -- A factor above 0 cancels.
 pub times_cancel : (x y : ℤ) (n : ℕ) → 0 < n → x *ℤ pos n ≡ y *ℤ pos n → x ≡ y

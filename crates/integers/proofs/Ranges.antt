@@ -3,11 +3,7 @@
 use Rattle.std.proofs.Common.{◌≡◌, suc, true, ◌&&◌, ℤ, pos, negsuc, arith, le-leb}
 use Rattle.std.specs.Ordering.{int_cmp, is_le}
 use Rattle.std.proofs.lemmas.Int.{ints}
-use lib.Signed.{le_z}
 use Rattle.integers.specs.Half.{limit, in_limit, is_rate, Within}
-
-le_is : (a b : ℤ) → is_le (int_cmp a b) ≡ le_z a b
-le_is a b = grind (arith, ints)
 
 -- From `-LIMIT` to `LIMIT`.
 pub limit_range : (z : ℤ) → is_le (int_cmp (negsuc 140737488355327) z) && is_le (int_cmp z (pos 140737488355328)) ≡ in_limit z

@@ -4,13 +4,13 @@ use mathlib.Core.Path.{◌≡◌, refl}
 use mathlib.Core.Bool.{true}
 use Prim.Native.Nat.{suc, ◌+◌, ◌^◌, ◌≤◌}
 use native.Mathlib.Omega.{arith}
+use Rattle.std.proofs.lemmas.Int.{ints}
 use lib.IntN.{ℤ, pos, negsuc, nat_abs, ◌+ℤ◌, ◌-ℤ◌}
 use lib.Signed.{shr_z}
 use mir.Syntax.{w64}
 use mir.Val.{SFits}
 use borrow.Author.Tests.{leb-true}
 use Rattle.integers.specs.Half.{half, limit, in_limit, is_rate}
-use Rattle.integers.proofs.Linear.{leaf, ◌⊕◌, ⊖◌, size, size_of}
 
 pub limit_size : (z : ℤ) → in_limit z ≡ true → nat_abs z ≤ 2 ^ 47
 unfolding in_limit
@@ -22,10 +22,10 @@ small_fits (pos n) h = record { sfits = omega arith }
 small_fits (negsuc n) h = record { sfits = omega arith }
 
 pub sum_size : (a b : ℤ) → nat_abs (a +ℤ b) ≤ nat_abs a + nat_abs b
-sum_size a b = omega (arith, size_of (leaf a ⊕ leaf b), size a, size b)
+sum_size a b = omega (arith, ints)
 
 pub difference_size : (a b : ℤ) → nat_abs (a -ℤ b) ≤ nat_abs a + nat_abs b
-difference_size a b = omega (arith, size_of (leaf a ⊕ ⊖ leaf b), size a, size b)
+difference_size a b = omega (arith, ints)
 
 pub half_size : (z : ℤ) → nat_abs (half z) ≤ nat_abs z
 unfolding half
@@ -51,11 +51,3 @@ module _ (a b : ℤ) (ha : in_limit a ≡ true) (hb : in_limit b ≡ true) where
 
   pub sum_fits : SFits w64 (a +ℤ b)
   sum_fits = small_fits (a +ℤ b) (omega (arith, sum_small))
-
-  pub half_fits : SFits w64 (half (a +ℤ b))
-  half_fits = small_fits (half (a +ℤ b)) (omega (arith, half_size (a +ℤ b), sum_small))
-
-  pub less_fits : (v : ℤ) → in_limit v ≡ true → SFits w64 (v -ℤ half (a +ℤ b))
-  less_fits v hv =
-      small_fits (v -ℤ half (a +ℤ b))
-      (omega (arith, difference_size v (half (a +ℤ b)), half_size (a +ℤ b), sum_small, limit_size v hv))

@@ -4,10 +4,10 @@ use mathlib.Core.Path.{◌≡◌, refl, ap, ap₂, sym, ◌∙◌}
 use Prim.Native.Nat.{ℕ, zero, suc, ◌+◌, ◌<◌}
 use native.Mathlib.Nat.{zero-add, add-zero, add-suc}
 use native.Mathlib.Omega.{arith}
+use Rattle.std.proofs.lemmas.Int.{ints}
 use lib.IntN.{ℤ, pos, neg_ℤ, ◌+ℤ◌, ◌*ℤ◌, +ℤ_idl, +ℤ_idr, neg_ℤ-+ℤ, zero-*ℤ}
 use Rattle.naturals.proofs.Cases.{eq_or_not}
 use Rattle.integers.specs.Total.{total}
-use Rattle.integers.proofs.Linear.{leaf, ◌⊕◌, equal}
 use Rattle.integers.proofs.Products.{plus_times}
 
 pub total_zero : (f : ℕ → ℤ) → total f 0 ≡ pos 0
@@ -35,12 +35,7 @@ total_none f (suc m) none =
 pub total_plus : (f g : ℕ → ℤ) (m : ℕ) → total (λ p. f p +ℤ g p) m ≡ total f m +ℤ total g m
 total_plus f g zero = rw (total_zero, total_zero f, total_zero g)
 total_plus f g (suc m) =
-    total_suc (λ p. f p +ℤ g p) m
-    ∙ ap (λ (z : ℤ). z +ℤ (f m +ℤ g m)) (total_plus f g m)
-    ∙ (let a = leaf (total f m) in
-    let b = leaf (total g m) in
-    equal (a ⊕ b ⊕ (leaf (f m) ⊕ leaf (g m))) (a ⊕ leaf (f m) ⊕ (b ⊕ leaf (g m))) (omega arith))
-    ∙ ap₂ ◌+ℤ◌ (sym (total_suc f m)) (sym (total_suc g m))
+    omega (arith, ints, total_suc (λ p. f p +ℤ g p) m, total_plus f g m, total_suc f m, total_suc g m)
 
 pub total_times : (f : ℕ → ℤ) (k m : ℕ) → total (λ p. f p *ℤ pos k) m ≡ total f m *ℤ pos k
 total_times f k zero =

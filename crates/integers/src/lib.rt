@@ -84,10 +84,10 @@ pub fn odd(sum: i64) -> u64
     (sum & 1) as u64
 }
 
-// A value less half the sum of two, all within the limit. (A forward step at that sum; the limit of the three stands here once, for those that ask no more.)
+// A value less half the sum of two, all within the limit.
 pub fn less_half(v: i64, a: i64, b: i64) -> i64
     requires { (in_limit v ≡ true) × (in_limit a ≡ true) × (in_limit b ≡ true) }
     ensures { result ≡ v -ℤ half (a +ℤ b) }
 {
-    v - ((a + b) >> 1)
+    Forward::step(v, a + b)
 }

@@ -4,9 +4,9 @@
 use mathlib.Core.Path.{◌≡◌, refl, ap, ap₂, sym, ◌∙◌}
 use Prim.Native.Nat.{ℕ, zero, suc, ◌≤◌, ◌<◌}
 use native.Mathlib.Omega.{arith}
+use Rattle.std.proofs.lemmas.Int.{ints}
 use lib.IntN.{ℤ, pos, neg_ℤ, ◌+ℤ◌, ◌*ℤ◌, zero-*ℤ}
 use Rattle.naturals.proofs.Cases.{eq_or_not}
-use Rattle.integers.proofs.Linear.{leaf, ◌⊕◌, ⊖◌, equal, known}
 use Rattle.numbering.specs.declared.Side.{Side}
 use Rattle.numbering.specs.declared.Side.TheVariants.{Left, Right}
 use Rattle.hierarchy.specs.Grid.{Neighbours, Grid}
@@ -69,20 +69,7 @@ module _ (nb : Neighbours) where
     -- A value is determined by its turn and the parents' values.
     from_turn : (t : ℕ) (f g : ℕ → ℤ) (p : ℕ) → turned nb t f p ≡ turned nb t g p → ((b : Side) → f (nb t b p) ≡ g (nb t b p)) → f p ≡ g p
     unfolding turned
-    from_turn t f g p e parent =
-        let a = leaf (f (nb t Left p)) in
-        let b = leaf (f (nb t Right p)) in
-        let v = leaf (f p) in
-        let x = leaf (g (nb t Left p)) in
-        let y = leaf (g (nb t Right p)) in
-        let w = leaf (g p) in
-        equal v w
-        (omega (
-          arith,
-          known (v ⊕ v ⊕ ⊖ a ⊕ ⊖ b) (w ⊕ w ⊕ ⊖ x ⊕ ⊖ y) e,
-          known a x (parent Left),
-          known b y (parent Right),
-        ))
+    from_turn t f g p e parent = omega (arith, ints, e, parent Left, parent Right)
 
     turned_injective_to : (k t : ℕ) (f g : ℕ → ℤ) → f 0 ≡ g 0 → Agree m (turned nb t f) (turned nb t g) →
         (p : ℕ) → p ≤ m → depth t p < k → f p ≡ g p

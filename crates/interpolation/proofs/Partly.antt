@@ -7,13 +7,13 @@ use mathlib.Core.Bool.{Bool, true, false, ◌&&◌}
 use Prim.Native.Nat.{ℕ, zero, suc, ◌+◌, ◌*◌, ◌<◌}
 use native.Mathlib.Nat.{zero-mul}
 use native.Mathlib.Omega.{arith}
+use Rattle.std.proofs.lemmas.Int.{ints}
 use lib.IntN.{ℤ, pos, ◌+ℤ◌, ◌*ℤ◌}
 use Rattle.naturals.specs.Sum.{prod_to}
 use Rattle.std.specs.Prelude.{if◌then◌else◌}
 use Rattle.naturals.specs.Test.{all}
 use Rattle.naturals.proofs.Cases.{eq_or_not, true_or_false}
 use Rattle.naturals.proofs.Tests.{all_zero, all_suc, all_at, all_from}
-use Rattle.integers.proofs.Linear.{leaf, ◌⊕◌, ⊖◌, equal, known}
 use Rattle.numbering.specs.declared.Side.{Side}
 use Rattle.numbering.specs.declared.Side.TheVariants.{Left, Right}
 use Rattle.hierarchy.specs.Grid.{Neighbours}
@@ -190,8 +190,4 @@ module _ (m d : ℕ) (w : Weights) (same : Agreement) where
           (λ p h. factors_turn set other p h change)
           ∙ weighted_sum_plus m c (λ p. left p + right p) (λ p. after p * (u + u))
           ∙ ap₂ ◌+ℤ◌ (weighted_sum_plus m c left right) (weighted_sum_times m c after (u + u)) in
-          let a = leaf (weighted_sum m c here) in
-          let l = leaf (weighted_sum m c left) in
-          let r = leaf (weighted_sum m c right) in
-          let o = leaf (weighted_sum m c after *ℤ pos (u + u)) in
-          equal (a ⊕ a ⊕ ⊖ l ⊕ ⊖ r) o (omega (arith, known (a ⊕ a) (l ⊕ r ⊕ o) sums))
+          omega (arith, ints, sums)

@@ -7,11 +7,11 @@ use Prim.Native.Nat.{ℕ, zero, suc, ◌+◌, ◌%◌, ◌^◌, ◌≤◌, ◌<�
 use native.Mathlib.Nat.{pow-zero, pow-succ', one-le-pow}
 use native.Mathlib.Omega.{arith}
 use lib.Dec.{ltb, eqb}
+use Rattle.std.proofs.lemmas.Int.{ints}
 use lib.IntN.{ℤ, pos, negsuc, ◌+ℤ◌, ◌*ℤ◌}
 use borrow.Author.Tests.{lt-ltb, le-ltb, eq-eqb, ne_eqb, eqb-true}
 use Rattle.naturals.proofs.Cases.{le_or_lt}
 use Rattle.integers.specs.Half.{half, is_even}
-use Rattle.integers.proofs.Linear.{leaf, ◌⊕◌, ⊖◌, equal, known}
 use Rattle.numbering.specs.declared.Side.TheVariants.{Left, Right}
 use Rattle.hierarchy.specs.Grid.{Neighbours, Grid}
 use Rattle.hierarchy.specs.Turns.{sum_on, forward}
@@ -94,12 +94,7 @@ forward_even : (nb : Neighbours) (t : ℕ) (f : ℕ → ℤ) (p : ℕ) → is_ev
     forward nb t f p +ℤ forward nb t f p ≡ turned nb t f p
 unfolding forward turned sum_on
 forward_even nb t f p e =
-    let v = leaf (f p) in
-    let h = leaf (half (f (nb t Left p) +ℤ f (nb t Right p))) in
-    let a = leaf (f (nb t Left p)) in
-    let b = leaf (f (nb t Right p)) in
-    equal (v ⊕ ⊖ h ⊕ (v ⊕ ⊖ h)) (v ⊕ v ⊕ ⊖ a ⊕ ⊖ b)
-    (omega (arith, known (h ⊕ h) (a ⊕ b) (half_even (f (nb t Left p) +ℤ f (nb t Right p)) e)))
+    omega (arith, ints, half_even (f (nb t Left p) +ℤ f (nb t Right p)) e)
 
 module _ (m d u : ℕ) (nb : Neighbours) (depth : ℕ → ℕ → ℕ) (grid : Grid m nb depth) (w : Weights) (same : Agreement)
     (hats : Hats m d u nb w same) where

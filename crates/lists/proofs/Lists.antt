@@ -31,7 +31,7 @@ use Rattle.neighbours.specs.Steps.{sparse_of, Below}
 use Rattle.neighbours.proofs.Seeing.{Seen, seen, vector_of}
 use Rattle.neighbours.proofs.Beside.{end_inside, parent_before, flat}
 use Rattle.lists.specs.Lists.{between, stepped_at, stepped_between, list_worked}
-use Rattle.lists.specs.Steps.{OnAxis, Within, RunStepped, Stepped, Workable, BlockAt}
+use Rattle.lists.specs.Steps.{OnAxis, NoLarger, RunStepped, Stepped, Workable, BlockAt}
 use Rattle.lists.proofs.Between.{between_low, between_inside, between_high}
 use Rattle.lists.proofs.Joining.{none_stepped, stepped_few, run_joins, part_joins}
 use Rattle.lists.proofs.Blocks.{table_small}
@@ -158,7 +158,7 @@ module _ (v : Subspace) where
 
       module _ {ahead : Bool} {k : ℕ} {ys : List ℤ} (done : Stepped ahead (sparse_of v.line) v.line.place v.start (block_at v beyond) xs k ys) where
         -- What the next block asks.
-        pub workable : {starts : List ℕ} → Below v starts → 1 ≤ v.own → Within (2 ^ 60) xs → Workable v starts (block_at v beyond) ys
+        pub workable : {starts : List ℕ} → Below v starts → 1 ≤ v.own → NoLarger (2 ^ 60) xs → Workable v starts (block_at v beyond) ys
         workable below moves within =
             record {
               below = below;

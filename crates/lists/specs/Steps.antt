@@ -18,8 +18,8 @@ pub record OnAxis (sh : Shape) (t : ℕ) (xs : List ℤ) : Type 0 where
   pub long : length xs ≡ points_of sh
 
 -- All values of a table are at most b from zero.
-abbrev pub Within : ℕ → List ℤ → Type 0
-Within b xs = (code : ℕ) → nat_abs (value_at xs code) ≤ b
+abbrev pub NoLarger : ℕ → List ℤ → Type 0
+NoLarger b xs = (code : ℕ) → nat_abs (value_at xs code) ≤ b
 
 -- The value of the i-th of the points from number a on.
 abbrev pub value_in : List ℤ → ℕ → ℕ → ℤ

@@ -27,7 +27,7 @@ use Rattle.neighbours.specs.declared.subspaces.Line.{Line}
 use Rattle.neighbours.specs.declared.subspaces.Subspace.{Subspace}
 use Rattle.neighbours.specs.Steps.{sparse_of}
 use Rattle.lists.specs.Lists.{odd_sums, list_worked, first_in, end_of, whole_turn, came_to, ListTurned}
-use Rattle.lists.specs.Steps.{Within}
+use Rattle.lists.specs.Steps.{NoLarger}
 use Rattle.lists.proofs.Blocks.{on_line}
 use Rattle.sweeps.specs.Sweeps.{lists_worked}
 use Rattle.sweeps.proofs.Ranks.{first_at, Follows, first_of_all}
@@ -67,7 +67,7 @@ module _ (line : Line) (xs : List ℤ) (long : length xs ≡ points_of (sparse_o
 
   module _ {sum b k odd : ℕ} {ys : List ℤ} (s : Lowering line xs sum b k odd ys) where
     -- The values have room for a step.
-    pub lowering_room : Within (2 ^ 59) xs → Within (2 ^ 60) ys
+    pub lowering_room : NoLarger (2 ^ 59) xs → NoLarger (2 ^ 60) ys
     lowering_room small =
         parted_within _ xs (turned_on line xs) long turned_long k ys s.parted (2 ^ 60)
         (λ code. omega (arith, small code))

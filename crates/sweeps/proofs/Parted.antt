@@ -13,7 +13,7 @@ use Rattle.hierarchy.specs.Turns.{value_at, values_of}
 use Rattle.hierarchy.proofs.Values.{value_zero, value_past, values_of_value}
 use Rattle.hierarchy.proofs.Sweeps.{list_of_values}
 use Rattle.lists.specs.Lists.{between}
-use Rattle.lists.specs.Steps.{Within}
+use Rattle.lists.specs.Steps.{NoLarger}
 use Rattle.lists.proofs.Between.{between_low, between_inside, between_high}
 
 pub record Parted (m k : ℕ) (us vs ys : List ℤ) : Type 0 where
@@ -56,7 +56,7 @@ module _ (m : ℕ) (us vs : List ℤ) (us_long : length us ≡ m) (vs_long : len
     below_codes (suc p) h = sym (parted.below p (omega arith))
 
     -- No value is larger than those of the two tables.
-    pub parted_within : (b : ℕ) → Within b us → Within b vs → Within b ys
+    pub parted_within : (b : ℕ) → NoLarger b us → NoLarger b vs → NoLarger b ys
     parted_within b us_small vs_small zero = rw (value_zero ys) (omega arith)
     parted_within b us_small vs_small (suc p) =
         le_or_lt k p

@@ -29,7 +29,7 @@ use Rattle.neighbours.specs.declared.subspaces.Line.{Line}
 use Rattle.neighbours.specs.declared.subspaces.Subspace.{Subspace}
 use Rattle.neighbours.specs.Steps.{sparse_of}
 use Rattle.lists.specs.Lists.{odd_sums, list_worked, first_in, end_of, whole_turn, came_to, ListTurned}
-use Rattle.lists.specs.Steps.{Within}
+use Rattle.lists.specs.Steps.{NoLarger}
 use Rattle.lists.proofs.Blocks.{on_line}
 use Rattle.sweeps.specs.Sweeps.{lists_worked}
 use Rattle.sweeps.proofs.Ranks.{first_at, Follows, last_of_all}
@@ -73,7 +73,7 @@ module _ (line : Line) (xs : List ℤ) (long : length xs ≡ points_of (sparse_o
 
   module _ {sum b k odd : ℕ} {ys : List ℤ} (s : Raising line xs sum b k odd ys) where
     -- The values have room for a step.
-    pub raising_room : Within (2 ^ 55) xs → Within (2 ^ 60) ys
+    pub raising_room : NoLarger (2 ^ 55) xs → NoLarger (2 ^ 60) ys
     raising_room small =
         parted_within _ (former_on line xs) xs former_long long k ys s.parted (2 ^ 60)
         (λ code. omega (arith, former_within (sparse_of line) line.place xs (2 ^ 55) long few_levels small code))

@@ -19,7 +19,7 @@ use Rattle.shapes.specs.declared.Shape.{Shape}
 use Rattle.grids.specs.Grids.{neighbour, height}
 use Rattle.grids.specs.Turned.{turned_table, former_table}
 use Rattle.grids.proofs.Turned.{turned_holds, former_holds}
-use Rattle.lists.specs.Steps.{Within}
+use Rattle.lists.specs.Steps.{NoLarger}
 
 -- ---- tables as functions
 
@@ -54,7 +54,7 @@ module _ (nb : Neighbours) (t b : ℕ) (f : ℕ → ℤ) (small : (p : ℕ) → 
 -- ---- tables of a shape
 
 module _ (s : Shape) (t : ℕ) (xs : List ℤ) (b : ℕ) (long : length xs ≡ points_of s) where
-  pub turned_within : Within b xs → Within (2 * b) (turned_table s t xs)
+  pub turned_within : NoLarger b xs → NoLarger (2 * b) (turned_table s t xs)
   turned_within small code =
       omega (
         arith,
@@ -62,7 +62,7 @@ module _ (s : Shape) (t : ℕ) (xs : List ℤ) (b : ℕ) (long : length xs ≡ p
         forward_size (neighbour s) t b (value_at xs) small code,
       )
 
-  pub former_within : height s ≤ 9 → Within b xs → Within (10 * b) (former_table s t xs)
+  pub former_within : height s ≤ 9 → NoLarger b xs → NoLarger (10 * b) (former_table s t xs)
   former_within low small code =
       omega (
         arith,

@@ -7,7 +7,7 @@ ghost use Rattle.grids.specs.Turned.{turned_table, former_table};
 ghost use Rattle.walks.specs.Walks.{walk_up, walk_down};
 ghost use Rattle.neighbours.specs.Steps.{sparse_of};
 ghost use Rattle.lists.specs.Lists.{odd_sums};
-ghost use Rattle.lists.specs.Steps.{Within};
+ghost use Rattle.lists.specs.Steps.{NoLarger};
 ghost use Rattle.sweeps.specs.Sweeps.{lists_worked};
 
 use cursors::Starts;
@@ -17,7 +17,7 @@ use vectors::LevelVector;
 
 // The forward turn of a table, whether or not it is accepted: the level lists from the last down. Answers how many sums were odd.
 pub fn lower(line: Line, table: &mut [i64]) -> u64
-    requires { (length table.old ≡ points_of (sparse_of line)) × Within (2 ^ 59) table.old }
+    requires { (length table.old ≡ points_of (sparse_of line)) × NoLarger (2 ^ 59) table.old }
     ensures walked { table.new ≡ lists_worked true (sparse_of line) line.place (walk_down line.axes line.level) table.old }
     ensures turned { table.new ≡ turned_table (sparse_of line) line.place table.old }
     ensures odds { result ≡ odd_sums (sparse_of line) line.place table.old (points_of (sparse_of line)) }
@@ -45,7 +45,7 @@ pub fn lower(line: Line, table: &mut [i64]) -> u64
 // The table that a forward turn takes to this one, whether or not that turn is accepted: the level lists from the first up. Answers how many sums were odd.
 // (A loop of its own: here the cursors step on after the work on a list, there they step back before it; shared would be the work and the count alone.)
 pub fn raise(line: Line, table: &mut [i64]) -> u64
-    requires { (length table.old ≡ points_of (sparse_of line)) × Within (2 ^ 55) table.old }
+    requires { (length table.old ≡ points_of (sparse_of line)) × NoLarger (2 ^ 55) table.old }
     ensures walked { table.new ≡ lists_worked false (sparse_of line) line.place (walk_up line.axes line.level) table.old }
     ensures turned { table.new ≡ former_table (sparse_of line) line.place table.old }
     ensures odds { result ≡ odd_sums (sparse_of line) line.place table.new (points_of (sparse_of line)) }

@@ -26,14 +26,14 @@ use Rattle.grids.specs.Grids.{neighbour}
 use Rattle.grids.specs.Turned.{turned_table}
 use Rattle.grids.proofs.Turned.{turned_length}
 use Rattle.lists.specs.Lists.{odd_at, odd_sums}
-use Rattle.lists.specs.Steps.{Within}
+use Rattle.lists.specs.Steps.{NoLarger}
 use Rattle.turns.specs.Turns.{is_accepted}
 
 -- All values of a table are within the content limit.
 abbrev pub in_limits : List ℤ → Bool
 in_limits xs = all (content_at xs) (length xs)
 
-pub contents_within : (xs : List ℤ) → in_limits xs ≡ true → Within (2 ^ 47) xs
+pub contents_within : (xs : List ℤ) → in_limits xs ≡ true → NoLarger (2 ^ 47) xs
 unfolding content_at value_at
 contents_within xs e zero = omega arith
 contents_within xs e (suc p) =

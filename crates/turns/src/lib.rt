@@ -8,7 +8,7 @@ ghost use Rattle.shapes.specs.Shapes.{points_of};
 ghost use Rattle.states.specs.After.{after};
 ghost use Rattle.neighbours.specs.Steps.{sparse_of};
 ghost use Rattle.lists.specs.Lists.{whole_turn, odd_sums};
-ghost use Rattle.lists.specs.Steps.{Within};
+ghost use Rattle.lists.specs.Steps.{NoLarger};
 ghost use Rattle.turns.specs.Turns.{check_turn, forward_turn, back_turn};
 ghost use Rattle.turns.specs.Steps.{tried, tried_on, marked_as, turn_on};
 
@@ -21,13 +21,13 @@ use states::State;
 pub trait Turning: Direction {
     // The turn of a table, whether or not it is accepted; answers how many sums were odd of the table that is not forward on the axis.
     fn sweep(line: Line, table: &mut [i64]) -> u64
-        requires { (length table.old ≡ points_of (sparse_of line)) × Within (2 ^ 55) table.old }
+        requires { (length table.old ≡ points_of (sparse_of line)) × NoLarger (2 ^ 55) table.old }
         ensures turned { table.new ≡ whole_turn Self.ahead (sparse_of line) line.place table.old }
         ensures odds { result ≡ odd_sums (sparse_of line) line.place (if Self.ahead then table.old else table.new) (points_of (sparse_of line)) };
 
     // The turn that undoes it.
     fn undo(line: Line, table: &mut [i64])
-        requires { (length table.old ≡ points_of (sparse_of line)) × Within (2 ^ 55) table.old }
+        requires { (length table.old ≡ points_of (sparse_of line)) × NoLarger (2 ^ 55) table.old }
         ensures { table.new ≡ whole_turn (not Self.ahead) (sparse_of line) line.place table.old };
 
     // The state that it leaves; refused where the axis is turned already.

@@ -21,7 +21,7 @@ use Rattle.grids.specs.Grids.{neighbour}
 use Rattle.grids.specs.Turned.{turned_table}
 use Rattle.grids.proofs.Turned.{turned_length, turned_holds}
 use Rattle.tables.specs.Tables.{times}
-use Rattle.lists.specs.Steps.{Within}
+use Rattle.lists.specs.Steps.{NoLarger}
 use Rattle.sweeps.proofs.Room.{turned_within}
 use Rattle.turns.proofs.Accepting.{contents_within}
 use Rattle.whole.specs.Whole.{coefficients_of}
@@ -78,14 +78,14 @@ module _ (s : Shape) where
 -- ---- room for a turn
 
 module _ (s : Shape) (k : ℕ) (xs : List ℤ) where
-  pub room_first : InTable s xs → Within (2 ^ (47 + k)) xs
+  pub room_first : InTable s xs → NoLarger (2 ^ (47 + k)) xs
   room_first i code = omega (arith, contents_within xs i.contents code, pow_mono {i = 47} {j = 47 + k} (omega arith))
 
-  pub room_next : length xs ≡ points_of s → Within (2 ^ (47 + k)) xs → Within (2 ^ (47 + (k + 1))) (turned_table s k xs)
+  pub room_next : length xs ≡ points_of s → NoLarger (2 ^ (47 + k)) xs → NoLarger (2 ^ (47 + (k + 1))) (turned_table s k xs)
   room_next len w code =
       let next : 47 + (k + 1) ≡ suc (47 + k) = omega arith in
       omega (arith, turned_within s k xs (2 ^ (47 + k)) len w code, ap (λ (n : ℕ). 2 ^ n) next, two-pow-succ (47 + k))
 
   -- There is room on each of eight axes.
-  pub room_there : InRange s → k < s.axes → Within (2 ^ (47 + k)) xs → Within (2 ^ 59) xs
+  pub room_there : InRange s → k < s.axes → NoLarger (2 ^ (47 + k)) xs → NoLarger (2 ^ 59) xs
   room_there range h w code = omega (arith, w code, pow_mono {i = 47 + k} {j = 59} (omega (arith, range.high)))

@@ -4,7 +4,7 @@ use mathlib.Core.Path.{◌≡◌}
 use Prim.Native.Nat.{◌+◌, ◌-◌, ◌^◌}
 use lib.ListN.{length}
 use Rattle.shapes.specs.Shapes.{points_of}
-use Rattle.lists.specs.Steps.{Within}
+use Rattle.lists.specs.Steps.{NoLarger}
 use Rattle.whole.specs.Steps.{ascent}
 use Rattle.whole.proofs.climb.Given as goal
 
@@ -12,5 +12,5 @@ abbrev pub invariant-loop-k : goal.invariant-loop-k
 invariant-loop-k l =
     let shape = l.fn.shape in
     (length l.table ≡ points_of shape)
-    × Within (2 ^ (47 + l.k)) l.table
+    × NoLarger (2 ^ (47 + l.k)) l.table
     × (ascent (shape.axes - l.k) l.k shape l.table ≡ ascent (shape.axes - l.fn.from) l.fn.from shape l.initial.table)
