@@ -4,7 +4,7 @@
 ghost use Rattle.std.specs.Prelude.{◌≡◌, ◌<◌};
 ghost use Rattle.numbering.specs.Point.{at};
 ghost use Rattle.component_grids.specs.Component.{across, points_to};
-ghost use Rattle.component_boxes.specs.Order.{widest, centre};
+ghost use Rattle.component_boxes.specs.Order.{widest};
 ghost use Rattle.component_sweeps.specs.Steps.{tops_of};
 ghost use Rattle.component_order.specs.InOrder.{Loaded, in_order};
 ghost use Rattle.component_order.specs.Steps.{MixedOn, worked_on, PartsOf};
@@ -95,17 +95,6 @@ fn work(b: &GridBox, from: usize, to: usize, table: &mut [i64])
     work(&parts.middle, parts.cut, to, table);
 }
 
-// The position of the middle point of the grid.
-fn middle_point(grid: &Layout) -> usize
-    ensures { result ≡ centre grid.now.axes (tops_of grid.now) }
-{
-    let mut p = 0;
-    for t in 0..grid.axes {
-        p += ((1 << grid.tops[t]) - 1) * grid.strides[t];
-    }
-    p
-}
-
 // Rates to coefficients: every axis of the whole grid, in the order of the splits.
 pub fn in_order(grid: &Layout, table: &mut [i64])
     requires { Loaded grid.now.axes (tops_of grid.now) table.old }
@@ -114,7 +103,7 @@ pub fn in_order(grid: &Layout, table: &mut [i64])
     let whole = GridBox {
         grid,
         levels: grid.tops,
-        centre: middle_point(grid),
+        centre: grid.half_span(&grid.tops),
     };
     work(&whole, 0, grid.axes, table);
 }

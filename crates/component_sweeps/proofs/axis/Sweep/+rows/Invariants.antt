@@ -1,8 +1,9 @@
 -- `Sweep::rows` meets its contract: it works down the axes to single lines, and before each turn of its loop the rows of the places passed are turned.
 -- Assumes nothing.
-use Rattle.component_sweeps.specs.Steps.{Turned, turn}
+use Rattle.component_sweeps.specs.Steps.{Turned}
+use Rattle.component_sweeps.specs.SweepSteps.{turn}
 use Rattle.component_sweeps.proofs.Rowing.{Upto}
-use Rattle.component_sweeps.proofs.Sweep.+rows.Given as goal
+use Rattle.component_sweeps.proofs.axis.Sweep.+rows.Given as goal
 
 abbrev pub decreases-rows : goal.decreases-rows
 decreases-rows l = l.j

@@ -1,6 +1,6 @@
 use Rattle.std.proofs.Common.{arith}
 use Rattle.component_sweeps.proofs.Lowering.{run_first, run_starts, run_step, run_steps, run_next}
-use Rattle.component_sweeps.proofs.Spread.lower_run.Goals as goal
+use Rattle.component_sweeps.proofs.axis.Spread.lower_run.Goals as goal
 
 pub loop-i-init : goal.loop-i-init
 loop-i-init c = (run_first _ _ _ _ c.requires, run_starts _ _ _ _ c.requires)

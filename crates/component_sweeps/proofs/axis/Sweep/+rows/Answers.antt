@@ -1,6 +1,6 @@
 use native.Mathlib.Omega.{arith}
 use Rattle.component_sweeps.proofs.Rowing.{row_line, line_row, before, falling, turned_rows, rows_turned, rowing_starts, rowing_ends, next_rows, next_fits, rowing_steps}
-use Rattle.component_sweeps.proofs.Sweep.+rows.Goals as goal
+use Rattle.component_sweeps.proofs.axis.Sweep.+rows.Goals as goal
 
 pub line-requires : goal.line-requires
 line-requires t c = row_line _ _ _ _ c.requires c.if-j-self.true
@@ -28,27 +28,27 @@ loop-i-init t c =
 pub overflow_mul-i : goal.overflow_mul-i
 overflow_mul-i t c =
     let more = c.if-j-self.false in
-    omega (arith, next_fits _ _ _ _ c.requires more _ (before _ _ _ _ c.requires more) c.if-u-self.false _ _ c.loop-i.invariant c.loop-i-test.true)
+    omega (arith, next_fits _ _ _ _ c.requires more _ (before _ _ _ _ c.requires more) c.if-u-self.false _ c.points_on-i-end.ensures _ _ c.loop-i.invariant c.loop-i-test.true)
 
 pub overflow_add-q : goal.overflow_add-q
 overflow_add-q t c =
     let more = c.if-j-self.false in
-    omega (arith, next_fits _ _ _ _ c.requires more _ (before _ _ _ _ c.requires more) c.if-u-self.false _ _ c.loop-i.invariant c.loop-i-test.true)
+    omega (arith, next_fits _ _ _ _ c.requires more _ (before _ _ _ _ c.requires more) c.if-u-self.false _ c.points_on-i-end.ensures _ _ c.loop-i.invariant c.loop-i-test.true)
 
 pub rows-requires-in-loop-i : goal.rows-requires-in-loop-i
 rows-requires-in-loop-i t c =
     let more = c.if-j-self.false in (
       falling _ _ _ _ c.requires more t c.decreases,
-      next_rows _ _ _ _ c.requires more _ (before _ _ _ _ c.requires more) c.if-u-self.false _ _ c.loop-i.invariant c.loop-i-test.true,
+      next_rows _ _ _ _ c.requires more _ (before _ _ _ _ c.requires more) c.if-u-self.false _ c.points_on-i-end.ensures _ _ c.loop-i.invariant c.loop-i-test.true,
     )
 
 pub loop-i-preserved : goal.loop-i-preserved
 loop-i-preserved t c =
     let more = c.if-j-self.false in
-    rowing_steps _ _ _ _ c.requires more _ (before _ _ _ _ c.requires more) c.if-u-self.false _ _ c.loop-i.invariant c.loop-i-test.true _
+    rowing_steps _ _ _ _ c.requires more _ (before _ _ _ _ c.requires more) c.if-u-self.false _ c.points_on-i-end.ensures _ _ c.loop-i.invariant c.loop-i-test.true _
     c.rows-in-loop-i.ensures
 
 pub returns : goal.returns
 returns t c =
     let more = c.if-j-self.false in
-    rowing_ends _ _ _ _ c.requires more _ (before _ _ _ _ c.requires more) c.if-u-self.false _ _ c.loop-i.invariant c.loop-i-test.false
+    rowing_ends _ _ _ _ c.requires more _ (before _ _ _ _ c.requires more) c.if-u-self.false _ c.points_on-i-end.ensures _ _ c.loop-i.invariant c.loop-i-test.false

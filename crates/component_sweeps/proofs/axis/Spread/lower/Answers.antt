@@ -1,6 +1,6 @@
 use native.Mathlib.Omega.{arith}
 use Rattle.component_sweeps.proofs.Lowering.{band_inside, band_can, band_steps}
-use Rattle.component_sweeps.proofs.Spread.lower.Goals as goal
+use Rattle.component_sweeps.proofs.axis.Spread.lower.Goals as goal
 
 pub overflow_mul-l : goal.overflow_mul-l
 overflow_mul-l c = omega (arith, band_inside _ _ _ _ c.requires _ c.loop-l-test.true _ c.loop-l.invariant)
