@@ -40,10 +40,10 @@ module _ (w : Sweep) (q reach : ℕ) (xs : List ℤ) where
   g = turn w
 
   abbrev low : ℕ
-  low = w.place - w.half
+  low = w.low
 
   abbrev high : ℕ
-  high = w.place + w.half
+  high = w.high
 
   pub record Passing (ys : List ℤ) (x : ℕ) : Type 0 where
     pub odd : OddTimes reach x
@@ -58,14 +58,10 @@ module _ (w : Sweep) (q reach : ℕ) (xs : List ℤ) where
     axis = w.on.inside
 
     low_is : low + 2 ^ g.levels t ≡ middle g t
-    low_is =
-        omega (arith, w.place_is, w.half_is, box_low g (known w) t axis)
+    low_is = w.low_is ∙ w.place_is
 
     high_is : high ≡ middle g t + 2 ^ g.levels t
-    high_is = omega (arith, w.place_is, w.half_is)
-
-    pub half_fits : w.half ≤ w.place
-    half_fits = omega (arith, w.place_is, w.half_is, box_low g (known w) t axis)
+    high_is = omega (arith, w.high_is, w.place_is)
 
     pub reach_some : 1 ≤ reach
     reach_some = omega (arith, reach_is, pow_pos level)
