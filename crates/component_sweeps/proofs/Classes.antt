@@ -40,10 +40,10 @@ module _ (w : Sweep) (q reach : ℕ) (xs : List ℤ) where
   g = turn w
 
   abbrev low : ℕ
-  low = w.low
+  low = w.place - w.half
 
   abbrev high : ℕ
-  high = w.high
+  high = w.place + w.half
 
   pub record Passing (ys : List ℤ) (x : ℕ) : Type 0 where
     pub odd : OddTimes reach x
@@ -58,10 +58,14 @@ module _ (w : Sweep) (q reach : ℕ) (xs : List ℤ) where
     axis = w.on.inside
 
     low_is : low + 2 ^ g.levels t ≡ middle g t
-    low_is = w.low_is ∙ w.place_is
+    low_is =
+        omega (arith, w.place_is, w.half_is, box_low g (known w) t axis)
 
     high_is : high ≡ middle g t + 2 ^ g.levels t
-    high_is = omega (arith, w.high_is, w.place_is)
+    high_is = omega (arith, w.place_is, w.half_is)
+
+    pub half_fits : w.half ≤ w.place
+    half_fits = omega (arith, w.place_is, w.half_is, box_low g (known w) t axis)
 
     pub reach_some : 1 ≤ reach
     reach_some = omega (arith, reach_is, pow_pos level)

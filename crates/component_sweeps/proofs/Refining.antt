@@ -47,21 +47,15 @@ module _ (w : Sweep) (q : ℕ) (xs : List ℤ) where
 
     -- ---- how large the numbers are
 
-    abbrev half : ℕ
-    half = w.place - w.low
-
-    half_is : half ≡ 2 ^ g.levels t
-    half_is = omega (arith, w.low_is)
-
-    pub half_fits : (half ≤ w.place) × (half ≤ 256) × (w.place ≤ 512)
+    pub half_fits : (w.half ≤ w.place) × (w.half ≤ 256) × (w.place ≤ 512)
     half_fits = (
-      omega (arith, half_is, w.place_is, box_low g (known w) t axis),
-      omega (arith, half_is, half_most g (known w) t axis),
+      omega (arith, w.half_is, w.place_is, box_low g (known w) t axis),
+      omega (arith, w.half_is, half_most g (known w) t axis),
       omega (arith, w.place_is, place_high g.tops g.centre t, end_most g (known w) t),
     )
 
-    pub half_some : 1 ≤ half
-    half_some = omega (arith, half_is, pow_pos (g.levels t))
+    pub half_some : 1 ≤ w.half
+    half_some = omega (arith, w.half_is, pow_pos (g.levels t))
 
     pub own_most : w.reach ≤ w.place
     own_most =
@@ -77,8 +71,8 @@ module _ (w : Sweep) (q : ℕ) (xs : List ℤ) where
     pub far_most : w.stride * w.reach ≤ 16777216
     far_most = times_most w.stride w.reach 32768 512 stride_small (omega (arith, own_most, half_fits))
 
-    pub middle_most : (w.place - w.low - 1) * w.stride ≤ 8388608
-    middle_most = times_most (w.place - w.low - 1) w.stride 256 32768 (omega (arith, half_fits)) stride_small
+    pub middle_most : (w.half - 1) * w.stride ≤ 8388608
+    middle_most = times_most (w.half - 1) w.stride 256 32768 (omega (arith, half_fits)) stride_small
 
     pub first_most : q < 32768
     first_most = omega (arith, of.first.near.inside, (known w).small)
@@ -96,8 +90,8 @@ module _ (w : Sweep) (q : ℕ) (xs : List ℤ) where
       abbrev r : ℕ
       r = 2 ^ level
 
-      refining_most : r ≤ half
-      refining_most = omega (arith, half_is, pow_mono {i = level} {j = g.levels t} s.most)
+      refining_most : r ≤ w.half
+      refining_most = omega (arith, w.half_is, pow_mono {i = level} {j = g.levels t} s.most)
 
       double : 2 ^ (level + 1) ≡ r + r
       double = rw (add-one level) (omega (arith, pow-suc 2 level))
@@ -145,20 +139,20 @@ module _ (w : Sweep) (q : ℕ) (xs : List ℤ) where
 
       -- The middle.
       module _ (all : g.levels t ≤ level) where
-        whole : half ≤ r
-        whole = omega (arith, half_is, pow_mono {i = g.levels t} {j = level} all)
+        whole : w.half ≤ r
+        whole = omega (arith, w.half_is, pow_mono {i = g.levels t} {j = level} all)
 
-        h_is : w.place ≡ place_on g q t + (w.place - w.low - 1)
-        h_is = omega (arith, of.first.own, half_is, w.place_is, half_some)
+        h_is : w.place ≡ place_on g q t + (w.half - 1)
+        h_is = omega (arith, of.first.own, w.half_is, w.place_is, half_some)
 
         inside : w.place < middle g t + 2 ^ g.levels t
         inside = omega (arith, w.place_is, pow_pos (g.levels t))
 
-        far : half ≤ 2 ^ twos w.place
+        far : w.half ≤ 2 ^ twos w.place
         far =
             omega (
               arith,
-              half_is,
+              w.half_is,
               reach_multiple (g.levels t) (times_on g.axes g.tops g.levels g.centre t) w.place
                   (omega (arith, w.place_is, place_low g.tops g.centre t))
                   (w.place_is ∙ on_multiple g.axes g.tops g.levels g.centre (known w).fits t axis),
@@ -171,9 +165,9 @@ module _ (w : Sweep) (q : ℕ) (xs : List ℤ) where
             (λ b y some there same less.
             omega (arith, reach_grows b y some there, far, refining_most, ap (λ (n : ℕ). 2 ^ twos n) same))
 
-        pub last_can : (a : Parents) → ParentsAt w.stride w.end w.place w.reach a → CanBand w.spread (q + (w.place - w.low - 1) * w.stride) a ys
+        pub last_can : (a : Parents) → ParentsAt w.stride w.end w.place w.reach a → CanBand w.spread (q + (w.half - 1) * w.stride) a ys
         last_can a parents =
-            band_can w q of.first (w.place - w.low - 1) w.place h_is inside w.reach (sym w.reach_is) a parents ys
+            band_can w q of.first (w.half - 1) w.place h_is inside w.reach (sym w.reach_is) a parents ys
             (limited_next g.axes g.tops t last_apart s.turned (λ p l. l.row) (λ p l. l.row) of.asked)
 
         with_middle : (zs : List ℤ) → Turned g (Along g w.spread.from q (λ y. y ≡ w.place)) ys zs → Turned g (InLine w q) xs zs
@@ -181,7 +175,7 @@ module _ (w : Sweep) (q : ℕ) (xs : List ℤ) where
             turned_both g.axes g.tops t last_apart s.turned (λ p l. l.row) (λ p l. l.row)
             (λ p row.
             let y = place_on g p t in
-            le_or_lt half (2 ^ twos y)
+            le_or_lt w.half (2 ^ twos y)
             (λ far.
             inr
             (record {
@@ -190,7 +184,7 @@ module _ (w : Sweep) (q : ℕ) (xs : List ℤ) where
                   middle_only (g.levels t) (times_on g.axes g.tops g.levels g.centre t) y (place_low g.tops p t)
                   (omega (arith, row.near.low t axis, on_multiple g.axes g.tops g.levels g.centre (known w).fits t axis))
                   (omega (arith, row.near.high t axis, on_multiple g.axes g.tops g.levels g.centre (known w).fits t axis))
-                  (omega (arith, half_is))
+                  (omega (arith, w.half_is))
                   ∙ sym (on_multiple g.axes g.tops g.levels g.centre (known w).fits t axis)
                   ∙ sym w.place_is;
             }))
@@ -198,13 +192,13 @@ module _ (w : Sweep) (q : ℕ) (xs : List ℤ) where
             turned
 
         pub line_ends : (a : Parents) → ParentsAt w.stride w.end w.place w.reach a → (zs : List ℤ) →
-            LoweredOn a (Band w.spread (q + (w.place - w.low - 1) * w.stride)) ys zs → Turned g (InLine w q) xs zs
+            LoweredOn a (Band w.spread (q + (w.half - 1) * w.stride)) ys zs → Turned g (InLine w q) xs zs
         line_ends a parents zs s =
             with_middle zs
-            (band_turned w q of.first (w.place - w.low - 1) w.place h_is inside w.reach (sym w.reach_is) a
+            (band_turned w q of.first (w.half - 1) w.place h_is inside w.reach (sym w.reach_is) a
             parents ys zs s)
 
         pub line_still : w.place ≡ w.reach → w.place + w.reach ≡ w.end → Turned g (InLine w q) xs ys
         line_still left right =
             with_middle ys
-            (band_still w q of.first (w.place - w.low - 1) w.place h_is inside w.reach (sym w.reach_is) left right ys)
+            (band_still w q of.first (w.half - 1) w.place h_is inside w.reach (sym w.reach_is) left right ys)

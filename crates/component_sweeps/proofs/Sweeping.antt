@@ -24,8 +24,6 @@ use Rattle.component_sweeps.specs.declared.axis.Sweep.{Sweep}
 use Rattle.component_sweeps.specs.Steps.{tops_of, turn_of, InBox, Asked, Turned, Row, Corner}
 use Rattle.component_sweeps.specs.SweepSteps.{turn, Rows}
 use Rattle.component_sweeps.proofs.Apart.{turned_same, limited_part}
-use Rattle.component_sweeps.proofs.Bounds.{ground, half_most}
-use Rattle.component_sweeps.proofs.Lines.{box_low}
 
 -- The numbers of the turned axis.
 module _ (box : GridBox) (axis : ℕ) (on : axis < box.grid.now.axes) where
@@ -58,13 +56,6 @@ module _ (box : GridBox) (axis : ℕ) (on : axis < box.grid.now.axes) where
         ap (λ (y : ℕ). box.centre / y % (end - 1) + 1) (box.grid.now.laid axis on)
         ∙ ap (λ (y : ℕ). box.centre / points_to (tops_of box.grid.now) axis % y + 1) wide
         ∙ sym (place_is_lem (tops_of box.grid.now) box.centre axis)
-
-    -- The box reaches neither below the first place nor far above the last.
-    pub half_fits : 1 * 2 ^ at box.levels axis % 2 ^ 64 ≤ place
-    half_fits = omega (arith, half_shifted, place_of, box_low (turn_of box axis) (ground box axis on) axis on)
-
-    pub half_small : 1 * 2 ^ at box.levels axis % 2 ^ 64 ≤ 256
-    half_small = omega (arith, half_shifted, half_most (turn_of box axis) (ground box axis on) axis on)
 
     pub place_fits : (1 ≤ place) × (place < 512)
     place_fits = (

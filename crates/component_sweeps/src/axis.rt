@@ -1,5 +1,5 @@
 // One axis of a box as the code works it.
-ghost use Rattle.std.specs.Prelude.{suc, ◌≡◌, ◌+◌, ◌^◌, ◌<◌};
+ghost use Rattle.std.specs.Prelude.{suc, ◌≡◌, ◌^◌, ◌<◌};
 ghost use Rattle.numbering.specs.Point.{at};
 ghost use Rattle.numbering.specs.Parent.{twos};
 ghost use Rattle.component_grids.specs.Component.{points_to, place_at};
@@ -27,7 +27,7 @@ pub struct BoxAxis<'a> {
 }
 
 // An axis of a box as it is turned: how the box's lines are worked together; and of the axis how far two places that follow each other lie apart, where it ends, the place of
-// the box's middle point and how far that reaches, and the places just before and after the box.
+// the box's middle point, and how far on either side the box and the middle point itself reach.
 #[derive(Clone, Copy)]
 pub struct Sweep<'a> {
     pub on: BoxAxis<'a>,
@@ -35,14 +35,12 @@ pub struct Sweep<'a> {
     pub stride: usize,
     pub end: usize,
     pub place: usize,
+    pub half: usize,
     pub reach: usize,
-    pub low: usize,
-    pub high: usize,
     ghost covers: { ∥ Covers on.of on.axis spread ∥₁ },
     ghost stride_is: { stride ≡ points_to (tops_of on.of.grid.now) on.axis },
     ghost end_is: { end ≡ 2 ^ suc (at on.of.grid.now.tops on.axis) },
     ghost place_is: { place ≡ place_at (tops_of on.of.grid.now) on.of.centre on.axis },
+    ghost half_is: { half ≡ 2 ^ at on.of.levels on.axis },
     ghost reach_is: { reach ≡ 2 ^ twos place },
-    ghost low_is: { low + 2 ^ at on.of.levels on.axis ≡ place },
-    ghost high_is: { high ≡ place + 2 ^ at on.of.levels on.axis },
 }

@@ -83,10 +83,12 @@ impl Sweep<'_> {
         ensures { Turned (turn self.now) (InClass self.now q level) table.old table.new }
     {
         let reach = 1 << level;
-        for x in (self.low + reach..self.high).step_by(2 * reach) {
+        let low = self.place - self.half;
+        let high = self.place + self.half;
+        for x in (low + reach..high).step_by(2 * reach) {
             self.spread.lower(
                 table,
-                q + (x - self.low - 1) * self.stride,
+                q + (x - low - 1) * self.stride,
                 self.parents(x, reach),
             );
         }
@@ -105,7 +107,7 @@ impl Sweep<'_> {
         }
         self.spread.lower(
             table,
-            q + (self.place - self.low - 1) * self.stride,
+            q + (self.half - 1) * self.stride,
             self.parents(self.place, self.reach),
         );
     }
@@ -233,7 +235,6 @@ impl GridBox<'_> {
         let stride = self.grid.strides[axis];
         let end: usize = 2 << self.grid.tops[axis];
         let place = self.centre / stride % (end - 1) + 1;
-        let half: usize = 1 << self.levels[axis];
         let on = BoxAxis { of: *self, axis };
         let sweep = Sweep {
             on,
@@ -241,9 +242,8 @@ impl GridBox<'_> {
             stride,
             end,
             place,
+            half: 1 << self.levels[axis],
             reach: 1 << place.trailing_zeros(),
-            low: place - half,
-            high: place + half,
         };
         sweep.rows(table, self.grid.axes, self.corner());
     }
