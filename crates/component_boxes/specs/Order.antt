@@ -44,10 +44,14 @@ module _ (d : ℕ) (tops : ℕ → ℕ) where
   unfoldable pub order_in : ℕ → ℕ → (ℕ → ℕ) → ℕ → List Item
   order_in s t k p = order_from (points_to k d) s t k p
 
+-- How many positions the middle point of a box of levels k comes after the box's first position, in a grid of d axes.
+unfoldable pub half_span : ℕ → (ℕ → ℕ) → (ℕ → ℕ) → ℕ
+half_span zero tops k = 0
+half_span (suc t) tops k = half_span t tops k + (2 ^ k t - 1) * points_to tops t
+
 -- The middle point of the whole grid: on each axis the point of level 0.
 unfoldable pub centre : ℕ → (ℕ → ℕ) → ℕ
-centre zero tops = 0
-centre (suc t) tops = centre t tops + (2 ^ tops t - 1) * points_to tops t
+centre d tops = half_span d tops tops
 
 -- The order on the whole grid.
 unfoldable pub order_of : ℕ → (ℕ → ℕ) → List Item

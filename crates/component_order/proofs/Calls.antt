@@ -10,15 +10,16 @@ use Rattle.numbering.specs.Point.{at}
 use Rattle.hierarchy.specs.Work.{Item, all_worked}
 use Rattle.hierarchy.proofs.Values.{values_of_value}
 use Rattle.component_grids.specs.Component.{across, points_to}
-use Rattle.component_boxes.specs.Order.{widest, order_in}
-use Rattle.component_boxes.proofs.Widest.{widest_lt, widest_most}
-use Rattle.component_boxes.proofs.Falling.{single_point, level_left, middle_fewer, half_fewer, in_none}
+use Rattle.component_boxes.specs.Order.{widest, middle_of, half_of, order_in}
+use Rattle.component_boxes.proofs.Widest.{widest_most}
+use Rattle.component_boxes.proofs.Falling.{single_point, middle_fewer, half_fewer, in_none}
 use Rattle.component_sweeps.specs.declared.grid.Layout.{Layout}
-use Rattle.component_sweeps.specs.declared.grid.GridBox.{GridBox}
 use Rattle.component_sweeps.specs.Steps.{tops_of}
+use Rattle.component_order.specs.declared.Piece.{Piece}
 use Rattle.component_order.specs.declared.Parts.{Parts}
 use Rattle.component_order.specs.InOrder.{worked_in}
-use Rattle.component_order.specs.Steps.{Mixed, MixedOn, worked_on, IsBox, PartsOf}
+use Rattle.component_order.specs.Steps.{Mixed, MixedOn, worked_on, IsPiece, PartsOf}
+use Rattle.component_order.proofs.Cutting.{axis, some}
 use Rattle.component_order.proofs.Mixing.{middle_mixed, left_mixed, right_mixed, rest_mixed, all_four}
 
 -- A box with more than one point has an axis with more than one.
@@ -29,81 +30,89 @@ more_points k d some =
     (λ more. more)
 
 -- No axis to do: nothing changes.
-pub nothing_due : (d : ℕ) (tops k : ℕ → ℕ) (c s t : ℕ) (xs : List ℤ) → Mixed d tops k c s t xs → s ≡ t → xs ≡ worked_in d tops (order_in d tops s t k c) xs
-nothing_due d tops k c s t xs mixed same =
+pub nothing_due : (p : Piece) (xs : List ℤ) → MixedOn p xs → p.from ≡ p.to → xs ≡ worked_on p xs
+nothing_due p xs mixed same =
     sym
-    (ap (λ (is : List Item). worked_in d tops is xs) (ap (λ (u : ℕ). order_in d tops s u k c) (sym same) ∙ in_none d tops s k c)
+    (ap (λ (is : List Item). worked_in d tops is xs) (ap (λ (u : ℕ). order_in d tops p.from u k p.of.centre) (sym same) ∙ in_none d tops p.from k p.of.centre)
     ∙ no_work)
   where
+    d : ℕ
+    d = p.of.grid.now.axes
+
+    tops : ℕ → ℕ
+    tops = tops_of p.of.grid.now
+
+    k : ℕ → ℕ
+    k = at p.of.levels
+
     no_work : worked_in d tops [] xs ≡ xs
     no_work = unfold worked_in all_worked in values_of_value (points_to tops d) xs mixed.standing.long
 
--- What is due and left on a box that is known by its grid, its levels and its middle point.
-module _ {g : Layout} {k : ℕ → ℕ} {c : ℕ} {b : GridBox} (is : IsBox g k c b) where
-  pub mixed_as : (s t : ℕ) (xs : List ℤ) → Mixed g.axes (tops_of g) k c s t xs → MixedOn b s t xs
-  mixed_as s t xs mixed = rw (is.grid, is.levels, is.centre) mixed
+-- What is due and left on a piece that is known by its grid, its levels, its middle point and its axes.
+module _ {g : Layout} {k : ℕ → ℕ} {c s t : ℕ} {p : Piece} (is : IsPiece g k c s t p) where
+  pub mixed_as : (xs : List ℤ) → Mixed g.axes (tops_of g) k c s t xs → MixedOn p xs
+  mixed_as xs mixed = rw (is.grid, is.levels, is.centre, is.from, is.to) mixed
 
-  pub worked_as : (s t : ℕ) (xs : List ℤ) → worked_on b s t xs ≡ worked_in g.axes (tops_of g) (order_in g.axes (tops_of g) s t k c) xs
-  worked_as s t xs = rw (is.grid, is.levels, is.centre) refl
+  pub worked_as : (xs : List ℤ) → worked_on p xs ≡ worked_in g.axes (tops_of g) (order_in g.axes (tops_of g) s t k c) xs
+  worked_as xs = rw (is.grid, is.levels, is.centre, is.from, is.to) refl
 
-  pub points_as : points_to (at b.levels) b.grid.now.axes ≡ points_to k g.axes
+  pub points_as : points_to (at p.of.levels) p.of.grid.now.axes ≡ points_to k g.axes
   points_as = rw (is.grid, is.levels) refl
 
-module _ (b : GridBox) (s t : ℕ) (xs : List ℤ) (mixed : MixedOn b s t xs)
-    (more : 1 < across (at b.levels (widest (at b.levels) b.grid.now.axes))) (p : Parts) (parts : PartsOf b s t p) where
+module _ (p : Piece) (xs : List ℤ) (mixed : MixedOn p xs) (more : 1 < across (at p.of.levels (widest (at p.of.levels) p.of.grid.now.axes)))
+    (parts : Parts) (split : PartsOf p parts) where
   abbrev g : Layout
-  g = b.grid.now
+  g = p.of.grid.now
 
-  abbrev ls : List ℕ
-  ls = b.levels
+  abbrev k : ℕ → ℕ
+  k = at p.of.levels
 
   abbrev c : ℕ
-  c = b.centre
-
-  axis : widest (at ls) g.axes < g.axes
-  axis = widest_lt (at ls) g.axes g.some
-
-  some : 0 < at ls (widest (at ls) g.axes)
-  some = level_left g.axes (tops_of g) (at ls (widest (at ls) g.axes)) more
+  c = p.of.centre
 
   -- Fewer points are left.
-  pub middle_falls : points_to (at p.middle.levels) p.middle.grid.now.axes < points_to (at ls) g.axes
-  middle_falls = rw (points_as parts.middle) (middle_fewer (at ls) g.axes (widest (at ls) g.axes) axis some)
+  middle_less : points_to (middle_of k (widest k g.axes)) g.axes < points_to k g.axes
+  middle_less = middle_fewer k g.axes (widest k g.axes) (axis p.of more _ refl) (some p.of more _ refl)
 
-  pub left_falls : points_to (at p.left.levels) p.left.grid.now.axes < points_to (at ls) g.axes
-  left_falls = rw (points_as parts.left) (half_fewer (at ls) g.axes (widest (at ls) g.axes) axis some)
+  half_less : points_to (half_of k (widest k g.axes)) g.axes < points_to k g.axes
+  half_less = half_fewer k g.axes (widest k g.axes) (axis p.of more _ refl) (some p.of more _ refl)
 
-  pub right_falls : points_to (at p.right.levels) p.right.grid.now.axes < points_to (at ls) g.axes
-  right_falls = rw (points_as parts.right) (half_fewer (at ls) g.axes (widest (at ls) g.axes) axis some)
+  pub first_falls : points_to (at parts.first.of.levels) parts.first.of.grid.now.axes < points_to k g.axes
+  first_falls = rw (points_as split.first) middle_less
+
+  pub left_falls : points_to (at parts.left.of.levels) parts.left.of.grid.now.axes < points_to k g.axes
+  left_falls = rw (points_as split.left) half_less
+
+  pub right_falls : points_to (at parts.right.of.levels) parts.right.of.grid.now.axes < points_to k g.axes
+  right_falls = rw (points_as split.right) half_less
+
+  pub last_falls : points_to (at parts.last.of.levels) parts.last.of.grid.now.axes < points_to k g.axes
+  last_falls = rw (points_as split.last) middle_less
 
   -- What the calls work through.
-  pub first_call : MixedOn p.middle s p.cut xs
-  first_call =
-      mixed_as parts.middle s p.cut xs (rw parts.cut (middle_mixed g.axes (tops_of g) g.some (at ls) c s t xs mixed more))
+  pub first_call : MixedOn parts.first xs
+  first_call = mixed_as split.first xs (middle_mixed g.axes (tops_of g) g.some k c p.from p.to xs mixed more)
 
-  module _ (one : List ℤ) (first : one ≡ worked_on p.middle s p.cut xs) where
-    pub second_call : MixedOn p.left s t one
-    second_call =
-        mixed_as parts.left s t one
-        (rw (first, worked_as parts.middle s p.cut xs, parts.cut) (left_mixed g.axes (tops_of g) g.some (at ls) c s t xs mixed more))
+  module _ (one : List ℤ) (first : one ≡ worked_on parts.first xs) where
+    pub second_call : MixedOn parts.left one
+    second_call = mixed_as split.left one (rw (first, worked_as split.first xs) (left_mixed g.axes (tops_of g) g.some k c p.from p.to xs mixed more))
 
-    module _ (two : List ℤ) (second : two ≡ worked_on p.left s t one) where
-      pub third_call : MixedOn p.right s t two
+    module _ (two : List ℤ) (second : two ≡ worked_on parts.left one) where
+      pub third_call : MixedOn parts.right two
       third_call =
-          mixed_as parts.right s t two
-          (rw (second, worked_as parts.left s t one, first, worked_as parts.middle s p.cut xs, parts.cut)
-          (right_mixed g.axes (tops_of g) g.some (at ls) c s t xs mixed more))
+          mixed_as split.right two
+          (rw (second, worked_as split.left one, first, worked_as split.first xs) (right_mixed g.axes (tops_of g) g.some k c p.from p.to xs mixed more))
 
-      module _ (three : List ℤ) (third : three ≡ worked_on p.right s t two) where
-        pub fourth_call : MixedOn p.middle p.cut t three
+      module _ (three : List ℤ) (third : three ≡ worked_on parts.right two) where
+        pub fourth_call : MixedOn parts.last three
         fourth_call =
-            mixed_as parts.middle p.cut t three
-            (rw (third, worked_as parts.right s t two, second, worked_as parts.left s t one, first, worked_as parts.middle s p.cut xs, parts.cut)
-            (rest_mixed g.axes (tops_of g) g.some (at ls) c s t xs mixed more))
+            mixed_as split.last three
+            (rw (third, worked_as split.right two, second, worked_as split.left one, first, worked_as split.first xs)
+            (rest_mixed g.axes (tops_of g) g.some k c p.from p.to xs mixed more))
 
-        pub calls_end : (four : List ℤ) → four ≡ worked_on p.middle p.cut t three → four ≡ worked_on b s t xs
+        pub calls_end : (four : List ℤ) → four ≡ worked_on parts.last three → four ≡ worked_on p xs
         calls_end four fourth =
             fourth
-            ∙ worked_as parts.middle p.cut t three
-            ∙ rw (third, worked_as parts.right s t two, second, worked_as parts.left s t one, first, worked_as parts.middle s p.cut xs, parts.cut)
-            (sym (all_four g.axes (tops_of g) g.some (at ls) c s t xs mixed more))
+            ∙ worked_as split.last three
+            ∙ rw (third, worked_as split.right two, second, worked_as split.left one, first, worked_as split.first xs)
+            (sym (all_four g.axes (tops_of g) g.some k c p.from p.to xs mixed more))

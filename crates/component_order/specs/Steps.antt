@@ -9,9 +9,9 @@ use Rattle.component_boxes.specs.Order.{widest, middle_of, half_of, away, order_
 use Rattle.component_boxes.specs.Boxes.{Box, Fits}
 use Rattle.component_boxes.specs.Stages.{stages_of}
 use Rattle.component_sweeps.specs.declared.grid.Layout.{Layout}
-use Rattle.component_sweeps.specs.declared.grid.GridBox.{GridBox}
 use Rattle.component_sweeps.specs.Steps.{tops_of}
 use Rattle.component_order.specs.InOrder.{worked_in}
+use Rattle.component_order.specs.declared.Piece.{Piece}
 use Rattle.component_order.specs.declared.Parts.{Parts}
 
 module _ (d : ℕ) (tops : ℕ → ℕ) where
@@ -39,27 +39,33 @@ module _ (d : ℕ) (tops : ℕ → ℕ) where
     pub inside : (p : ℕ) → Box d tops k c p → value_at ys p ≡ stages_of d tops r a p
     pub outside : (p : ℕ) → (Box d tops k c p → ⊥) → value_at ys p ≡ value_at xs p
 
--- On a box of a grid the axes s to t − 1 are due, and the table that their steps leave.
-abbrev pub MixedOn : GridBox → ℕ → ℕ → List ℤ → Type 0
-MixedOn b s t xs = Mixed b.grid.now.axes (tops_of b.grid.now) (at b.levels) b.centre s t xs
+-- The axes of a piece are due, and the table that their steps leave.
+abbrev pub MixedOn : Piece → List ℤ → Type 0
+MixedOn p xs = Mixed p.of.grid.now.axes (tops_of p.of.grid.now) (at p.of.levels) p.of.centre p.from p.to xs
 
-abbrev pub worked_on : GridBox → ℕ → ℕ → List ℤ → List ℤ
-worked_on b s t xs =
-    worked_in b.grid.now.axes (tops_of b.grid.now) (order_in b.grid.now.axes (tops_of b.grid.now) s t (at b.levels) b.centre) xs
+abbrev pub worked_on : Piece → List ℤ → List ℤ
+worked_on p xs =
+    worked_in p.of.grid.now.axes (tops_of p.of.grid.now) (order_in p.of.grid.now.axes (tops_of p.of.grid.now) p.from p.to (at p.of.levels) p.of.centre) xs
 
--- A box of the same grid, of levels k with the middle point at position c.
-pub record IsBox (g : Layout) (k : ℕ → ℕ) (c : ℕ) (b : GridBox) : Type 0 where
-  pub grid : b.grid.now ≡ g
-  pub levels : at b.levels ≡ k
-  pub centre : b.centre ≡ c
+-- A piece of the same grid: its box has levels k and the middle point at position c, and the axes s to t − 1 are due.
+pub record IsPiece (g : Layout) (k : ℕ → ℕ) (c s t : ℕ) (p : Piece) : Type 0 where
+  pub grid : p.of.grid.now ≡ g
+  pub levels : at p.of.levels ≡ k
+  pub centre : p.of.centre ≡ c
+  pub from : p.from ≡ s
+  pub to : p.to ≡ t
 
--- The parts of a box on which the axes s to t − 1 are due.
-pub record PartsOf (b : GridBox) (s t : ℕ) (p : Parts) : Type 0 where
-  pub middle : IsBox b.grid.now (middle_of (at b.levels) (widest (at b.levels) b.grid.now.axes)) b.centre p.middle
-  pub left :
-      IsBox b.grid.now (half_of (at b.levels) (widest (at b.levels) b.grid.now.axes))
-      (b.centre - away (tops_of b.grid.now) (at b.levels) (widest (at b.levels) b.grid.now.axes)) p.left
-  pub right :
-      IsBox b.grid.now (half_of (at b.levels) (widest (at b.levels) b.grid.now.axes))
-      (b.centre + away (tops_of b.grid.now) (at b.levels) (widest (at b.levels) b.grid.now.axes)) p.right
-  pub cut : p.cut ≡ cut s t (widest (at b.levels) b.grid.now.axes)
+-- The parts of a piece that is split along axis r.
+module _ (p : Piece) (r : ℕ) where
+  abbrev far : ℕ
+  far = away (tops_of p.of.grid.now) (at p.of.levels) r
+
+  pub record SplitAt (parts : Parts) : Type 0 where
+    pub first : IsPiece p.of.grid.now (middle_of (at p.of.levels) r) p.of.centre p.from (cut p.from p.to r) parts.first
+    pub left : IsPiece p.of.grid.now (half_of (at p.of.levels) r) (p.of.centre - far) p.from p.to parts.left
+    pub right : IsPiece p.of.grid.now (half_of (at p.of.levels) r) (p.of.centre + far) p.from p.to parts.right
+    pub last : IsPiece p.of.grid.now (middle_of (at p.of.levels) r) p.of.centre (cut p.from p.to r) p.to parts.last
+
+-- Along the widest.
+abbrev pub PartsOf : Piece → Parts → Type 0
+PartsOf p parts = SplitAt p (widest (at p.of.levels) p.of.grid.now.axes) parts

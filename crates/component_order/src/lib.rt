@@ -4,7 +4,7 @@
 ghost use Rattle.std.specs.Prelude.{◌≡◌, ◌<◌};
 ghost use Rattle.numbering.specs.Point.{at};
 ghost use Rattle.component_grids.specs.Component.{across, points_to};
-ghost use Rattle.component_boxes.specs.Order.{widest, centre};
+ghost use Rattle.component_boxes.specs.Order.{widest};
 ghost use Rattle.component_sweeps.specs.Steps.{tops_of};
 ghost use Rattle.component_order.specs.InOrder.{Loaded, in_order};
 ghost use Rattle.component_order.specs.Steps.{MixedOn, worked_on, PartsOf};
@@ -14,96 +14,106 @@ use component_sweeps::{GridBox, Layout};
 // Boxes of at most so many points are done axis by axis, which leaves what the steps in order leave.
 const SWEPT: u64 = 1024;
 
-// How many points are left in a box. (A box is of another crate, so what works on it here are functions and not methods.)
-fn points_left(b: &GridBox) -> u64
-    ensures { result ≡ points_to (at b.now.levels) b.now.grid.now.axes }
-{
-    let mut points = 1;
-    for t in 0..b.grid.axes {
-        points *= component_boxes::points_across(b.levels[t]);
-    }
-    points
-}
-
-// Axes `from` + 1 to `to` of a box, one after the other.
-fn sweep_box(b: &GridBox, from: usize, to: usize, table: &mut [i64])
-    requires { MixedOn b.now from to table.old }
-    ensures { table.new ≡ worked_on b.now from to table.old }
-{
-    for a in from..to {
-        b.sweep(a, table);
-    }
-}
-
-// The parts of a box that is split along its widest axis: the middle and the halves, which are boxes, and where the axes to do are cut.
+// A box of a grid and the axes that are due there: axes `from` + 1 to `to`.
 #[derive(Clone, Copy)]
-pub struct Parts<'a> {
-    pub middle: GridBox<'a>,
-    pub left: GridBox<'a>,
-    pub right: GridBox<'a>,
-    pub cut: usize,
+struct Piece<'a> {
+    of: GridBox<'a>,
+    from: usize,
+    to: usize,
 }
 
-fn parts_of<'a>(b: &GridBox<'a>, from: usize, to: usize) -> Parts<'a>
-    requires { 1 < across (at b.now.levels (widest (at b.now.levels) b.now.grid.now.axes)) }
-    ensures { PartsOf b.now from to result }
-{
-    let r = component_boxes::widest_axis(b.levels, b.grid.axes);
-    let level = b.levels[r] - 1;
-    let mut middle = b.levels;
-    middle[r] = 0;
-    let mut half = b.levels;
-    half[r] = level;
-    let away = (1 << level) * b.grid.strides[r];
-    Parts {
-        middle: GridBox {
-            grid: b.grid,
+// The parts of a piece that is split along its box's widest axis: the middle up to the cut, the halves, and the middle for the rest.
+#[derive(Clone, Copy)]
+struct Parts<'a> {
+    first: Piece<'a>,
+    left: Piece<'a>,
+    right: Piece<'a>,
+    last: Piece<'a>,
+}
+
+impl<'a> Piece<'a> {
+    // How many points are left.
+    fn points_left(&self) -> u64
+        ensures { result ≡ points_to (at self.now.of.levels) self.now.of.grid.now.axes }
+    {
+        let mut points = 1;
+        for t in 0..self.of.grid.axes {
+            points *= component_boxes::points_across(self.of.levels[t]);
+        }
+        points
+    }
+
+    // The axes that are due, one after the other.
+    fn sweep(&self, table: &mut [i64])
+        requires { MixedOn self.now table.old }
+        ensures { table.new ≡ worked_on self.now table.old }
+    {
+        for axis in self.from..self.to {
+            self.of.sweep(axis, table);
+        }
+    }
+
+    fn split(&self) -> Parts<'a>
+        requires { 1 < across (at self.now.of.levels (widest (at self.now.of.levels) self.now.of.grid.now.axes)) }
+        ensures { PartsOf self.now result }
+    {
+        let r = component_boxes::widest_axis(self.of.levels, self.of.grid.axes);
+        let level = self.of.levels[r] - 1;
+        let mut middle = self.of.levels;
+        middle[r] = 0;
+        let mut half = self.of.levels;
+        half[r] = level;
+        let away = (1 << level) * self.of.grid.strides[r];
+        let cut = component_boxes::cut_at(self.from, self.to, r);
+        let middle = GridBox {
+            grid: self.of.grid,
             levels: middle,
-            centre: b.centre,
-        },
-        left: GridBox {
-            grid: b.grid,
+            centre: self.of.centre,
+        };
+        let left = GridBox {
+            grid: self.of.grid,
             levels: half,
-            centre: b.centre - away,
-        },
-        right: GridBox {
-            grid: b.grid,
+            centre: self.of.centre - away,
+        };
+        let right = GridBox {
+            grid: self.of.grid,
             levels: half,
-            centre: b.centre + away,
-        },
-        cut: component_boxes::cut_at(from, to, r),
+            centre: self.of.centre + away,
+        };
+        Parts {
+            first: Piece {
+                of: middle,
+                from: self.from,
+                to: cut,
+            },
+            left: Piece { of: left, ..*self },
+            right: Piece { of: right, ..*self },
+            last: Piece {
+                of: middle,
+                from: cut,
+                to: self.to,
+            },
+        }
     }
-}
 
-// Axes `from` + 1 to `to` of a box in the order of the splits: the middle up to the cut, the left half, the right half, the middle for the rest. The number of points
-// left falls at each call.
-fn work(b: &GridBox, from: usize, to: usize, table: &mut [i64])
-    requires { MixedOn b.now from to table.old }
-    ensures { table.new ≡ worked_on b.now from to table.old }
-{
-    if from == to {
-        return;
+    // The axes that are due, in the order of the splits. The number of points left falls at each call.
+    fn work(&self, table: &mut [i64])
+        requires { MixedOn self.now table.old }
+        ensures { table.new ≡ worked_on self.now table.old }
+    {
+        if self.from == self.to {
+            return;
+        }
+        if self.points_left() <= SWEPT {
+            self.sweep(table);
+            return;
+        }
+        let parts = self.split();
+        parts.first.work(table);
+        parts.left.work(table);
+        parts.right.work(table);
+        parts.last.work(table);
     }
-    if points_left(b) <= SWEPT {
-        sweep_box(b, from, to, table);
-        return;
-    }
-    let parts = parts_of(b, from, to);
-    work(&parts.middle, from, parts.cut, table);
-    work(&parts.left, from, to, table);
-    work(&parts.right, from, to, table);
-    work(&parts.middle, parts.cut, to, table);
-}
-
-// The position of the middle point of the grid.
-fn middle_point(grid: &Layout) -> usize
-    ensures { result ≡ centre grid.now.axes (tops_of grid.now) }
-{
-    let mut p = 0;
-    for t in 0..grid.axes {
-        p += ((1 << grid.tops[t]) - 1) * grid.strides[t];
-    }
-    p
 }
 
 // Rates to coefficients: every axis of the whole grid, in the order of the splits.
@@ -114,7 +124,12 @@ pub fn in_order(grid: &Layout, table: &mut [i64])
     let whole = GridBox {
         grid,
         levels: grid.tops,
-        centre: middle_point(grid),
+        centre: grid.half_span(&grid.tops),
     };
-    work(&whole, 0, grid.axes, table);
+    Piece {
+        of: whole,
+        from: 0,
+        to: grid.axes,
+    }
+    .work(table);
 }

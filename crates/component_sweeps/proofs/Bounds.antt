@@ -1,13 +1,17 @@
 -- How large the numbers of a turn are: a grid has at most 32,768 points and top levels of at most 8, so strides, places and reaches are small.
 -- Assumes nothing.
 use Prim.Native.Nat.{ℕ, suc, ◌*◌, ◌^◌, ◌≤◌, ◌<◌}
-use native.Mathlib.Nat.{mul-le-mul}
+use native.Mathlib.Nat.{mul-le-mul, mul-le-mul_right}
 use native.Mathlib.Omega.{arith}
 use lib.Pow.{pow_mono}
+use Rattle.numbering.specs.Point.{at}
 use Rattle.component_grids.specs.Component.{points_to}
 use Rattle.component_boxes.proofs.Falling.{points_before}
 use Rattle.component_sweeps.specs.declared.grid.GridBox.{GridBox}
-use Rattle.component_sweeps.specs.Steps.{Turn, Ground, turn_of}
+use Rattle.component_sweeps.specs.declared.axis.Spread.{Spread}
+use Rattle.component_sweeps.specs.declared.axis.Sweep.{Sweep}
+use Rattle.component_sweeps.specs.Steps.{Turn, Ground, turn_of, Covers}
+use Rattle.component_sweeps.specs.SweepSteps.{turn}
 
 -- A product of two such numbers: the kit's law, with its numbers written out.
 pub times_most : (a b m n : ℕ) → a ≤ m → b ≤ n → a * b ≤ m * n
@@ -33,3 +37,16 @@ ground b t axis =
       few = b.grid.now.few;
       small = b.grid.now.small;
     }
+
+pub known : (w : Sweep) → Ground (turn w)
+known w = ground w.on.of w.on.axis w.on.inside
+
+pub unit_near : (box : GridBox) (t : ℕ) (b : Spread) → Covers box t b → b.unit ≤ 32768
+unit_near box t b so =
+    omega (
+      arith,
+      so.short,
+      mul-le-mul_right {m = 1} {n = b.width} b.unit so.banded.some,
+      points_before (at box.grid.now.tops) b.from box.grid.now.axes so.few,
+      box.grid.now.small,
+    )

@@ -4,26 +4,36 @@
 use mathlib.Core.List.{List}
 use mathlib.Core.Logic.{inl, inr}
 use mathlib.Core.Path.{◌≡◌, ap, sym, ◌∙◌}
-use Prim.Native.Nat.{ℕ, suc, ◌+◌, ◌-◌, ◌*◌, ◌^◌, ◌≤◌, ◌<◌}
+use Prim.Native.Nat.{ℕ, suc, ◌+◌, ◌-◌, ◌*◌, ◌%◌, ◌^◌, ◌≤◌, ◌<◌}
 use native.Mathlib.Nat.{add-mul, one-mul, zero-mul}
 use native.Mathlib.Omega.{arith}
 use lib.IntN.{ℤ}
 use lib.Pow.{pow_pos, pow_mono}
 use Rattle.naturals.proofs.Cases.{le_or_lt, eq_or_not}
+use Rattle.naturals.proofs.Shifts.{one_shifted}
 use Rattle.numbering.specs.Parent.{twos}
 use Rattle.component_grids.proofs.Places.{place_low}
 use Rattle.component_boxes.proofs.Fitting.{times_on, on_multiple}
 use Rattle.component_sweeps.specs.declared.Parents.{Parents}
-use Rattle.component_sweeps.specs.declared.Sweep.{Sweep}
-use Rattle.component_sweeps.specs.Steps.{Band, CanBand, LoweredOn, Turn, place_on, middle, Asked, Turned, Along, Reaches, ParentsAt, turn, Class, InClass}
+use Rattle.component_sweeps.specs.declared.axis.Sweep.{Sweep}
+use Rattle.component_sweeps.specs.Steps.{Band, CanBand, LoweredOn, Turn, place_on, middle, Asked, Turned, Along, Reaches, ParentsAt}
+use Rattle.component_sweeps.specs.SweepSteps.{turn, Class, InClass}
 use Rattle.component_sweeps.proofs.Apart.{Apart, turned_none, turned_same, limited_next, turned_both}
 use Rattle.component_sweeps.proofs.Reaching.{OddTimes, odd_times, reach_odd, odd_near, odd_next, even_times, odd_first, odd_after, reach_grows}
 use Rattle.component_sweeps.proofs.Lines.{box_low, box_high, kinds_apart, band_can, band_turned}
-use Rattle.component_sweeps.proofs.Bounds.{times_most, stride_most, half_most, end_most}
+use Rattle.component_sweeps.proofs.Bounds.{known, times_most, stride_most, half_most, end_most}
 
 -- The places of that reach before x.
 abbrev pub Passed : ℕ → ℕ → ℕ → Type 0
 Passed r x y = Reaches r y × (y < x)
+
+-- A level below the box's own is small, so that one can be shifted by it.
+module _ {w : Sweep} {q level : ℕ} {xs : List ℤ} (of : Class w q level xs) where
+  pub level_small : level < 8
+  level_small = omega (arith, of.finer, w.on.of.fits.within w.on.axis w.on.inside, w.on.of.grid.now.low w.on.axis)
+
+  pub reach_shifted : 1 * 2 ^ level % 2 ^ 64 ≡ 2 ^ level
+  reach_shifted = one_shifted 64 level (omega (arith, level_small))
 
 module _ (w : Sweep) (q reach : ℕ) (xs : List ℤ) where
   abbrev g : Turn
@@ -40,25 +50,25 @@ module _ (w : Sweep) (q reach : ℕ) (xs : List ℤ) where
     pub least : low + reach ≤ x
     pub turned : Turned g (Along g w.spread.from q (Passed reach x)) xs ys
 
-  module _ (of : Class w q reach xs) where
+  module _ (level : ℕ) (reach_is : reach ≡ 2 ^ level) (of : Class w q level xs) where
     abbrev t : ℕ
     t = g.axis
 
     axis : g.axis < g.axes
-    axis = of.from.holds.ground.axis
+    axis = w.on.inside
 
     low_is : low + 2 ^ g.levels t ≡ middle g t
     low_is =
-        omega (arith, of.from.holds.place_is, of.from.holds.half_is, box_low g of.from.holds.ground t axis)
+        omega (arith, w.place_is, w.half_is, box_low g (known w) t axis)
 
     high_is : high ≡ middle g t + 2 ^ g.levels t
-    high_is = omega (arith, of.from.holds.place_is, of.from.holds.half_is)
+    high_is = omega (arith, w.place_is, w.half_is)
 
     pub half_fits : w.half ≤ w.place
-    half_fits = omega (arith, of.from.holds.place_is, of.from.holds.half_is, box_low g of.from.holds.ground t axis)
+    half_fits = omega (arith, w.place_is, w.half_is, box_low g (known w) t axis)
 
     pub reach_some : 1 ≤ reach
-    reach_some = omega (arith, of.reach_is, pow_pos of.power)
+    reach_some = omega (arith, reach_is, pow_pos level)
 
     -- ---- how large the numbers are
 
@@ -66,22 +76,22 @@ module _ (w : Sweep) (q reach : ℕ) (xs : List ℤ) where
     reach_most =
         omega (
           arith,
-          of.reach_is,
-          half_most g of.from.holds.ground t axis,
-          pow_mono {i = of.power} {j = g.levels t} (omega (arith, of.finer)),
+          reach_is,
+          half_most g (known w) t axis,
+          pow_mono {i = level} {j = g.levels t} (omega (arith, of.finer)),
         )
 
     pub stride_small : w.stride ≤ 32768
-    stride_small = omega (arith, of.from.holds.stride_is, stride_most g of.from.holds.ground t axis)
+    stride_small = omega (arith, w.stride_is, stride_most g (known w) t axis)
 
     pub high_most : high ≤ 512
-    high_most = omega (arith, high_is, box_high g of.from.holds.ground t axis, end_most g of.from.holds.ground t)
+    high_most = omega (arith, high_is, box_high g (known w) t axis, end_most g (known w) t)
 
     pub far_most : w.stride * reach ≤ 8388608
     far_most = times_most w.stride reach 32768 256 stride_small reach_most
 
     pub first_most : q < 32768
-    first_most = omega (arith, of.from.first.near.inside, of.from.holds.ground.small)
+    first_most = omega (arith, of.from.first.near.inside, (known w).small)
 
     -- ---- the loop
 
@@ -89,17 +99,17 @@ module _ (w : Sweep) (q reach : ℕ) (xs : List ℤ) where
     odd_means y some e = rw e at (odd_times y some)
 
     odd_reaches : (y : ℕ) → OddTimes reach y → Reaches reach y
-    odd_reaches y h = reach_odd of.power y (rw of.reach_is at h) ∙ sym of.reach_is
+    odd_reaches y h = reach_odd level y (rw reach_is at h) ∙ sym reach_is
 
     pairs : ℕ
-    pairs = (times_on g.axes g.tops g.levels g.centre t - 1) * 2 ^ (g.levels t - suc of.power)
+    pairs = (times_on g.axes g.tops g.levels g.centre t - 1) * 2 ^ (g.levels t - suc level)
 
     low_even : low ≡ pairs * (reach + reach)
     unfolding pairs
     low_even =
         let n = times_on g.axes g.tops g.levels g.centre t in
         let k = g.levels t in
-        let whole = on_multiple g.axes g.tops g.levels g.centre of.from.holds.ground.fits t axis in
+        let whole = on_multiple g.axes g.tops g.levels g.centre (known w).fits t axis in
         let one : n ≡ n - 1 + 1 =
         eq_or_not n 0
         (λ e. absurd (omega (arith, whole, ap (λ (y : ℕ). y * 2 ^ k) e, zero-mul (2 ^ k), place_low g.tops g.centre t)))
@@ -107,8 +117,8 @@ module _ (w : Sweep) (q reach : ℕ) (xs : List ℤ) where
         let start : low ≡ (n - 1) * 2 ^ k =
         omega (arith, low_is, whole, ap (λ (y : ℕ). y * 2 ^ k) one, add-mul (n - 1) 1 (2 ^ k), one-mul (2 ^ k)) in
         start
-        ∙ even_times of.power k (n - 1) of.finer
-        ∙ ap (λ (y : ℕ). (n - 1) * 2 ^ (k - suc of.power) * (y + y)) (sym of.reach_is)
+        ∙ even_times level k (n - 1) of.finer
+        ∙ ap (λ (y : ℕ). (n - 1) * 2 ^ (k - suc level) * (y + y)) (sym reach_is)
 
     pub passing_starts : Passing xs (low + reach)
     passing_starts =
@@ -128,11 +138,11 @@ module _ (w : Sweep) (q reach : ℕ) (xs : List ℤ) where
         }
 
     module _ (ys : List ℤ) (x : ℕ) (s : Passing ys x) where
-      pub passing_ends : high ≤ x → Turned g (InClass w q reach) xs ys
+      pub passing_ends : high ≤ x → Turned g (InClass w q level) xs ys
       passing_ends past =
           turned_same g.axes g.tops t
-          (λ p l. record { row = l.row; there = l.there.0 })
-          (λ p l. record { row = l.row; there = (l.there, omega (arith, l.row.near.high t axis, high_is)) })
+          (λ p l. record { row = l.row; there = l.there.0 ∙ reach_is })
+          (λ p l. record { row = l.row; there = (l.there ∙ sym reach_is, omega (arith, l.row.near.high t axis, high_is)) })
           s.turned
 
       module _ (less : x < high) where
@@ -151,7 +161,7 @@ module _ (w : Sweep) (q reach : ℕ) (xs : List ℤ) where
 
         separate : Apart g.axes g.tops t (Along g w.spread.from q (Passed reach x)) (Along g w.spread.from q (λ y. y ≡ x))
         separate =
-            kinds_apart g of.from.holds.ground w.spread.from q
+            kinds_apart g (known w) w.spread.from q
             (λ y same passed. omega (arith, passed.1))
             (λ b y some there same passed.
             omega (
@@ -165,14 +175,14 @@ module _ (w : Sweep) (q reach : ℕ) (xs : List ℤ) where
         asked : Asked g (Along g w.spread.from q (λ y. y ≡ x)) ys
         asked =
             limited_next g.axes g.tops t separate s.turned
-            (λ p l. record { row = l.row; there = l.there.0 })
-            (λ p l. record { row = l.row; there = ap (λ (n : ℕ). 2 ^ twos n) l.there ∙ odd_reaches x s.odd })
+            (λ p l. record { row = l.row; there = l.there.0 ∙ reach_is })
+            (λ p l. record { row = l.row; there = ap (λ (n : ℕ). 2 ^ twos n) l.there ∙ odd_reaches x s.odd ∙ reach_is })
             of.from.asked
 
         module _ (a : Parents) (parents : ParentsAt w.stride w.end x reach a) where
           pub passing_can : CanBand w.spread (q + (x - low - 1) * w.stride) a ys
           unfolding h
-          passing_can = band_can w of.from.holds q of.from.first h x h_is inside reach (odd_reaches x s.odd) a parents ys asked
+          passing_can = band_can w q of.from.first h x h_is inside reach (odd_reaches x s.odd) a parents ys asked
 
           pub passing_steps : (zs : List ℤ) → LoweredOn a (Band w.spread (q + (x - low - 1) * w.stride)) ys zs → Passing zs (x + 2 * reach)
           unfolding h
@@ -200,6 +210,6 @@ module _ (w : Sweep) (q reach : ℕ) (xs : List ℤ) where
                           (omega (arith, l.there.1));
                     }))
                     (λ before. inl (record { row = l.row; there = (l.there.0, before) })))
-                    (band_turned w of.from.holds q of.from.first h x h_is inside reach (odd_reaches x s.odd) a parents ys zs
+                    (band_turned w q of.from.first h x h_is inside reach (odd_reaches x s.odd) a parents ys zs
                     ran);
               }

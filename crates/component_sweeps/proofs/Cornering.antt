@@ -2,98 +2,97 @@
 -- place is at least half the box's width, so that it can step down so far.
 -- Assumes nothing.
 use mathlib.Core.List.{List}
-use mathlib.Core.Path.{◌≡◌, refl, ◌∙◌}
-use Prim.Native.Nat.{ℕ, ◌+◌, ◌-◌, ◌*◌, ◌^◌, ◌≤◌, ◌<◌}
-use native.Mathlib.Nat.{pow-suc}
+use mathlib.Core.Path.{◌≡◌, refl, ap₂, sym, ◌∙◌}
+use Prim.Native.Nat.{ℕ, zero, suc, ◌+◌, ◌-◌, ◌*◌, ◌^◌, ◌≤◌, ◌<◌}
+use native.Mathlib.Numerals.{add-one}
 use native.Mathlib.Omega.{arith}
-use lib.ListN.{length, set, length-set}
 use lib.Pow.{pow_pos}
-use lib.Seq.{get_or-set_same, get_or-set_other}
 use Rattle.naturals.proofs.Cases.{eq_or_not}
 use Rattle.numbering.specs.Point.{at}
-use Rattle.component_grids.specs.Component.{across, points_to, place_at}
-use Rattle.component_grids.proofs.Places.{Shifted, across_is, shift_down}
+use Rattle.component_grids.specs.Component.{points_to, place_at}
+use Rattle.component_grids.proofs.Places.{Shifted, shift_down}
+use Rattle.component_boxes.specs.Order.{half_span}
+use Rattle.component_boxes.proofs.Falling.{points_before}
+use Rattle.component_boxes.proofs.WholeGrid.{half_span_zero, half_span_suc, half_span_inside}
+use Rattle.component_sweeps.specs.declared.grid.Layout.{Layout}
 use Rattle.component_sweeps.specs.declared.grid.GridBox.{GridBox}
-use Rattle.component_sweeps.specs.Steps.{tops_of, turn_of, Corner, Sizes}
+use Rattle.component_sweeps.specs.Steps.{tops_of, turn_of, Corner}
 use Rattle.component_sweeps.proofs.Lines.{box_low}
-use Rattle.component_sweeps.proofs.Bounds.{half_most, stride_most, times_most, ground}
+use Rattle.component_sweeps.proofs.Bounds.{ground}
 
-pub record Cornering (box : GridBox) (sizes : List ℕ) (q t : ℕ) : Type 0 where
-  pub long : length sizes ≡ 8
-  pub inside : q < points_to (tops_of box.grid.now) box.grid.now.axes
-  pub lowest : (u : ℕ) → u < t → place_at (tops_of box.grid.now) q u + 2 ^ at box.levels u ≡ place_at (tops_of box.grid.now) box.centre u + 1
-  pub rest : (u : ℕ) → t ≤ u → u < box.grid.now.axes → place_at (tops_of box.grid.now) q u ≡ place_at (tops_of box.grid.now) box.centre u
-  pub sizes_are : (u : ℕ) → u < t → at sizes u ≡ across (at box.levels u)
+-- ---- the span of a box's half
+
+module _ (g : Layout) (ls : List ℕ) (within : (t : ℕ) → t < g.axes → at ls t ≤ at g.tops t) where
+  pub level_low : (t : ℕ) → t < g.axes → at ls t ≤ 8
+  level_low t axis = omega (arith, within t axis, g.low t)
+
+  module _ (t span : ℕ) (is : span ≡ half_span t (tops_of g) (at ls)) (axis : t < g.axes) (half : ℕ) (half_is : half ≡ 2 ^ at ls t) where
+    pub spanned_next : span + (half - 1) * at g.strides t ≡ half_span (t + 1) (tops_of g) (at ls)
+    spanned_next =
+        rw (add-one t)
+        (ap₂ (λ (x y : ℕ). x + y) is (ap₂ (λ (x y : ℕ). (x - 1) * y) half_is (g.laid t axis)) ∙ sym (half_span_suc (tops_of g) (at ls) t))
+
+    pub spanned_fits : span + (half - 1) * at g.strides t < 32768
+    spanned_fits =
+        omega (
+          arith,
+          spanned_next,
+          half_span_inside (tops_of g) (at ls) (t + 1) (λ u less. within u (omega arith)),
+          points_before (tops_of g) (t + 1) g.axes (omega arith),
+          g.small,
+        )
+
+-- ---- the first position
 
 module _ (box : GridBox) where
-  pub level_few : (t : ℕ) → t < box.grid.now.axes → at box.levels t ≤ 8
-  level_few t axis = omega (arith, box.fits.within t axis, box.grid.now.low t)
+  abbrev d : ℕ
+  d = box.grid.now.axes
 
-  pub cornering_starts : (sizes : List ℕ) → length sizes ≡ 8 → Cornering box sizes box.centre 0
-  cornering_starts sizes long =
+  abbrev tops : ℕ → ℕ
+  tops = tops_of box.grid.now
+
+  abbrev span : ℕ → ℕ
+  span t = half_span t tops (at box.levels)
+
+  -- The steps down on the first t axes.
+  record Cornering (t : ℕ) : Type 0 where
+    pub within : span t ≤ box.centre
+    pub inside : box.centre - span t < points_to tops d
+    pub lowest : (u : ℕ) → u < t → place_at tops (box.centre - span t) u + 2 ^ at box.levels u ≡ place_at tops box.centre u + 1
+    pub rest : (u : ℕ) → t ≤ u → u < d → place_at tops (box.centre - span t) u ≡ place_at tops box.centre u
+
+  cornering : (t : ℕ) → t ≤ d → Cornering t
+  cornering zero le =
+      let none : box.centre - span 0 ≡ box.centre = omega (arith, half_span_zero tops (at box.levels)) in
       record {
-        long = long;
-        inside = box.fits.inside;
+        within = omega (arith, half_span_zero tops (at box.levels));
+        inside = omega (arith, none, box.fits.inside);
         lowest = λ u less. absurd (omega arith);
-        rest = λ u from axis. refl;
-        sizes_are = λ u less. absurd (omega arith);
+        rest = λ u from axis. rw none refl;
+      }
+  cornering (suc t) le =
+      let s : Cornering t = cornering t (omega arith) in
+      let far : ℕ = 2 ^ at box.levels t - 1 in
+      let enough : far < place_at tops (box.centre - span t) t =
+      omega (arith, box_low (turn_of box t) (ground box t le) t le, s.rest t (omega arith) le, pow_pos (at box.levels t)) in
+      let down = shift_down d tops t (box.centre - span t) far le s.inside enough in
+      let next : box.centre - span (suc t) ≡ box.centre - span t - far * points_to tops t = omega (arith, half_span_suc tops (at box.levels) t) in
+      record {
+        within = omega (arith, half_span_suc tops (at box.levels) t, down.0, s.within);
+        inside = omega (arith, next, down.1.inside);
+        lowest =
+            λ u less.
+            rw next
+            (eq_or_not u t
+            (λ e. rw e (omega (arith, down.1.own, enough, s.rest t (omega arith) le, pow_pos (at box.levels t))))
+            (λ ne. omega (arith, down.1.others u (omega arith) ne, s.lowest u (omega arith))));
+        rest = λ u from lt. rw next (down.1.others u lt (λ e. omega arith) ∙ s.rest u (omega arith) lt);
       }
 
-  module _ (sizes : List ℕ) (q t : ℕ) (s : Cornering box sizes q t) where
-    pub cornering_ends : box.grid.now.axes ≤ t → Corner box q × Sizes box sizes
-    cornering_ends past =
-        (record { inside = s.inside; lowest = λ u lt. s.lowest u (omega arith) }, λ u lt. s.sizes_are u (omega arith))
+  pub span_within : span d ≤ box.centre
+  span_within = (cornering d (omega arith)).within
 
-    module _ (axis : t < box.grid.now.axes) (half stride : ℕ) (half_is : half ≡ 2 ^ at box.levels t) (stride_is : stride ≡ points_to (tops_of box.grid.now) t) where
-      half_fits : half ≤ place_at (tops_of box.grid.now) q t
-      half_fits =
-          omega (
-            arith,
-            box_low (turn_of box t) (ground box t axis) t axis,
-            s.rest t (omega arith) axis,
-          )
-
-      pub half_some : 1 ≤ half
-      half_some = omega (arith, pow_pos (at box.levels t))
-
-      pub half_small : half ≤ 256
-      half_small = omega (arith, half_most (turn_of box t) (ground box t axis) t axis)
-
-      pub product_fits : (half - 1) * stride ≤ 8388608
-      product_fits =
-          times_most (half - 1) stride 256 32768 (omega (arith, half_small))
-          (omega (arith, stride_most (turn_of box t) (ground box t axis) t axis))
-
-      -- The step down on the axis.
-      pub enough : (half - 1) * stride ≤ q
-      enough =
-          rw stride_is
-          (shift_down box.grid.now.axes (tops_of box.grid.now) t q (half - 1) axis s.inside (omega (arith, half_fits, half_some))).0
-
-      stepped : Shifted box.grid.now.axes (tops_of box.grid.now) t q (q - (half - 1) * stride) (place_at (tops_of box.grid.now) q t - (half - 1))
-      stepped =
-          rw stride_is
-          (shift_down box.grid.now.axes (tops_of box.grid.now) t q (half - 1) axis s.inside (omega (arith, half_fits, half_some))).1
-
-      pub cornering_steps : Cornering box (set sizes t (2 * half - 1)) (q - (half - 1) * stride) (t + 1)
-      cornering_steps =
-          record {
-            long = length-set sizes t (2 * half - 1) ∙ s.long;
-            inside = stepped.inside;
-            lowest =
-                λ u less.
-                eq_or_not u t
-                (λ e. rw e (omega (arith, stepped.own, half_fits, half_some, s.rest t (omega arith) axis)))
-                (λ ne. omega (arith, stepped.others u (omega arith) ne, s.lowest u (omega arith)));
-            rest =
-                λ u from lt.
-                stepped.others u lt (λ e. omega arith) ∙ s.rest u (omega arith) lt;
-            sizes_are =
-                λ u less.
-                eq_or_not u t
-                (λ e.
-                rw e
-                (get_or-set_same sizes t (2 * half - 1) 0 (omega (arith, s.long, box.grid.now.few))
-                ∙ omega (arith, across_is (at box.levels t), pow-suc 2 (at box.levels t))))
-                (λ ne. get_or-set_other sizes t u (2 * half - 1) 0 ne ∙ s.sizes_are u (omega arith));
-          }
+  pub corner_is : Corner box (box.centre - span d)
+  corner_is =
+      let s : Cornering d = cornering d (omega arith) in
+      record { inside = s.inside; lowest = s.lowest }

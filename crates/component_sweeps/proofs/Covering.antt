@@ -13,15 +13,22 @@ use Rattle.numbering.specs.Point.{at}
 use Rattle.component_grids.specs.Component.{across, points_to}
 use Rattle.component_grids.proofs.Places.{across_is, across_pos, points_to_zero, points_to_suc, points_to_pos}
 use Rattle.component_sweeps.specs.declared.grid.GridBox.{GridBox}
-use Rattle.component_sweeps.specs.declared.Spread.{Spread}
-use Rattle.component_sweeps.specs.Steps.{tops_of, Ground, Banded, turn_of, Sizes, Covers}
+use Rattle.component_sweeps.specs.declared.axis.BoxAxis.{BoxAxis}
+use Rattle.component_sweeps.specs.declared.axis.Spread.{Spread}
+use Rattle.component_sweeps.specs.Steps.{tops_of, Ground, Banded, turn_of, Covers}
 use Rattle.component_boxes.proofs.Falling.{points_before}
 use Rattle.component_sweeps.proofs.Bounds.{times_most, ground}
 use Rattle.component_sweeps.proofs.Widths.{no_axis_lem, turned_axis, single_axis, more_lines, next_lines, wider_run, next_run}
 
-module _ (box : GridBox) (axis : ℕ) (on : axis < box.grid.now.axes) where
+module _ (on : BoxAxis) where
+  abbrev box : GridBox
+  box = on.of
+
+  abbrev axis : ℕ
+  axis = on.axis
+
   known : Ground (turn_of box axis)
-  known = ground box axis on
+  known = ground box axis on.inside
 
   abbrev tops : ℕ → ℕ
   tops = tops_of box.grid.now
@@ -38,190 +45,170 @@ module _ (box : GridBox) (axis : ℕ) (on : axis < box.grid.now.axes) where
         banded = no_axis_lem _ known;
       }
 
-  pub unit_near : (b : Spread) → Covers box axis b → b.unit ≤ 32768
-  unit_near b so =
-      omega (
-        arith,
-        so.short,
-        mul-le-mul_right {m = 1} {n = b.width} b.unit so.banded.some,
-        points_before tops b.from box.grid.now.axes so.few,
-        box.grid.now.small,
-      )
+  pub left_over : (b : Spread) → Covers box axis b → (b.from ≡ box.grid.now.axes → ⊥) → b.from < box.grid.now.axes
+  left_over b so some = eq_or_not b.from box.grid.now.axes (λ e. absurd (some e)) (λ ne. omega (arith, so.few))
 
-  module _ (sizes : List ℕ) (sizes_are : Sizes box sizes) where
-    pub left_over : (b : Spread) → Covers box axis b → (b.from ≡ box.grid.now.axes → ⊥) → b.from < box.grid.now.axes
-    left_over b so some = eq_or_not b.from box.grid.now.axes (λ e. absurd (some e)) (λ ne. omega (arith, so.few))
+  module _ (b : Spread) (so : Covers box axis b) (less : b.from < box.grid.now.axes) (size : ℕ) (size_is : size ≡ across (at box.levels b.from)) where
+    abbrev u : ℕ
+    u = b.from
 
-    module _ (b : Spread) (so : Covers box axis b) (less : b.from < box.grid.now.axes) where
-      abbrev u : ℕ
-      u = b.from
+    abbrev stride : ℕ
+    stride = at box.grid.now.strides u
 
-      abbrev size : ℕ
-      size = at sizes u
+    stride_is : stride ≡ points_to tops u
+    stride_is = box.grid.now.laid u less
 
-      abbrev stride : ℕ
-      stride = at box.grid.now.strides u
+    grows : points_to tops u ≤ points_to tops (u + 1)
+    grows = points_before tops u (u + 1) (omega arith)
 
-      pub few : u < 8
-      few = omega (arith, box.grid.now.few)
+    -- The points of the axis lie within the next stride.
+    within : stride * size ≤ points_to tops (u + 1)
+    within =
+        omega (
+          arith,
+          stride_is,
+          size_is,
+          ap (λ (y : ℕ). points_to tops y) (add-one u),
+          points_to_suc tops u,
+          times_most stride size (points_to tops u) (across (tops u)) (omega (arith, stride_is))
+              (omega (
+                arith,
+                size_is,
+                across_is (at box.levels u),
+                across_is (tops u),
+                pow_mono {i = suc (at box.levels u)} {j = suc (tops u)} (omega (arith, box.fits.within u less)),
+              )),
+        )
 
-      size_is : size ≡ across (at box.levels u)
-      size_is = sizes_are u less
+    -- ---- how large the numbers are
 
-      stride_is : stride ≡ points_to tops u
-      stride_is = box.grid.now.laid u less
+    small : points_to tops u ≤ 32768
+    small = omega (arith, points_before tops u box.grid.now.axes (omega arith), box.grid.now.small)
 
-      grows : points_to tops u ≤ points_to tops (u + 1)
-      grows = points_before tops u (u + 1) (omega arith)
+    size_most : size ≤ 32768
+    size_most =
+        omega (
+          arith,
+          within,
+          points_before tops (u + 1) box.grid.now.axes (omega arith),
+          box.grid.now.small,
+          mul-le-mul_right {m = 1} {n = stride} size (omega (arith, stride_is, points_to_pos tops u)),
+        )
 
-      -- The points of the axis lie within the next stride.
-      within : stride * size ≤ points_to tops (u + 1)
-      within =
-          omega (
-            arith,
-            stride_is,
-            size_is,
-            ap (λ (y : ℕ). points_to tops y) (add-one u),
-            points_to_suc tops u,
-            times_most stride size (points_to tops u) (across (tops u)) (omega (arith, stride_is))
-                (omega (
-                  arith,
-                  size_is,
-                  across_is (at box.levels u),
-                  across_is (tops u),
-                  pow_mono {i = suc (at box.levels u)} {j = suc (tops u)} (omega (arith, box.fits.within u less)),
-                )),
-          )
+    pub run_most : b.width * b.unit ≤ 32768
+    run_most = omega (arith, so.short, small)
 
-      -- ---- how large the numbers are
+    pub lines_most : b.lines * b.apart ≤ 32768
+    lines_most = omega (arith, so.low, small)
 
-      small : points_to tops u ≤ 32768
-      small = omega (arith, points_before tops u box.grid.now.axes (omega arith), box.grid.now.small)
+    pub lines_product : b.lines * size ≤ 1073741824
+    lines_product =
+        times_most b.lines size 32768 32768
+        (omega (arith, lines_most, mul-le-mul_right {m = 1} {n = b.apart} b.lines so.far, mul_comm b.apart b.lines))
+        size_most
 
-      size_most : size ≤ 32768
-      size_most =
-          omega (
-            arith,
-            within,
-            points_before tops (u + 1) box.grid.now.axes (omega arith),
-            box.grid.now.small,
-            mul-le-mul_right {m = 1} {n = stride} size (omega (arith, stride_is, points_to_pos tops u)),
-          )
+    pub width_product : b.width * size ≤ 1073741824
+    width_product =
+        times_most b.width size 32768 32768
+        (omega (arith, run_most, mul-le-mul_right {m = 1} {n = b.unit} b.width so.step, mul_comm b.unit b.width))
+        size_most
 
-      pub run_most : b.width * b.unit ≤ 32768
-      run_most = omega (arith, so.short, small)
+    -- ---- the steps
 
-      pub lines_most : b.lines * b.apart ≤ 32768
-      lines_most = omega (arith, so.low, small)
+    -- The same band, with an axis that adds nothing.
+    covers_same : Banded (turn_of box axis) (u + 1) b.width b.lines b.apart b.unit →
+        Covers box axis (record { from = u + 1; width = b.width; lines = b.lines; apart = b.apart; unit = b.unit })
+    covers_same banded =
+        record {
+          few = omega arith;
+          many = so.many;
+          far = so.far;
+          step = so.step;
+          short = omega (arith, so.short, grows);
+          low = omega (arith, so.low, grows);
+          banded = banded;
+        }
 
-      pub lines_product : b.lines * size ≤ 1073741824
-      lines_product =
-          times_most b.lines size 32768 32768
-          (omega (arith, lines_most, mul-le-mul_right {m = 1} {n = b.apart} b.lines so.far, mul_comm b.apart b.lines))
-          size_most
+    pub covers_turned : u ≡ axis → Covers box axis (record { from = u + 1; width = b.width; lines = b.lines; apart = b.apart; unit = b.unit })
+    covers_turned e = covers_same (turned_axis _ known u _ _ _ _ so.banded e)
 
-      pub width_product : b.width * size ≤ 1073741824
-      width_product =
-          times_most b.width size 32768 32768
-          (omega (arith, run_most, mul-le-mul_right {m = 1} {n = b.unit} b.width so.step, mul_comm b.unit b.width))
-          size_most
+    pub covers_single : size ≡ 1 → Covers box axis (record { from = u + 1; width = b.width; lines = b.lines; apart = b.apart; unit = b.unit })
+    covers_single e = covers_same (single_axis _ known u _ _ _ _ so.banded less (sym size_is ∙ e))
 
-      -- ---- the steps
+    module _ (other : u ≡ axis → ⊥) where
+      module _ (one : b.lines ≡ 1) where
+        banded_one : Banded (turn_of box axis) u b.width 1 b.apart b.unit
+        banded_one = rw one at so.banded
 
-      -- The same band, with an axis that adds nothing.
-      covers_same : Banded (turn_of box axis) (u + 1) b.width b.lines b.apart b.unit →
-          Covers box axis (record { from = u + 1; width = b.width; lines = b.lines; apart = b.apart; unit = b.unit })
-      covers_same banded =
-          record {
-            few = omega arith;
-            many = so.many;
-            far = so.far;
-            step = so.step;
-            short = omega (arith, so.short, grows);
-            low = omega (arith, so.low, grows);
-            banded = banded;
-          }
-
-      pub covers_turned : u ≡ axis → Covers box axis (record { from = u + 1; width = b.width; lines = b.lines; apart = b.apart; unit = b.unit })
-      covers_turned e = covers_same (turned_axis _ known u _ _ _ _ so.banded e)
-
-      pub covers_single : size ≡ 1 → Covers box axis (record { from = u + 1; width = b.width; lines = b.lines; apart = b.apart; unit = b.unit })
-      covers_single e = covers_same (single_axis _ known u _ _ _ _ so.banded less (sym size_is ∙ e))
-
-      module _ (other : u ≡ axis → ⊥) where
-        module _ (one : b.lines ≡ 1) where
-          banded_one : Banded (turn_of box axis) u b.width 1 b.apart b.unit
-          banded_one = rw one at so.banded
-
-          pub covers_run : b.width ≡ 1 → Covers box axis (record { from = u + 1; width = size; lines = b.lines; apart = b.apart; unit = stride })
-          covers_run narrow =
-              record {
-                few = omega arith;
-                many = so.many;
-                far = so.far;
-                step = omega (arith, stride_is, points_to_pos tops u);
-                short = omega (arith, within, mul_comm stride size);
-                low = omega (arith, so.low, grows);
-                banded =
-                    rw (one, size_is, stride_is) (next_run _ known u less other _ _ (rw narrow at banded_one));
-              }
-
-          pub covers_wider : b.width * b.unit ≡ stride →
-              Covers box axis (record { from = u + 1; width = b.width * size; lines = b.lines; apart = b.apart; unit = b.unit })
-          covers_wider ends =
-              record {
-                few = omega arith;
-                many = so.many;
-                far = so.far;
-                step = so.step;
-                short =
-                    omega (
-                      arith,
-                      within,
-                      mul_comm b.width size,
-                      mul_assoc size b.width b.unit,
-                      ap (λ (y : ℕ). size * y) ends,
-                      mul_comm stride size,
-                      ap (λ (y : ℕ). y * b.unit) (mul_comm b.width size),
-                    );
-                low = omega (arith, so.low, grows);
-                banded =
-                    rw (one, size_is) (wider_run _ known u less other _ _ _ banded_one (ends ∙ stride_is));
-              }
-
-          pub covers_lines : Covers box axis (record { from = u + 1; width = b.width; lines = size; apart = stride; unit = b.unit })
-          covers_lines =
-              record {
-                few = omega arith;
-                many = omega (arith, size_is, across_pos (at box.levels u));
-                far = omega (arith, stride_is, points_to_pos tops u);
-                step = so.step;
-                short = omega (arith, so.short, grows);
-                low = omega (arith, within, mul_comm stride size);
-                banded =
-                    rw (size_is, stride_is) (next_lines _ known u less other _ _ _ banded_one so.short);
-              }
-
-        pub covers_more : (b.lines ≡ 1 → ⊥) → b.lines * b.apart ≡ stride →
-            Covers box axis (record { from = u + 1; width = b.width; lines = b.lines * size; apart = b.apart; unit = b.unit })
-        covers_more many ends =
+        pub covers_run : b.width ≡ 1 → Covers box axis (record { from = u + 1; width = size; lines = b.lines; apart = b.apart; unit = stride })
+        covers_run narrow =
             record {
               few = omega arith;
-              many = mul-pos so.many (omega (arith, size_is, across_pos (at box.levels u)));
+              many = so.many;
+              far = so.far;
+              step = omega (arith, stride_is, points_to_pos tops u);
+              short = omega (arith, within, mul_comm stride size);
+              low = omega (arith, so.low, grows);
+              banded =
+                  rw (one, size_is, stride_is) (next_run _ known u less other _ _ (rw narrow at banded_one));
+            }
+
+        pub covers_wider : b.width * b.unit ≡ stride →
+            Covers box axis (record { from = u + 1; width = b.width * size; lines = b.lines; apart = b.apart; unit = b.unit })
+        covers_wider ends =
+            record {
+              few = omega arith;
+              many = so.many;
               far = so.far;
               step = so.step;
-              short = omega (arith, so.short, grows);
-              low =
+              short =
                   omega (
                     arith,
                     within,
-                    mul_assoc size b.lines b.apart,
+                    mul_comm b.width size,
+                    mul_assoc size b.width b.unit,
                     ap (λ (y : ℕ). size * y) ends,
                     mul_comm stride size,
-                    ap (λ (y : ℕ). y * b.apart) (mul_comm b.lines size),
+                    ap (λ (y : ℕ). y * b.unit) (mul_comm b.width size),
                   );
+              low = omega (arith, so.low, grows);
               banded =
-                  rw size_is
-                  (more_lines _ known u _ _ _ _ so.banded less other (ends ∙ stride_is) so.many
-                  (so.banded.wide (omega (arith, so.many))));
+                  rw (one, size_is) (wider_run _ known u less other _ _ _ banded_one (ends ∙ stride_is));
             }
+
+        pub covers_lines : Covers box axis (record { from = u + 1; width = b.width; lines = size; apart = stride; unit = b.unit })
+        covers_lines =
+            record {
+              few = omega arith;
+              many = omega (arith, size_is, across_pos (at box.levels u));
+              far = omega (arith, stride_is, points_to_pos tops u);
+              step = so.step;
+              short = omega (arith, so.short, grows);
+              low = omega (arith, within, mul_comm stride size);
+              banded =
+                  rw (size_is, stride_is) (next_lines _ known u less other _ _ _ banded_one so.short);
+            }
+
+      pub covers_more : (b.lines ≡ 1 → ⊥) → b.lines * b.apart ≡ stride →
+          Covers box axis (record { from = u + 1; width = b.width; lines = b.lines * size; apart = b.apart; unit = b.unit })
+      covers_more many ends =
+          record {
+            few = omega arith;
+            many = mul-pos so.many (omega (arith, size_is, across_pos (at box.levels u)));
+            far = so.far;
+            step = so.step;
+            short = omega (arith, so.short, grows);
+            low =
+                omega (
+                  arith,
+                  within,
+                  mul_assoc size b.lines b.apart,
+                  ap (λ (y : ℕ). size * y) ends,
+                  mul_comm stride size,
+                  ap (λ (y : ℕ). y * b.apart) (mul_comm b.lines size),
+                );
+            banded =
+                rw size_is
+                (more_lines _ known u _ _ _ _ so.banded less other (ends ∙ stride_is) so.many
+                (so.banded.wide (omega (arith, so.many))));
+          }

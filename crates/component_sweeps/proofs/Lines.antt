@@ -9,11 +9,14 @@ use native.Mathlib.Omega.{arith}
 use lib.IntN.{ℤ, ◌+ℤ◌, ◌-ℤ◌}
 use lib.Pow.{pow-add, pow_pos}
 use Rattle.std.specs.Prelude.{Some, None}
+use Rattle.std.proofs.Math.Logic.{∥∥₁_elim}
+use Rattle.std.proofs.Props.{props}
 use Rattle.naturals.proofs.Cases.{eq_or_not}
 use Rattle.integers.specs.Half.{half}
 use Rattle.numbering.specs.declared.Side.{Side}
 use Rattle.numbering.specs.declared.Side.TheVariants.{Left, Right}
 use Rattle.numbering.specs.Parent.{twos}
+use Rattle.numbering.specs.Point.{at}
 use Rattle.hierarchy.specs.Grid.{Still}
 use Rattle.hierarchy.specs.Turns.{value_at, sum_on, forward}
 use Rattle.hierarchy.proofs.Still.{forward_still}
@@ -23,9 +26,11 @@ use Rattle.component_grids.proofs.Places.{Shifted, place_low, place_high, shift_
 use Rattle.component_grids.proofs.Beside.{reach, moved, reach_le, reach_high, beside, left_none_lem, left_some_lem, right_none_lem, right_some_lem}
 use Rattle.component_boxes.proofs.Fitting.{times_on, on_multiple}
 use Rattle.component_sweeps.specs.declared.Parents.{Parents}
-use Rattle.component_sweeps.specs.declared.Sweep.{Sweep}
-use Rattle.component_sweeps.specs.Steps.{behind, ahead, lowered, Band, CanBand, LoweredOn, Turn, place_on, middle, InBox, Asked, Turned, Ground, Row, Along, First, ParentsAt, Holds, turn}
+use Rattle.component_sweeps.specs.declared.axis.Sweep.{Sweep}
+use Rattle.component_sweeps.specs.Steps.{behind, ahead, lowered, Band, CanBand, LoweredOn, Turn, place_on, middle, InBox, Asked, Turned, Ground, Row, Along, First, ParentsAt, Covers}
+use Rattle.component_sweeps.specs.SweepSteps.{turn}
 use Rattle.component_sweeps.proofs.Apart.{Apart}
+use Rattle.component_sweeps.proofs.Bounds.{known, unit_near}
 use Rattle.component_sweeps.proofs.Reaching.{below_next}
 use Rattle.component_sweeps.proofs.Lowering.{none_or_some}
 
@@ -113,9 +118,12 @@ none_not_some e = cc
 
 -- ---- one place of a line
 
-module _ (w : Sweep) (n : Holds w) (q : ℕ) (f : First (turn w) w.spread.from q) where
+module _ (w : Sweep) (covers : Covers w.on.of w.on.axis w.spread) (q : ℕ) (f : First (turn w) w.spread.from q) where
   abbrev g : Turn
   g = turn w
+
+  ground : Ground g
+  ground = known w
 
   -- So many places after the first one.
   module _ (h x : ℕ) (is : x ≡ place_on g q g.axis + h) (high : x < middle g g.axis + 2 ^ g.levels g.axis) where
@@ -129,23 +137,23 @@ module _ (w : Sweep) (n : Holds w) (q : ℕ) (f : First (turn w) w.spread.from q
     low = omega (arith, f.own)
 
     far_there : h * w.stride ≡ h * points_to g.tops g.axis
-    far_there = ap (λ (y : ℕ). h * y) n.stride_is
+    far_there = ap (λ (y : ℕ). h * y) w.stride_is
 
     line_into : (p : ℕ) → There p → Here p
     line_into p b =
         let t = g.axis in
         let p' = q + b.line * w.spread.apart + b.index * w.spread.unit in
         let base =
-        n.banded.into q p' f
+        covers.banded.into q p' f
         (record { line = b.line; index = b.index; below = b.below; inside = b.inside; is = refl }) in
         let s =
-        shift_up g.axes g.tops t p' h n.ground.axis base.row.near.inside
-        (omega (arith, base.there, box_high g n.ground t n.ground.axis)) in
+        shift_up g.axes g.tops t p' h ground.axis base.row.near.inside
+        (omega (arith, base.there, box_high g ground t ground.axis)) in
         let at : p ≡ p' + h * points_to g.tops t = omega (arith, b.is, far_there) in
         let there : place_on g p' t + h ≡ x = omega (arith, base.there) in
         rw at
         record {
-          row = row_moved g n.ground w.spread.from q p' _ _ base.row s (omega (arith, low, there)) (omega (arith, there));
+          row = row_moved g ground w.spread.from q p' _ _ base.row s (omega (arith, low, there)) (omega (arith, there));
           there = s.own ∙ there;
         }
 
@@ -153,14 +161,14 @@ module _ (w : Sweep) (n : Holds w) (q : ℕ) (f : First (turn w) w.spread.from q
     line_from p l =
         let t = g.axis in
         let s =
-        shift_down g.axes g.tops t p h n.ground.axis l.row.near.inside (omega (arith, l.there, place_low g.tops q t)) in
+        shift_down g.axes g.tops t p h ground.axis l.row.near.inside (omega (arith, l.there, place_low g.tops q t)) in
         let back : place_on g p t - h ≡ place_on g q t = omega (arith, l.there) in
         let base =
-        n.banded.from q (p - h * points_to g.tops t) f
+        covers.banded.from q (p - h * points_to g.tops t) f
         (record {
           row =
-              row_moved g n.ground w.spread.from q p _ _ l.row s.1 (omega (arith, f.own, back))
-              (omega (arith, back, f.near.high t n.ground.axis));
+              row_moved g ground w.spread.from q p _ _ l.row s.1 (omega (arith, f.own, back))
+              (omega (arith, back, f.near.high t ground.axis));
           there = s.1.own ∙ back;
         }) in
         record {
@@ -177,7 +185,7 @@ module _ (w : Sweep) (n : Holds w) (q : ℕ) (f : First (turn w) w.spread.from q
         own_reach = ap reach l.there ∙ reaches
 
         far_is : w.stride * r ≡ reach (place_on g p g.axis) * points_to g.tops g.axis
-        far_is = mul_comm w.stride r ∙ ap₂ ◌*◌ (sym own_reach) n.stride_is
+        far_is = mul_comm w.stride r ∙ ap₂ ◌*◌ (sym own_reach) w.stride_is
 
         left_is : (far : ℕ) → a.left ≡ Some far → far ≡ reach (place_on g p g.axis) * points_to g.tops g.axis
         left_is far e = (parents.left_some far e).0 ∙ far_is
@@ -199,7 +207,7 @@ module _ (w : Sweep) (n : Holds w) (q : ℕ) (f : First (turn w) w.spread.from q
               arith,
               own_reach,
               l.there,
-              n.end_is,
+              w.end_is,
               reach_high (g.tops g.axis) (place_on g p g.axis) (place_low g.tops p g.axis) (place_high g.tops p g.axis),
             ))
 
@@ -209,12 +217,12 @@ module _ (w : Sweep) (n : Holds w) (q : ℕ) (f : First (turn w) w.spread.from q
             (λ e.
             rw e
             (sym
-            (left_none_lem g.axes g.tops g.axis p n.ground.axis l.row.near.inside
+            (left_none_lem g.axes g.tops g.axis p ground.axis l.row.near.inside
             (l.there ∙ parents.left_none e ∙ sym own_reach))))
             (λ far e.
             rw e
             (ap (λ (y : ℕ). suc (p - y)) (left_is far e)
-            ∙ sym (left_some_lem g.axes g.tops g.axis p n.ground.axis l.row.near.inside (left_less far e))))
+            ∙ sym (left_some_lem g.axes g.tops g.axis p ground.axis l.row.near.inside (left_less far e))))
 
         ahead_is : ahead p a.right ≡ neighbour g.axes g.tops g.axis Right (suc p)
         ahead_is =
@@ -222,18 +230,18 @@ module _ (w : Sweep) (n : Holds w) (q : ℕ) (f : First (turn w) w.spread.from q
             (λ e.
             rw e
             (sym
-            (right_none_lem g.axes g.tops g.axis p n.ground.axis l.row.near.inside
-            (ap₂ ◌+◌ l.there own_reach ∙ parents.right_none e ∙ n.end_is))))
+            (right_none_lem g.axes g.tops g.axis p ground.axis l.row.near.inside
+            (ap₂ ◌+◌ l.there own_reach ∙ parents.right_none e ∙ w.end_is))))
             (λ far e.
             rw e
             (ap (λ (y : ℕ). suc (p + y)) (right_is far e)
-            ∙ sym (right_some_lem g.axes g.tops g.axis p n.ground.axis l.row.near.inside (right_less far e))))
+            ∙ sym (right_some_lem g.axes g.tops g.axis p ground.axis l.row.near.inside (right_less far e))))
 
       -- The parents of a point have another place on the axis.
       left_there : (p far : ℕ) → Here p → a.left ≡ Some far → (far ≤ p) × (place_on g (p - far) g.axis < x)
       left_there p far l e =
           let s =
-          shift_down g.axes g.tops g.axis p (reach (place_on g p g.axis)) n.ground.axis l.row.near.inside (left_less p l far e) in (
+          shift_down g.axes g.tops g.axis p (reach (place_on g p g.axis)) ground.axis l.row.near.inside (left_less p l far e) in (
             omega (arith, s.0, left_is p l far e),
             rw (left_is p l far e)
                 (omega (arith, s.1.own, l.there, left_less p l far e, pow_pos (twos (place_on g p g.axis)))),
@@ -242,18 +250,18 @@ module _ (w : Sweep) (n : Holds w) (q : ℕ) (f : First (turn w) w.spread.from q
       right_there : (p far : ℕ) → Here p → a.right ≡ Some far → (p + far < points_to g.tops g.axes) × (x < place_on g (p + far) g.axis)
       right_there p far l e =
           let s =
-          shift_up g.axes g.tops g.axis p (reach (place_on g p g.axis)) n.ground.axis l.row.near.inside (right_less p l far e) in (
+          shift_up g.axes g.tops g.axis p (reach (place_on g p g.axis)) ground.axis l.row.near.inside (right_less p l far e) in (
             omega (arith, s.inside, right_is p l far e),
             rw (right_is p l far e) (omega (arith, s.own, l.there, pow_pos (twos (place_on g p g.axis)))),
           )
 
-      pub band_can : (xs : List ℤ) → Asked g Here xs → CanBand w.spread (q + h * w.stride) a xs
-      band_can xs asked =
+      can_by : (xs : List ℤ) → Asked g Here xs → CanBand w.spread (q + h * w.stride) a xs
+      can_by xs asked =
           record {
-            room = omega (arith, asked.long, n.ground.small, n.near);
-            some = n.banded.some;
-            step = n.banded.step;
-            wide = n.banded.wide;
+            room = omega (arith, asked.long, ground.small, unit_near w.on.of w.on.axis w.spread covers);
+            some = covers.banded.some;
+            step = covers.banded.step;
+            wide = covers.banded.wide;
             can =
                 record {
                   each =
@@ -272,9 +280,9 @@ module _ (w : Sweep) (n : Holds w) (q : ℕ) (f : First (turn w) w.spread.from q
                 };
           }
 
-      pub band_turned : (xs ys : List ℤ) → LoweredOn a There xs ys → Turned g Here xs ys
+      turned_by : (xs ys : List ℤ) → LoweredOn a There xs ys → Turned g Here xs ys
       unfolding lowered forward sum_on
-      band_turned xs ys s =
+      turned_by xs ys s =
           record {
             long = s.long;
             on =
@@ -286,8 +294,8 @@ module _ (w : Sweep) (n : Holds w) (q : ℕ) (f : First (turn w) w.spread.from q
           }
 
     -- A place with no parents stays.
-    pub band_still : (r : ℕ) → reach x ≡ r → x ≡ r → x + r ≡ w.end → (xs : List ℤ) → Turned g Here xs xs
-    band_still r reaches left right xs =
+    still_by : (r : ℕ) → reach x ≡ r → x ≡ r → x + r ≡ w.end → (xs : List ℤ) → Turned g Here xs xs
+    still_by r reaches left right xs =
         record {
           long = refl;
           on = λ p l. sym (forward_still (neighbour g.axes g.tops) g.axis (value_at xs) (value_zero xs) (suc p) (still p l));
@@ -306,3 +314,19 @@ module _ (w : Sweep) (n : Holds w) (q : ℕ) (f : First (turn w) w.spread.from q
         still : (p : ℕ) → Here p → Still (neighbour g.axes g.tops) g.axis (suc p)
         still p l Left = sym (behind_is r reaches _ none p l)
         still p l Right = sym (ahead_is r reaches _ none p l)
+
+-- As the type of a sweep says that its band covers the box.
+module _ (w : Sweep) (q : ℕ) (f : First (turn w) w.spread.from q) (h x : ℕ) (is : x ≡ place_on (turn w) q w.on.axis + h)
+    (high : x < middle (turn w) w.on.axis + 2 ^ at w.on.of.levels w.on.axis) (r : ℕ) (reaches : reach x ≡ r) where
+  abbrev Placed : ℕ → Type 0
+  Placed = Along (turn w) w.spread.from q (λ y. y ≡ x)
+
+  module _ (a : Parents) (parents : ParentsAt w.stride w.end x r a) (xs : List ℤ) where
+    pub band_can : Asked (turn w) Placed xs → CanBand w.spread (q + h * w.stride) a xs
+    band_can asked = ∥∥₁_elim w.covers (hlevel props) (λ covers. can_by w covers q f h x is high r reaches a parents xs asked)
+
+    pub band_turned : (ys : List ℤ) → LoweredOn a (Band w.spread (q + h * w.stride)) xs ys → Turned (turn w) Placed xs ys
+    band_turned ys s = ∥∥₁_elim w.covers (hlevel props) (λ covers. turned_by w covers q f h x is high r reaches a parents xs ys s)
+
+  pub band_still : x ≡ r → x + r ≡ w.end → (xs : List ℤ) → Turned (turn w) Placed xs xs
+  band_still left right xs = ∥∥₁_elim w.covers (hlevel props) (λ covers. still_by w covers q f h x is high r reaches left right xs)

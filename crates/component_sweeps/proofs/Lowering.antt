@@ -16,7 +16,7 @@ use Rattle.integers.specs.Half.{half, in_limit}
 use Rattle.hierarchy.specs.Turns.{value_at}
 use Rattle.hierarchy.proofs.Values.{value_zero, value_suc}
 use Rattle.component_sweeps.specs.declared.Parents.{Parents}
-use Rattle.component_sweeps.specs.declared.Spread.{Spread}
+use Rattle.component_sweeps.specs.declared.axis.Spread.{Spread}
 use Rattle.component_sweeps.specs.Steps.{behind, ahead, lowered, CanStep, CanLower, LoweredOn, InRun, InBand, Run, CanRun, CanBand}
 use Rattle.component_sweeps.proofs.Apart.{Within}
 

@@ -7,6 +7,7 @@ use mathlib.Core.Logic.{inl, inr}
 use mathlib.Core.Path.{◌≡◌, refl, ap, sym, ◌∙◌}
 use Prim.Native.Nat.{ℕ, suc, ◌+◌, ◌-◌, ◌*◌, ◌^◌, ◌≤◌, ◌<◌}
 use native.Mathlib.Nat.{pow-suc}
+use native.Mathlib.Numerals.{add-one}
 use native.Mathlib.Omega.{arith}
 use lib.IntN.{ℤ}
 use lib.Pow.{pow_pos, pow_mono}
@@ -17,12 +18,13 @@ use Rattle.component_grids.proofs.Beside.{reach_le}
 use Rattle.component_boxes.proofs.Reach.{reach_multiple}
 use Rattle.component_boxes.proofs.Fitting.{times_on, on_multiple}
 use Rattle.component_sweeps.specs.declared.Parents.{Parents}
-use Rattle.component_sweeps.specs.declared.Sweep.{Sweep}
-use Rattle.component_sweeps.specs.Steps.{Band, CanBand, LoweredOn, Turn, place_on, middle, Turned, Along, ParentsAt, turn, Class, InClass, Line, InLine}
+use Rattle.component_sweeps.specs.declared.axis.Sweep.{Sweep}
+use Rattle.component_sweeps.specs.Steps.{Band, CanBand, LoweredOn, Turn, place_on, middle, Turned, Along, ParentsAt}
+use Rattle.component_sweeps.specs.SweepSteps.{turn, Class, InClass, Line, InLine}
 use Rattle.component_sweeps.proofs.Apart.{Apart, turned_none, limited_next, turned_both}
 use Rattle.component_sweeps.proofs.Reaching.{reach_grows, reach_less, middle_only}
 use Rattle.component_sweeps.proofs.Lines.{box_low, kinds_apart, band_can, band_turned, band_still}
-use Rattle.component_sweeps.proofs.Bounds.{times_most, stride_most, half_most, end_most}
+use Rattle.component_sweeps.proofs.Bounds.{known, times_most, stride_most, half_most, end_most}
 
 -- A w.place that reaches less far.
 abbrev pub Finer : ℕ → ℕ → Type 0
@@ -32,41 +34,39 @@ module _ (w : Sweep) (q : ℕ) (xs : List ℤ) where
   abbrev g : Turn
   g = turn w
 
-  pub record Refining (ys : List ℤ) (r : ℕ) : Type 0 where
-    pub power : ℕ
-    pub is : r ≡ 2 ^ power
-    pub most : power ≤ g.levels g.axis
-    pub turned : Turned g (Along g w.spread.from q (Finer r)) xs ys
+  pub record Refining (ys : List ℤ) (level : ℕ) : Type 0 where
+    pub most : level ≤ g.levels g.axis
+    pub turned : Turned g (Along g w.spread.from q (Finer (2 ^ level))) xs ys
 
   module _ (of : Line w q xs) where
     abbrev t : ℕ
     t = g.axis
 
     axis : g.axis < g.axes
-    axis = of.holds.ground.axis
+    axis = w.on.inside
 
     -- ---- how large the numbers are
 
     pub half_fits : (w.half ≤ w.place) × (w.half ≤ 256) × (w.place ≤ 512)
     half_fits = (
-      omega (arith, of.holds.half_is, of.holds.place_is, box_low g of.holds.ground t axis),
-      omega (arith, of.holds.half_is, half_most g of.holds.ground t axis),
-      omega (arith, of.holds.place_is, place_high g.tops g.centre t, end_most g of.holds.ground t),
+      omega (arith, w.half_is, w.place_is, box_low g (known w) t axis),
+      omega (arith, w.half_is, half_most g (known w) t axis),
+      omega (arith, w.place_is, place_high g.tops g.centre t, end_most g (known w) t),
     )
 
     pub half_some : 1 ≤ w.half
-    half_some = omega (arith, of.holds.half_is, pow_pos (g.levels t))
+    half_some = omega (arith, w.half_is, pow_pos (g.levels t))
 
     pub own_most : w.reach ≤ w.place
     own_most =
         omega (
           arith,
-          of.holds.reach_is,
-          reach_le w.place (omega (arith, of.holds.place_is, place_low g.tops g.centre t)),
+          w.reach_is,
+          reach_le w.place (omega (arith, w.place_is, place_low g.tops g.centre t)),
         )
 
     pub stride_small : w.stride ≤ 32768
-    stride_small = omega (arith, of.holds.stride_is, stride_most g of.holds.ground t axis)
+    stride_small = omega (arith, w.stride_is, stride_most g (known w) t axis)
 
     pub far_most : w.stride * w.reach ≤ 16777216
     far_most = times_most w.stride w.reach 32768 512 stride_small (omega (arith, own_most, half_fits))
@@ -75,64 +75,54 @@ module _ (w : Sweep) (q : ℕ) (xs : List ℤ) where
     middle_most = times_most (w.half - 1) w.stride 256 32768 (omega (arith, half_fits)) stride_small
 
     pub first_most : q < 32768
-    first_most = omega (arith, of.first.near.inside, of.holds.ground.small)
+    first_most = omega (arith, of.first.near.inside, (known w).small)
 
     -- ---- the loop
 
-    pub refining_starts : Refining xs 1
+    pub refining_starts : Refining xs 0
     refining_starts =
         record {
-          power = 0;
-          is = refl;
           most = omega arith;
           turned = turned_none g.axes g.tops t xs (λ p l. omega (arith, l.there, pow_pos (twos (place_on g p t))));
         }
 
-    module _ (ys : List ℤ) (r : ℕ) (s : Refining ys r) where
-      pub refining_some : 1 ≤ r
-      refining_some = omega (arith, s.is, pow_pos s.power)
+    module _ (ys : List ℤ) (level : ℕ) (s : Refining ys level) where
+      abbrev r : ℕ
+      r = 2 ^ level
 
       refining_most : r ≤ w.half
-      refining_most = omega (arith, s.is, of.holds.half_is, pow_mono {i = s.power} {j = g.levels t} s.most)
+      refining_most = omega (arith, w.half_is, pow_mono {i = level} {j = g.levels t} s.most)
+
+      double : 2 ^ (level + 1) ≡ r + r
+      double = rw (add-one level) (omega (arith, pow-suc 2 level))
 
       -- One reach more.
-      module _ (less : r < w.half) where
-        finer : s.power < g.levels t
-        finer =
-            le_or_lt (g.levels t) s.power
-            (λ le. absurd (omega (arith, s.is, of.holds.half_is, pow_mono {i = g.levels t} {j = s.power} le)))
-            (λ lt. lt)
-
-        separate : Apart g.axes g.tops t (Along g w.spread.from q (Finer r)) (InClass w q r)
+      module _ (finer : level < g.levels t) where
+        separate : Apart g.axes g.tops t (Along g w.spread.from q (Finer r)) (InClass w q level)
         separate =
-            kinds_apart g of.holds.ground w.spread.from q
+            kinds_apart g (known w) w.spread.from q
             (λ y same less. omega arith)
             (λ b y some there same less. omega (arith, reach_grows b y some there))
 
-        pub refining_class : Class w q r ys
+        pub refining_class : Class w q level ys
         refining_class =
             record {
               from =
                   record {
-                    holds = of.holds;
                     first = of.first;
                     asked = limited_next g.axes g.tops t separate s.turned (λ p l. l.row) (λ p l. l.row) of.asked;
                   };
-              power = s.power;
-              reach_is = s.is;
               finer = finer;
             }
 
-        pub refining_steps : (zs : List ℤ) → Turned g (InClass w q r) ys zs → Refining zs (r * 2)
+        pub refining_steps : (zs : List ℤ) → Turned g (InClass w q level) ys zs → Refining zs (level + 1)
         refining_steps zs u =
             record {
-              power = suc s.power;
-              is = omega (arith, s.is, pow-suc 2 s.power);
-              most = finer;
+              most = omega arith;
               turned =
                   turned_both g.axes g.tops t separate s.turned
-                  (λ p l. record { row = l.row; there = omega (arith, l.there) })
-                  (λ p l. record { row = l.row; there = omega (arith, l.there, refining_some) })
+                  (λ p l. record { row = l.row; there = omega (arith, l.there, double) })
+                  (λ p l. record { row = l.row; there = omega (arith, l.there, double, pow_pos level) })
                   (λ p l.
                   let y = place_on g p t in
                   eq_or_not (2 ^ twos y) r
@@ -142,43 +132,42 @@ module _ (w : Sweep) (q : ℕ) (xs : List ℤ) where
                   (record {
                     row = l.row;
                     there =
-                        omega (
-                          arith,
-                          s.is,
-                          reach_less s.power y (omega (arith, l.there, s.is)) (λ e. ne (e ∙ sym s.is)),
-                        );
+                        reach_less level y (omega (arith, l.there, double)) ne;
                   })))
                   u;
             }
 
       -- The middle.
-      module _ (all : w.half ≤ r) where
+      module _ (all : g.levels t ≤ level) where
+        whole : w.half ≤ r
+        whole = omega (arith, w.half_is, pow_mono {i = g.levels t} {j = level} all)
+
         h_is : w.place ≡ place_on g q t + (w.half - 1)
-        h_is = omega (arith, of.first.own, of.holds.half_is, of.holds.place_is, half_some)
+        h_is = omega (arith, of.first.own, w.half_is, w.place_is, half_some)
 
         inside : w.place < middle g t + 2 ^ g.levels t
-        inside = omega (arith, of.holds.place_is, pow_pos (g.levels t))
+        inside = omega (arith, w.place_is, pow_pos (g.levels t))
 
         far : w.half ≤ 2 ^ twos w.place
         far =
             omega (
               arith,
-              of.holds.half_is,
+              w.half_is,
               reach_multiple (g.levels t) (times_on g.axes g.tops g.levels g.centre t) w.place
-                  (omega (arith, of.holds.place_is, place_low g.tops g.centre t))
-                  (of.holds.place_is ∙ on_multiple g.axes g.tops g.levels g.centre of.holds.ground.fits t axis),
+                  (omega (arith, w.place_is, place_low g.tops g.centre t))
+                  (w.place_is ∙ on_multiple g.axes g.tops g.levels g.centre (known w).fits t axis),
             )
 
         last_apart : Apart g.axes g.tops t (Along g w.spread.from q (Finer r)) (Along g w.spread.from q (λ y. y ≡ w.place))
         last_apart =
-            kinds_apart g of.holds.ground w.spread.from q
+            kinds_apart g (known w) w.spread.from q
             (λ y same less. omega (arith, far, refining_most, ap (λ (n : ℕ). 2 ^ twos n) same))
             (λ b y some there same less.
             omega (arith, reach_grows b y some there, far, refining_most, ap (λ (n : ℕ). 2 ^ twos n) same))
 
         pub last_can : (a : Parents) → ParentsAt w.stride w.end w.place w.reach a → CanBand w.spread (q + (w.half - 1) * w.stride) a ys
         last_can a parents =
-            band_can w of.holds q of.first (w.half - 1) w.place h_is inside w.reach (sym of.holds.reach_is) a parents ys
+            band_can w q of.first (w.half - 1) w.place h_is inside w.reach (sym w.reach_is) a parents ys
             (limited_next g.axes g.tops t last_apart s.turned (λ p l. l.row) (λ p l. l.row) of.asked)
 
         with_middle : (zs : List ℤ) → Turned g (Along g w.spread.from q (λ y. y ≡ w.place)) ys zs → Turned g (InLine w q) xs zs
@@ -193,23 +182,23 @@ module _ (w : Sweep) (q : ℕ) (xs : List ℤ) where
               row = row;
               there =
                   middle_only (g.levels t) (times_on g.axes g.tops g.levels g.centre t) y (place_low g.tops p t)
-                  (omega (arith, row.near.low t axis, on_multiple g.axes g.tops g.levels g.centre of.holds.ground.fits t axis))
-                  (omega (arith, row.near.high t axis, on_multiple g.axes g.tops g.levels g.centre of.holds.ground.fits t axis))
-                  (omega (arith, of.holds.half_is))
-                  ∙ sym (on_multiple g.axes g.tops g.levels g.centre of.holds.ground.fits t axis)
-                  ∙ sym of.holds.place_is;
+                  (omega (arith, row.near.low t axis, on_multiple g.axes g.tops g.levels g.centre (known w).fits t axis))
+                  (omega (arith, row.near.high t axis, on_multiple g.axes g.tops g.levels g.centre (known w).fits t axis))
+                  (omega (arith, w.half_is))
+                  ∙ sym (on_multiple g.axes g.tops g.levels g.centre (known w).fits t axis)
+                  ∙ sym w.place_is;
             }))
-            (λ less. inl (record { row = row; there = omega arith })))
+            (λ less. inl (record { row = row; there = omega (arith, whole) })))
             turned
 
         pub line_ends : (a : Parents) → ParentsAt w.stride w.end w.place w.reach a → (zs : List ℤ) →
             LoweredOn a (Band w.spread (q + (w.half - 1) * w.stride)) ys zs → Turned g (InLine w q) xs zs
         line_ends a parents zs s =
             with_middle zs
-            (band_turned w of.holds q of.first (w.half - 1) w.place h_is inside w.reach (sym of.holds.reach_is) a
+            (band_turned w q of.first (w.half - 1) w.place h_is inside w.reach (sym w.reach_is) a
             parents ys zs s)
 
         pub line_still : w.place ≡ w.reach → w.place + w.reach ≡ w.end → Turned g (InLine w q) xs ys
         line_still left right =
             with_middle ys
-            (band_still w of.holds q of.first (w.half - 1) w.place h_is inside w.reach (sym of.holds.reach_is) left right ys)
+            (band_still w q of.first (w.half - 1) w.place h_is inside w.reach (sym w.reach_is) left right ys)

@@ -10,11 +10,14 @@ use native.Mathlib.Omega.{arith}
 use lib.IntN.{ℤ}
 use Rattle.naturals.proofs.Cases.{le_or_lt, eq_or_not}
 use Rattle.numbering.specs.Point.{at}
+use Rattle.component_grids.specs.Component.{across}
 use Rattle.component_grids.proofs.Places.{Shifted, across_is, shift_up}
 use Rattle.component_grids.proofs.Beside.{beside}
-use Rattle.component_sweeps.specs.declared.Sweep.{Sweep}
-use Rattle.component_sweeps.specs.Steps.{Turn, place_on, middle, Turned, Row, First, turn, Line, InLine, Rows, InRows}
+use Rattle.component_sweeps.specs.declared.axis.Sweep.{Sweep}
+use Rattle.component_sweeps.specs.Steps.{Turn, place_on, middle, Turned, Row, First}
+use Rattle.component_sweeps.specs.SweepSteps.{turn, Line, InLine, Rows, InRows}
 use Rattle.component_sweeps.proofs.Apart.{Apart, turned_none, turned_same, limited_part, limited_next, turned_both}
+use Rattle.component_sweeps.proofs.Bounds.{known}
 use Rattle.component_sweeps.proofs.Lines.{box_high, near_moved}
 
 -- The points of the row before so many places on axis u.
@@ -55,10 +58,10 @@ module _ (w : Sweep) (j q : ℕ) (xs : List ℤ) where
         u_axis = omega (arith, u_next, of.most)
 
         pub u_few : u < 8
-        u_few = omega (arith, u_axis, of.from.holds.ground.few)
+        u_few = omega (arith, u_axis, (known w).few)
 
         -- It is the turned one, along which the lines run.
-        module _ (same : u ≡ w.axis) where
+        module _ (same : u ≡ w.on.axis) where
           fewer : (p : ℕ) → Row g u q p → Row g j q p
           fewer p row = record { near = row.near; same = λ v from lt ne. row.same v (omega (arith, u_next)) lt ne }
 
@@ -78,7 +81,6 @@ module _ (w : Sweep) (j q : ℕ) (xs : List ℤ) where
               record {
                 from =
                     record {
-                      holds = of.from.holds;
                       first =
                           record {
                             near = of.from.first.near;
@@ -95,45 +97,46 @@ module _ (w : Sweep) (j q : ℕ) (xs : List ℤ) where
           rows_turned ys s = turned_same g.axes g.tops g.axis fewer more_same s
 
         -- It is another: the row falls into rows, one for each place on it.
-        module _ (other : u ≡ w.axis → ⊥) where
+        module _ (other : u ≡ w.on.axis → ⊥) where
           low : place_on g q u + 2 ^ g.levels u ≡ middle g u + 1
           low = of.from.first.below u (omega (arith, u_next)) u_axis
-
-          size : at w.sizes u + 1 ≡ 2 ^ g.levels u + 2 ^ g.levels u
-          size = omega (arith, of.from.holds.sizes_are u u_axis, across_is (g.levels u), pow-suc 2 (g.levels u))
 
           pub rowing_starts : Turned g (Upto g j q u 0) xs xs
           rowing_starts = turned_none g.axes g.tops g.axis xs (λ p l. omega (arith, l.1, l.0.near.low u u_axis, low))
 
-          module _ (ys : List ℤ) (i : ℕ) (s : Turned g (Upto g j q u i) xs ys) where
-            pub rowing_ends : at w.sizes u ≤ i → Turned g (InRows w j q) xs ys
+          -- Of so many places.
+          module _ (n : ℕ) (size_is : n ≡ across (g.levels u)) (ys : List ℤ) (i : ℕ) (s : Turned g (Upto g j q u i) xs ys) where
+            size : n + 1 ≡ 2 ^ g.levels u + 2 ^ g.levels u
+            size = omega (arith, size_is, across_is (g.levels u), pow-suc 2 (g.levels u))
+
+            pub rowing_ends : n ≤ i → Turned g (InRows w j q) xs ys
             rowing_ends past =
                 turned_same g.axes g.tops g.axis (λ r l. l.0)
                 (λ r row. (row, omega (arith, row.near.high u u_axis, low, size)))
                 s
 
-            module _ (less : i < at w.sizes u) where
+            module _ (less : i < n) where
               abbrev p : ℕ
-              p = q + i * at w.of.grid.now.strides u
+              p = q + i * at w.on.of.grid.now.strides u
 
               inside : place_on g q u + i < middle g u + 2 ^ g.levels u
               inside = omega (arith, low, size)
 
               shifted : Shifted g.axes g.tops u q p (place_on g q u + i)
               shifted =
-                  rw (w.of.grid.now.laid u u_axis)
-                  (shift_up g.axes g.tops u q i u_axis of.from.first.near.inside (omega (arith, inside, box_high g of.from.holds.ground u u_axis)))
+                  rw (w.on.of.grid.now.laid u u_axis)
+                  (shift_up g.axes g.tops u q i u_axis of.from.first.near.inside (omega (arith, inside, box_high g (known w) u u_axis)))
 
               first : First g u p
               first =
                   record {
                     near =
-                        near_moved g of.from.holds.ground u q p _ u_axis of.from.first.near shifted
+                        near_moved g (known w) u q p _ u_axis of.from.first.near shifted
                         (omega (arith, of.from.first.near.low u u_axis)) inside;
                     below =
                         λ v under lt.
                         omega (arith, shifted.others v lt (λ e. omega arith), of.from.first.below v (omega (arith, u_next)) lt);
-                    own = omega (arith, shifted.others g.axis of.from.holds.ground.axis (λ e. other (sym e)), of.from.first.own);
+                    own = omega (arith, shifted.others g.axis (known w).axis (λ e. other (sym e)), of.from.first.own);
                   }
 
               into : (r : ℕ) → Row g u p r → Row g j q r
@@ -169,7 +172,7 @@ module _ (w : Sweep) (j q : ℕ) (xs : List ℤ) where
                           arith,
                           here r row,
                           passed.1,
-                          (beside g.axes g.tops g.axis b r parent of.from.holds.ground.axis row.near.inside e).others u u_axis other,
+                          (beside g.axes g.tops g.axis b r parent (known w).axis row.near.inside e).others u u_axis other,
                         );
                   }
 
@@ -178,7 +181,6 @@ module _ (w : Sweep) (j q : ℕ) (xs : List ℤ) where
                   record {
                     from =
                         record {
-                          holds = of.from.holds;
                           first = first;
                           asked = limited_next g.axes g.tops g.axis separate s (λ r l. l.0) into of.from.asked;
                         };
@@ -187,7 +189,7 @@ module _ (w : Sweep) (j q : ℕ) (xs : List ℤ) where
                   }
 
               pub next_fits : p < 32768
-              next_fits = omega (arith, shifted.inside, of.from.holds.ground.small)
+              next_fits = omega (arith, shifted.inside, (known w).small)
 
               pub rowing_steps : (zs : List ℤ) → Turned g (InRows w u p) ys zs → Turned g (Upto g j q u (i + 1)) xs zs
               rowing_steps zs turned =

@@ -9,6 +9,8 @@ use native.Mathlib.Omega.{arith}
 use lib.Count.{count_trailing_zeros}
 use lib.IntN.{ℤ}
 use lib.Pow.{pow_pos, pow_mono}
+use Rattle.std.proofs.Math.Bridge.{le_prop}
+use Rattle.std.proofs.Math.Logic.{∥∥₁_elim}
 use Rattle.naturals.proofs.Cases.{le_or_lt}
 use Rattle.naturals.proofs.Shifts.{one_shifted}
 use Rattle.numbering.specs.Point.{at}
@@ -18,8 +20,9 @@ use Rattle.component_grids.specs.Component.{across, points_to, place_at}
 use Rattle.component_grids.proofs.Places.{across_is, points_to_pos, place_is_lem, place_high}
 use Rattle.component_grids.proofs.Beside.{reach_le}
 use Rattle.component_sweeps.specs.declared.grid.GridBox.{GridBox}
-use Rattle.component_sweeps.specs.declared.Sweep.{Sweep}
-use Rattle.component_sweeps.specs.Steps.{tops_of, turn_of, InBox, Asked, Turned, Row, Corner, turn, Holds, Rows}
+use Rattle.component_sweeps.specs.declared.axis.Sweep.{Sweep}
+use Rattle.component_sweeps.specs.Steps.{tops_of, turn_of, InBox, Asked, Turned, Row, Corner}
+use Rattle.component_sweeps.specs.SweepSteps.{turn, Rows}
 use Rattle.component_sweeps.proofs.Apart.{turned_same, limited_part}
 
 -- The numbers of the turned axis.
@@ -79,25 +82,24 @@ module _ (box : GridBox) (axis q : ℕ) (on : axis < box.grid.now.axes) where
       s
 
 -- All rows.
-pub rows_of : (w : Sweep) (q : ℕ) (xs : List ℤ) → Holds w → Corner w.of q → Asked (turn w) (InBox (turn w)) xs → Rows w w.of.grid.now.axes q xs
-rows_of w q xs holds corner asked =
+pub rows_of : (w : Sweep) (q : ℕ) (xs : List ℤ) → Corner w.on.of q → Asked (turn w) (InBox (turn w)) xs → Rows w w.on.of.grid.now.axes q xs
+rows_of w q xs corner asked =
     record {
       from =
           record {
-            holds = holds;
             first =
                 record {
                   near =
                       record {
                         inside = corner.inside;
                         low = λ u lt. omega (arith, corner.lowest u lt);
-                        high = λ u lt. omega (arith, corner.lowest u lt, pow_pos (at w.of.levels u));
+                        high = λ u lt. omega (arith, corner.lowest u lt, pow_pos (at w.on.of.levels u));
                       };
                   below = λ u less lt. corner.lowest u lt;
-                  own = corner.lowest w.axis holds.ground.axis;
+                  own = corner.lowest w.on.axis w.on.inside;
                 };
-            asked = limited_part w.of.grid.now.axes (tops_of w.of.grid.now) w.axis (λ p row. row.near) asked;
+            asked = limited_part w.on.of.grid.now.axes (tops_of w.on.of.grid.now) w.on.axis (λ p row. row.near) asked;
           };
-      least = holds.few;
+      least = ∥∥₁_elim w.covers le_prop (λ covers. covers.few);
       most = omega arith;
     }

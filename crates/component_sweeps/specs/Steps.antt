@@ -9,8 +9,7 @@ use Rattle.shapes.specs.Shapes.{most_points}
 use Rattle.component_grids.specs.Component.{across, points_to, place_at, neighbour}
 use Rattle.component_boxes.specs.Boxes.{Near, Fits}
 use Rattle.component_sweeps.specs.declared.Parents.{Parents}
-use Rattle.component_sweeps.specs.declared.Spread.{Spread}
-use Rattle.component_sweeps.specs.declared.Sweep.{Sweep}
+use Rattle.component_sweeps.specs.declared.axis.Spread.{Spread}
 use Rattle.component_sweeps.specs.declared.grid.Layout.{Layout}
 use Rattle.component_sweeps.specs.declared.grid.GridBox.{GridBox}
 
@@ -180,10 +179,6 @@ turn_of b t =
       axis = t;
     }
 
--- So many points a box has on each axis.
-abbrev pub Sizes : GridBox → List ℕ → Type 0
-Sizes b sizes = (u : ℕ) → u < b.grid.now.axes → at sizes u ≡ across (at b.levels u)
-
 -- A place that reaches so far.
 abbrev pub Reaches : ℕ → ℕ → Type 0
 Reaches reach x = 2 ^ twos x ≡ reach
@@ -194,55 +189,6 @@ pub record ParentsAt (stride end x reach : ℕ) (a : Parents) : Type 0 where
   pub left_none : a.left ≡ None → x ≡ reach
   pub right_some : (far : ℕ) → a.right ≡ Some far → (far ≡ stride * reach) × (x + reach ≡ end → ⊥)
   pub right_none : a.right ≡ None → x + reach ≡ end
-
-module _ (s : Sweep) where
-  abbrev pub turn : Turn
-  turn = turn_of s.of s.axis
-
-  -- What a sweep holds: what a band is; of the turned axis how far two places lie apart and where it ends; of the middle point there its place, and how far the box
-  -- and the point itself reach.
-  pub record Holds : Type 0 where
-    pub ground : Ground turn
-    pub few : s.spread.from ≤ s.of.grid.now.axes
-    pub near : s.spread.unit ≤ most_points
-    pub banded : Banded turn s.spread.from s.spread.width s.spread.lines s.spread.apart s.spread.unit
-    pub sizes_are : Sizes s.of s.sizes
-    pub stride_is : s.stride ≡ points_to (tops_of s.of.grid.now) s.axis
-    pub end_is : s.end ≡ 2 ^ suc (tops_of s.of.grid.now s.axis)
-    pub place_is : s.place ≡ middle turn s.axis
-    pub half_is : s.half ≡ 2 ^ at s.of.levels s.axis
-    pub reach_is : s.reach ≡ 2 ^ twos s.place
-
-  -- A set of points of the box to be turned, from position q on, which is the first that has its places on the axes from j on.
-  pub record From (j q : ℕ) (set : ℕ → Type 0) (xs : List ℤ) : Type 0 where
-    pub holds : Holds
-    pub first : First turn j q
-    pub asked : Asked turn set xs
-
-  -- The places of one reach on the lines of the band that starts at position q.
-  abbrev pub InClass : ℕ → ℕ → ℕ → Type 0
-  InClass q reach = Along turn s.spread.from q (Reaches reach)
-
-  pub record Class (q reach : ℕ) (xs : List ℤ) : Type 0 where
-    pub from : From s.spread.from q (InClass q reach) xs
-    pub power : ℕ
-    pub reach_is : reach ≡ 2 ^ power
-    pub finer : power < at s.of.levels s.axis
-
-  -- All lines of the box's points that have the places of position q from axis j on; from that of the band on it is one band's lines.
-  abbrev pub InRows : ℕ → ℕ → ℕ → Type 0
-  InRows j q = Row turn j q
-
-  abbrev pub InLine : ℕ → ℕ → Type 0
-  InLine q = InRows s.spread.from q
-
-  abbrev pub Line : ℕ → List ℤ → Type 0
-  Line q xs = From s.spread.from q (InLine q) xs
-
-  pub record Rows (j q : ℕ) (xs : List ℤ) : Type 0 where
-    pub from : From j q (InRows j q) xs
-    pub least : s.spread.from ≤ j
-    pub most : j ≤ s.of.grid.now.axes
 
 -- ---- the whole box
 

@@ -1,12 +1,17 @@
 // One axis of a box of a component grid, in the one lent buffer: each value of the box becomes itself less half the sum of its two parents' values.
 #![tactic(auto)]
 
-ghost use Rattle.std.specs.Prelude.{◌≡◌, ◌+◌, ◌*◌, ◌^◌, ◌<◌, length, set, IfSome};
+ghost use Rattle.std.specs.Prelude.{ℕ, ◌≡◌, ◌+◌, ◌*◌, ◌^◌, ◌≤◌, ◌<◌, set, IfSome};
 ghost use Rattle.numbering.specs.Point.{at};
-ghost use Rattle.component_sweeps.specs.Steps.{lowered, CanStep, ParentsAt, LoweredOn, Run, CanRun, Band, CanBand, turn_of, turn, Turned, Class, InClass, Line, InLine, Rows, InRows, Corner, Sizes, Covers, InBox, Asked};
+ghost use Rattle.component_grids.specs.Component.{across};
+ghost use Rattle.component_boxes.specs.Order.{half_span};
+ghost use Rattle.component_sweeps.specs.Steps.{lowered, CanStep, ParentsAt, LoweredOn, Run, CanRun, Band, CanBand, tops_of, turn_of, Turned, Corner, Covers, InBox, Asked};
+ghost use Rattle.component_sweeps.specs.SweepSteps.{turn, Class, InClass, Line, InLine, Rows, InRows};
 
+mod axis;
 mod grid;
 
+use axis::{BoxAxis, Spread, Sweep};
 pub use grid::{GridBox, Layout};
 
 // How far behind and ahead of a point its parents on the turned axis lie, where there are any.
@@ -35,17 +40,6 @@ impl Parents {
     }
 }
 
-// How the lines of a box are worked together: `lines` runs, each `apart` from the one before, of `width` positions, each a `unit` from the one before, have the box's
-// points on all axes below `from`, the turned one aside.
-#[derive(Clone, Copy)]
-struct Spread {
-    from: usize,
-    width: usize,
-    lines: usize,
-    apart: usize,
-    unit: usize,
-}
-
 impl Spread {
     // One run. The position is kept, and not made anew from the count: that would take a tenth more instructions on eight axes.
     fn lower_run(self, table: &mut [i64], first: usize, parents: Parents)
@@ -70,21 +64,6 @@ impl Spread {
     }
 }
 
-// One axis of a box: how many points the box has on each axis and how its lines are worked together; and of the turned axis how far two places that follow each other
-// lie apart, where it ends, the place of the box's middle point, and how far on either side the box and the middle point itself reach.
-#[derive(Clone, Copy)]
-struct Sweep<'a> {
-    of: GridBox<'a>,
-    axis: usize,
-    sizes: [usize; 8],
-    spread: Spread,
-    stride: usize,
-    end: usize,
-    place: usize,
-    half: usize,
-    reach: usize,
-}
-
 impl Sweep<'_> {
     // How far behind and ahead of a place that reaches so far its parents lie: none where that is an end of the axis.
     fn parents(&self, place: usize, reach: usize) -> Parents
@@ -98,11 +77,12 @@ impl Sweep<'_> {
         }
     }
 
-    // The places of one reach on the lines of the band that starts at position q: every second multiple of the reach.
-    fn class(&self, table: &mut [i64], q: usize, reach: usize)
-        requires { Class self.now q reach table.old }
-        ensures { Turned (turn self.now) (InClass self.now q reach) table.old table.new }
+    // The places that reach 2^level, on the lines of the band that starts at position q: every second multiple of their reach.
+    fn class(&self, table: &mut [i64], q: usize, level: u32)
+        requires { Class self.now q level table.old }
+        ensures { Turned (turn self.now) (InClass self.now q level) table.old table.new }
     {
+        let reach = 1 << level;
         let low = self.place - self.half;
         let high = self.place + self.half;
         for x in (low + reach..high).step_by(2 * reach) {
@@ -119,11 +99,8 @@ impl Sweep<'_> {
         requires { Line self.now q table.old }
         ensures { Turned (turn self.now) (InLine self.now q) table.old table.new }
     {
-        // a while, since no range doubles
-        let mut finer = 1;
-        while finer < self.half {
-            self.class(table, q, finer);
-            finer *= 2;
+        for level in 0..self.on.of.levels[self.on.axis] {
+            self.class(table, q, level);
         }
         if self.place == self.reach && self.place + self.reach == self.end {
             return;
@@ -145,46 +122,46 @@ impl Sweep<'_> {
             return;
         }
         let u = j - 1;
-        if u == self.axis {
+        if u == self.on.axis {
             self.rows(table, u, q);
             return;
         }
-        let stride = self.of.grid.strides[u];
-        for i in 0..self.sizes[u] {
+        let stride = self.on.of.grid.strides[u];
+        for i in 0..self.on.of.points_on(u) {
             self.rows(table, u, q + i * stride);
         }
     }
 }
 
-impl GridBox<'_> {
-    // The box's first position, and how many points it has on each axis.
-    fn corner(&self, sizes: &mut [usize; 8]) -> usize
-        requires { length sizes.old ≡ 8 }
-        ensures { Corner self.now result × Sizes self.now sizes.new }
+impl Layout {
+    // How many positions the middle point of a box of these levels comes after the box's first position.
+    pub fn half_span(&self, levels: &[u32; 8]) -> usize
+        requires { (t : ℕ) → t < self.now.axes → at levels.now t ≤ at self.now.tops t }
+        ensures { result ≡ half_span self.now.axes (tops_of self.now) (at levels.now) }
     {
-        let mut q = self.centre;
-        for t in 0..self.grid.axes {
-            let half: usize = 1 << self.levels[t];
-            q -= (half - 1) * self.grid.strides[t];
-            sizes[t] = 2 * half - 1;
+        let mut span = 0;
+        for t in 0..self.axes {
+            span += ((1 << levels[t]) - 1) * self.strides[t];
         }
-        q
+        span
     }
+}
 
+impl BoxAxis<'_> {
     // A band with the next axis too, where there is one that can be added. The turned axis and one where the box has a single point add nothing. The points of another one make
     // the run, or widen it where they go on with its unit; or else they make the lines, or add to them in the same way.
-    fn add_axis(&self, sizes: &[usize; 8], axis: usize, b: Spread) -> Option<Spread>
-        requires { Sizes self.now sizes.now × (axis < self.now.grid.now.axes) × Covers self.now axis b }
-        ensures { IfSome result (λ more. Covers self.now axis more × (more.from ≡ b.from + 1)) }
+    fn add_axis(&self, b: Spread) -> Option<Spread>
+        requires { Covers self.now.of self.now.axis b }
+        ensures { IfSome result (λ more. Covers self.now.of self.now.axis more × (more.from ≡ b.from + 1)) }
     {
         let u = b.from;
-        if u == self.grid.axes {
+        if u == self.of.grid.axes {
             return None;
         }
-        let size = sizes[u];
-        let stride = self.grid.strides[u];
+        let size = self.of.points_on(u);
+        let stride = self.of.grid.strides[u];
         let more = Spread { from: u + 1, ..b };
-        if u == axis || size == 1 {
+        if u == self.axis || size == 1 {
             return Some(more);
         }
         if b.lines == 1 {
@@ -217,9 +194,8 @@ impl GridBox<'_> {
     }
 
     // The band of as many axes as there can be.
-    fn spread(&self, sizes: &[usize; 8], axis: usize) -> Spread
-        requires { Sizes self.now sizes.now × (axis < self.now.grid.now.axes) }
-        ensures { Covers self.now axis result }
+    fn spread(&self) -> Spread
+        ensures { Covers self.now.of self.now.axis result }
     {
         let mut b = Spread {
             from: 0,
@@ -228,10 +204,27 @@ impl GridBox<'_> {
             apart: 1,
             unit: 1,
         };
-        while let Some(more) = self.add_axis(sizes, axis, b) {
+        while let Some(more) = self.add_axis(b) {
             b = more;
         }
         b
+    }
+}
+
+impl GridBox<'_> {
+    // How many points the box has on an axis.
+    fn points_on(&self, axis: usize) -> usize
+        requires { axis < self.now.grid.now.axes }
+        ensures { result ≡ across (at self.now.levels axis) }
+    {
+        component_boxes::points_across(self.levels[axis]) as usize
+    }
+
+    // The box's first position.
+    fn corner(&self) -> usize
+        ensures { Corner self.now result }
+    {
+        self.centre - self.grid.half_span(&self.levels)
     }
 
     // One axis of the box.
@@ -239,22 +232,19 @@ impl GridBox<'_> {
         requires { (axis < self.now.grid.now.axes) × Asked (turn_of self.now axis) (InBox (turn_of self.now axis)) table.old }
         ensures { Turned (turn_of self.now axis) (InBox (turn_of self.now axis)) table.old table.new }
     {
-        let mut sizes = [0usize; 8];
-        let q = self.corner(&mut sizes);
         let stride = self.grid.strides[axis];
         let end: usize = 2 << self.grid.tops[axis];
         let place = self.centre / stride % (end - 1) + 1;
+        let on = BoxAxis { of: *self, axis };
         let sweep = Sweep {
-            of: *self,
-            axis,
-            sizes,
-            spread: self.spread(&sizes, axis),
+            on,
+            spread: on.spread(),
             stride,
             end,
             place,
             half: 1 << self.levels[axis],
             reach: 1 << place.trailing_zeros(),
         };
-        sweep.rows(table, self.grid.axes, q);
+        sweep.rows(table, self.grid.axes, self.corner());
     }
 }

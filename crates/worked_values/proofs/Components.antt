@@ -24,7 +24,7 @@ use Prim.Native.Nat.{ℕ}
 use Rattle.numbering.specs.Point.{at}
 use Rattle.hierarchy.specs.Work.{Item}
 use Rattle.splits.specs.Splits.{steps_at, cut}
-use Rattle.component_boxes.specs.Order.{widest, middle_of, half_of, away, order_from, order_in, centre, order_of}
+use Rattle.component_boxes.specs.Order.{widest, middle_of, half_of, away, order_from, order_in, half_span, centre, order_of}
 
 -- One axis of top level 1; two axes of top levels 1 and 0, which have the same three points in the unit 4; two of top level 1. A number that is no rate, with its
 -- position. A grid of 511 × 127 points, which is refused before its table is looked at.
@@ -45,5 +45,5 @@ step a p = record { stage = a; point = p }
 pub orders :
     (order_of 1 (at (1 ∷ [])) ≡ step 0 1 ∷ step 0 3 ∷ step 0 2 ∷ [])
     × (order_of 2 (at (1 ∷ 1 ∷ [])) ≡ step 0 4 ∷ step 0 1 ∷ step 1 1 ∷ step 0 7 ∷ step 1 7 ∷ step 1 4 ∷ step 0 6 ∷ step 0 3 ∷ step 1 3 ∷ step 0 9 ∷ step 1 9 ∷ step 1 6 ∷ step 0 5 ∷ step 0 2 ∷ step 1 2 ∷ step 0 8 ∷ step 1 8 ∷ step 1 5 ∷ [])
-unfolding prod_to update steps_at cut across across_on points_to widest middle_of half_of away order_from order_in centre order_of
+unfolding prod_to update steps_at cut across across_on points_to widest middle_of half_of away order_from order_in half_span centre order_of
 orders = (refl, refl)

@@ -1,33 +1,14 @@
-use native.Mathlib.Omega.{arith}
-use Rattle.naturals.proofs.Shifts.{one_shifted}
-use Rattle.component_sweeps.proofs.Cornering.{level_few, cornering_starts, product_fits, enough, cornering_steps, cornering_ends}
+-- `GridBox::corner` meets its contract: the middle point's place on each axis is at least half the box's width, so that it can step down so far.
+-- Assumes nothing.
+use Rattle.std.proofs.Common.{arith}
+use Rattle.component_sweeps.proofs.Cornering.{span_within, corner_is}
 use Rattle.component_sweeps.proofs.grid.GridBox.corner.Goals as goal
 
-pub loop-t-init : goal.loop-t-init
-loop-t-init c = cornering_starts _ _ c.requires
+pub half_span-requires : goal.half_span-requires
+half_span-requires c = λ t axis. c.args.self.now.fits.within t axis
 
-pub overflow_mul-q : goal.overflow_mul-q
-overflow_mul-q c =
-    let b = c.args.self.now in
-    let on = c.loop-t-test.true in
-    omega (
-      arith,
-      product_fits b _ _ _ c.loop-t.invariant on _ _ (one_shifted 64 _ (omega (arith, level_few b c.loop-t.t on)))
-          (b.grid.now.laid c.loop-t.t on),
-    )
-
-pub overflow_sub-q-in-loop-t : goal.overflow_sub-q-in-loop-t
-overflow_sub-q-in-loop-t c =
-    let b = c.args.self.now in
-    let on = c.loop-t-test.true in
-    enough b _ _ _ c.loop-t.invariant on _ _ (one_shifted 64 _ (omega (arith, level_few b c.loop-t.t on))) (b.grid.now.laid c.loop-t.t on)
-
-pub loop-t-preserved : goal.loop-t-preserved
-loop-t-preserved c =
-    let b = c.args.self.now in
-    let on = c.loop-t-test.true in
-    cornering_steps b _ _ _ c.loop-t.invariant on _ _ (one_shifted 64 _ (omega (arith, level_few b c.loop-t.t on)))
-    (b.grid.now.laid c.loop-t.t on)
+pub overflow_sub-result : goal.overflow_sub-result
+overflow_sub-result c = omega (arith, c.half_span.ensures, span_within c.args.self.now)
 
 pub returns : goal.returns
-returns c = cornering_ends _ _ _ _ c.loop-t.invariant (omega arith)
+returns c = rw c.half_span.ensures (corner_is c.args.self.now)

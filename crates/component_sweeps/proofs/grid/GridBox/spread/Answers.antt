@@ -1,5 +1,0 @@
-use Rattle.component_sweeps.proofs.Covering.{covers_none}
-use Rattle.component_sweeps.proofs.grid.GridBox.spread.Goals as goal
-
-pub loop-more-init : goal.loop-more-init
-loop-more-init c = covers_none _ _ c.requires.1

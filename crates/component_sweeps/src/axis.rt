@@ -1,0 +1,46 @@
+// One axis of a box as the code works it.
+ghost use Rattle.std.specs.Prelude.{suc, ◌≡◌, ◌^◌, ◌<◌};
+ghost use Rattle.numbering.specs.Point.{at};
+ghost use Rattle.numbering.specs.Parent.{twos};
+ghost use Rattle.component_grids.specs.Component.{points_to, place_at};
+ghost use Rattle.component_sweeps.specs.Steps.{tops_of, Covers};
+
+use crate::GridBox;
+
+// How the lines of a box are worked together: `lines` runs, each `apart` from the one before, of `width` positions, each a `unit` from the one before, have the box's
+// points on all axes below `from`, the turned one aside.
+#[derive(Clone, Copy)]
+pub struct Spread {
+    pub from: usize,
+    pub width: usize,
+    pub lines: usize,
+    pub apart: usize,
+    pub unit: usize,
+}
+
+// One axis of a box.
+#[derive(Clone, Copy)]
+pub struct BoxAxis<'a> {
+    pub of: GridBox<'a>,
+    pub axis: usize,
+    ghost inside: { axis < of.grid.now.axes },
+}
+
+// An axis of a box as it is turned: how the box's lines are worked together; and of the axis how far two places that follow each other lie apart, where it ends, the place of
+// the box's middle point, and how far on either side the box and the middle point itself reach.
+#[derive(Clone, Copy)]
+pub struct Sweep<'a> {
+    pub on: BoxAxis<'a>,
+    pub spread: Spread,
+    pub stride: usize,
+    pub end: usize,
+    pub place: usize,
+    pub half: usize,
+    pub reach: usize,
+    ghost covers: { ∥ Covers on.of on.axis spread ∥₁ },
+    ghost stride_is: { stride ≡ points_to (tops_of on.of.grid.now) on.axis },
+    ghost end_is: { end ≡ 2 ^ suc (at on.of.grid.now.tops on.axis) },
+    ghost place_is: { place ≡ place_at (tops_of on.of.grid.now) on.of.centre on.axis },
+    ghost half_is: { half ≡ 2 ^ at on.of.levels on.axis },
+    ghost reach_is: { reach ≡ 2 ^ twos place },
+}
