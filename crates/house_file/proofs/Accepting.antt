@@ -7,11 +7,11 @@ use mathlib.Core.Bool.{true}
 use mathlib.Core.List.{List, [], ◌∷◌}
 use Prim.Native.Nat.{ℕ, zero, suc, ◌≤◌}
 use native.Mathlib.Omega.{arith}
-use lib.Dec.{leb, eqb}
+use lib.Dec.{leb}
 use lib.IntN.{ℤ}
 use lib.ListN.{length}
-use borrow.Author.Tests.{leb-true, eqb-true}
-use Rattle.refusals.specs.declared.Refusal.TheVariants.{TableLength, FiledNumber, BytesLeft}
+use borrow.Author.Tests.{leb-true}
+use Rattle.refusals.specs.declared.Refusal.TheVariants.{TableLength, FiledNumber}
 use Rattle.refusals.specs.Checks.{unless, Verdict}
 use Rattle.refusals.proofs.Passing.{test_passed}
 use Rattle.integers.specs.Half.{is_rate}
@@ -19,7 +19,8 @@ use Rattle.shapes.specs.declared.Shape.{Shape}
 use Rattle.shapes.specs.Shapes.{check_shape, points_of}
 use Rattle.house_numbers.specs.Reading.{Read, got, refused, ◌next◌, ◌then_read◌}
 use Rattle.house_numbers.specs.Numbers.{groups, largest, limited, read_number, rate_of}
-use Rattle.house_rates.specs.Rates.{prepended, read_rates}
+use Rattle.house_rates.specs.Rates.{prepended, read_rates, all_read}
+use Rattle.house_rates.proofs.Rates.{nothing_left}
 use Rattle.house_file.specs.Files.{read_head, Contents, ended, read_table, read_contents}
 use Rattle.house_file.specs.Written.{AllRates}
 use Rattle.house_numbers.proofs.Filing.{rate_filed}
@@ -135,16 +136,15 @@ table_fitted places s after c rest e =
     let places_test = unless (leb n places) TableLength in
     let roomy = read_next (check_shape s) (places_test then_read x) e in
     let t = through (read_rates n after) (ended s) (read_next places_test x roomy) in
-    let end_test = unless (eqb (length t.middle) 0) BytesLeft in
     let all : Read Contents = got (record { shape = s; rates = t.value }) t.middle in
-    let same : all ≡ got c rest = read_next end_test all t.second in
+    let same : all ≡ got c rest = read_next (all_read t.middle) all t.second in
     fitted places s after t.value t.middle c rest same
     (record {
       same = refl;
       shaped = passed_first (check_shape s) (places_test then_read x) e;
       room = leb-true n places (test_passed (leb n places) TableLength (passed_first places_test x roomy));
       filled = t.first;
-      ends = eqb-true (length t.middle) 0 (test_passed (eqb (length t.middle) 0) BytesLeft (passed_first end_test all t.second));
+      ends = nothing_left t.middle (passed_first (all_read t.middle) all t.second);
     })
 
 pub contents_whole : (places : ℕ) (bytes : List ℕ) (c : Contents) (rest : List ℕ) → read_contents places bytes ≡ got c rest →

@@ -3,20 +3,20 @@
 use mathlib.Core.Path.{◌≡◌, refl, sym, ap, ◌∙◌}
 use mathlib.Core.List.{List}
 use Prim.Native.Nat.{ℕ, ◌≤◌}
-use lib.Dec.{leb, eqb}
+use lib.Dec.{leb}
 use lib.ListN.{length}
 use Rattle.std.specs.Prelude.{Result, Ok, Err}
 use lib.IntN.{ℤ}
 use borrow.Author.Tests.{leb-true}
 use Rattle.refusals.specs.declared.Refusal.{Refusal}
-use Rattle.refusals.specs.declared.Refusal.TheVariants.{TableLength, BytesLeft}
+use Rattle.refusals.specs.declared.Refusal.TheVariants.{TableLength}
 use Rattle.refusals.specs.Checks.{unless, ◌and_then◌, Verdict}
 use Rattle.refusals.proofs.Passing.{first_passed, next_passed, test_passed}
 use Rattle.shapes.specs.declared.Shape.{Shape}
 use Rattle.shapes.specs.Shapes.{check_shape, points_of}
 use Rattle.house_numbers.specs.Reading.{Read, got, refused, ◌next◌, ◌then_read◌}
 use Rattle.house_numbers.specs.Numbers.{read_number}
-use Rattle.house_rates.specs.Rates.{read_rates}
+use Rattle.house_rates.specs.Rates.{read_rates, all_read}
 use Rattle.house_file.specs.Files.{named, read_head, Contents, ended, read_table, read_contents}
 use Rattle.house_rates.specs.declared.CheckedRates.{CheckedRates}
 use Rattle.house_rates.specs.Steps.{closed}
@@ -84,7 +84,7 @@ module _ (s : Shape) where
 
   ended_closed : (x : Read (List ℤ)) → x next ended s ≡ x next closed next of_shape s
   unfolding ended closed
-  ended_closed (got rates rest) = shape_after (unless (eqb (length rest) 0) BytesLeft) rates rest
+  ended_closed (got rates rest) = shape_after (all_read rest) rates rest
   ended_closed (refused r) = refl
 
   table_held : (a : Result CheckedRates Refusal) → table_in s a ≡ held a next of_shape s

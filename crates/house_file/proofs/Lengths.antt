@@ -127,16 +127,18 @@ rates_most [] = omega arith
 rates_most (rate ∷ rates) =
     omega (arith, length-append (written (filed rate)) (written_rates rates), number_most (filed rate), rates_most rates)
 
+-- d and n of a shape in range take one byte each.
+pub head_size : (s : Shape) → check_shape s ≡ Ok tt → length (written s.axes ++ written s.level) ≡ 2
+head_size s passed =
+    let range = passed_in_range s passed in
+    omega (arith, length-append (written s.axes) (written s.level), one_byte s.axes range.high, one_byte s.level range.top)
+
+pub file_size : (s : Shape) → check_shape s ≡ Ok tt → (rates : List ℤ) → 2 + length (written_rates rates) ≡ length (written_file s rates)
+unfolding written_file
+file_size s passed rates =
+    let row = append_assoc (written s.axes) (written s.level) (written_rates rates) in
+    omega (arith, ap length row, length-append (written s.axes ++ written s.level) (written_rates rates), head_size s passed)
+
 -- A file of a shape in range has at most 2 bytes and 5 for each rate.
 pub file_most : (s : Shape) (rates : List ℤ) → check_shape s ≡ Ok tt → length (written_file s rates) ≤ 2 + 5 * length rates
-unfolding written_file
-file_most s rates passed =
-    let range = passed_in_range s passed in
-    omega (
-      arith,
-      length-append (written s.axes) (written s.level ++ written_rates rates),
-      length-append (written s.level) (written_rates rates),
-      one_byte s.axes range.high,
-      one_byte s.level range.top,
-      rates_most rates,
-    )
+file_most s rates passed = omega (arith, file_size s passed rates, rates_most rates)

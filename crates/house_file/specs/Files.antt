@@ -1,14 +1,14 @@
 -- A house file (document 01, "House file" and refusals 11 to 13): d, n and then N rates in point order.
 -- Assumes nothing.
 use Rattle.refusals.specs.declared.Refusal.{Refusal}
-use Rattle.std.specs.Prelude.{List, ◌++◌, ℕ, leb, eqb, ℤ, length, drop, Result, Ok, Err}
-use Rattle.refusals.specs.declared.Refusal.TheVariants.{TableLength, BytesLeft}
+use Rattle.std.specs.Prelude.{List, ◌++◌, ℕ, leb, ℤ, length, drop, Result, Ok, Err}
+use Rattle.refusals.specs.declared.Refusal.TheVariants.{TableLength}
 use Rattle.refusals.specs.Checks.{unless}
 use Rattle.shapes.specs.declared.Shape.{Shape}
 use Rattle.shapes.specs.Shapes.{sparse, check_shape, points_of}
 use Rattle.house_numbers.specs.Reading.{Read, got, refused, ◌next◌, ◌then_read◌}
 use Rattle.house_numbers.specs.Numbers.{read_number}
-use Rattle.house_rates.specs.Rates.{read_rates}
+use Rattle.house_rates.specs.Rates.{read_rates, all_read}
 
 -- d and n, before they are checked.
 abbrev pub named : ℕ → ℕ → List ℕ → Read Shape
@@ -36,7 +36,7 @@ pub record Contents : Type 0 where
 
 -- After the last rate: bytes that are left are refused with 13.
 unfoldable pub ended : Shape → List ℤ → List ℕ → Read Contents
-ended s rates rest = unless (eqb (length rest) 0) BytesLeft then_read got (record { shape = s; rates = rates }) rest
+ended s rates rest = all_read rest then_read got (record { shape = s; rates = rates }) rest
 
 -- Once d and n are read: refused with 1 or 2, with 3 where the buffer has fewer than N places; then the rates.
 unfoldable pub read_table : ℕ → Shape → List ℕ → Read Contents

@@ -1,5 +1,5 @@
--- A number that was checked, and is read again: there is a byte wherever one must follow, the fifth is the last, and the value can be filed. True since
--- the number would have been refused otherwise.
+-- A number that is read, byte by byte: the first four groups fit whatever they are, the fifth where it is below 16. Of one that was checked there is a byte
+-- wherever one must follow, and the fifth fits, since it would have been refused otherwise.
 -- Assumes nothing.
 use mathlib.Core.Path.{◌≡◌, sym, ap, ◌∙◌}
 use mathlib.Core.List.{List, ◌∷◌}
@@ -7,6 +7,7 @@ use Prim.Native.Nat.{ℕ, ◌+◌, ◌-◌, ◌*◌, ◌^◌, ◌≤◌, ◌<◌
 use native.Mathlib.Numerals.{add-one}
 use native.Mathlib.Omega.{arith}
 use lib.ListN.{length, get_or, drop, length-drop}
+use lib.Pow.{pow_mono}
 use lib.Seq.{drop-cons}
 use borrow.Author.Tests.{le-leb, lt-leb}
 use Rattle.naturals.proofs.Cases.{le_or_lt}
@@ -15,7 +16,7 @@ use Rattle.refusals.specs.declared.Refusal.TheVariants.{FileEnds, FiledNumber}
 use Rattle.house_numbers.specs.Reading.{Read, got, refused}
 use Rattle.house_numbers.specs.Numbers.{largest, limited, read_number}
 use Rattle.house_numbers.specs.Steps.{Reads}
-use Rattle.house_numbers.proofs.Gathering.{Gathered, gathered_starts, too_long, too_short, gathered_ends, gathered_steps}
+use Rattle.house_numbers.proofs.Gathering.{Gathered, gathered_starts, sum_small, too_long, too_short, gathered_ends, gathered_steps}
 
 not_refused : {A : Type 0} {x : Read A} → Reads x → (r : Refusal) → x ≡ refused r → ⊥
 not_refused s r e =
@@ -42,6 +43,14 @@ module _ {bytes : List ℕ} {value place : ℕ} (g : Gathered bytes value place 
     pub here_ends : get_or bytes place 0 < 128 → read_number bytes ≡ limited (value + get_or bytes place 0 * 2 ^ (7 * place)) (drop (place + 1) bytes)
     here_ends last = gathered_ends g few byte_next last
 
+    -- The first four groups fit.
+    pub here_fits : place < 4 → get_or bytes place 0 < 128 →
+        read_number bytes ≡ got (value + get_or bytes place 0 * 2 ^ (7 * place)) (drop (place + 1) bytes)
+    unfolding largest
+    here_fits early last =
+        let most = pow_mono {i = 7 * (place + 1)} {j = 28} (omega arith) in
+        here_ends last ∙ within _ (drop (place + 1) bytes) (omega (arith, most, sum_small g few (get_or bytes place 0) last))
+
     pub here_goes_on : get_or bytes place 0 < 256 → 128 ≤ get_or bytes place 0 →
         Gathered bytes (value + (get_or bytes place 0 - 128) * 2 ^ (7 * place)) (place + 1) (drop (place + 1) bytes)
     here_goes_on byte again = gathered_steps g few byte_next byte again
@@ -50,17 +59,25 @@ module _ {bytes : List ℕ} {value place : ℕ} (g : Gathered bytes value place 
     pub byte_there : place < length bytes
     byte_there = le_or_lt (length bytes) place (λ short. absurd (not_refused s FileEnds (none_there short))) (λ h. h)
 
-    pub fifth_last : 4 ≤ place → get_or bytes place 0 < 256 → get_or bytes place 0 < 128
-    fifth_last h byte =
-        le_or_lt 128 (get_or bytes place 0)
-        (λ again. absurd (not_refused s FiledNumber (too_long (here_goes_on byte_there byte again) (omega arith))))
-        (λ last. last)
+-- The fifth group, after the value of the first four.
+pub four_gathered : {bytes : List ℕ} {value place : ℕ} → Gathered bytes value place (drop place bytes) → place ≡ 4 → Gathered bytes value 4 (drop 4 bytes)
+four_gathered g four = rw four at g
 
-    pub value_filed : get_or bytes place 0 < 128 → value + get_or bytes place 0 * 2 ^ (7 * place) ≤ largest
-    value_filed last =
-        le_or_lt (value + get_or bytes place 0 * 2 ^ (7 * place)) largest
-        (λ h. h)
-        (λ large. absurd (not_refused s FiledNumber (here_ends byte_there last ∙ beyond _ (drop (place + 1) bytes) large)))
+module _ {bytes : List ℕ} {value : ℕ} (g : Gathered bytes value 4 (drop 4 bytes)) (there : 4 < length bytes) where
+  pub fifth_fits : get_or bytes 4 0 < 16 → read_number bytes ≡ got (value + get_or bytes 4 0 * 2 ^ 28) (drop 5 bytes)
+  unfolding largest
+  fifth_fits h = here_ends g (omega arith) there (omega arith) ∙ within _ (drop 5 bytes) (omega (arith, g.small, h))
+
+  module _ (byte : get_or bytes 4 0 < 256) where
+    pub fifth_refused : 16 ≤ get_or bytes 4 0 → read_number bytes ≡ refused FiledNumber
+    unfolding largest
+    fifth_refused large =
+        le_or_lt 128 (get_or bytes 4 0)
+        (λ again. too_long (here_goes_on g (omega arith) there byte again) (omega arith))
+        (λ last. here_ends g (omega arith) there last ∙ beyond _ (drop 5 bytes) (omega (arith, large)))
+
+    pub fifth_small : Reads (read_number bytes) → get_or bytes 4 0 < 16
+    fifth_small s = le_or_lt 16 (get_or bytes 4 0) (λ large. absurd (not_refused s FiledNumber (fifth_refused large))) (λ h. h)
 
 -- No byte at all, and a number of one byte.
 module _ (bytes : List ℕ) where

@@ -7,7 +7,7 @@ use Prim.Native.Nat.{ℕ, suc, ◌+◌, ◌-◌, ◌*◌, ◌^◌, ◌≤◌, �
 use native.Mathlib.Nat.{mul_comm, mul-le-mul_right}
 use native.Mathlib.Omega.{arith}
 use lib.ListN.{length}
-use lib.Pow.{pow-add, pow_mono}
+use lib.Pow.{pow-add}
 use borrow.Author.Tests.{lt-ltb, le-ltb}
 use Rattle.std.proofs.lemmas.List.{nil_from_length}
 use Rattle.refusals.specs.declared.Refusal.TheVariants.{FileEnds, FiledNumber}
@@ -68,14 +68,14 @@ module _ {bytes rest : List ℕ} {value place : ℕ} (g : Gathered bytes value p
     unfolding onwards
     reads_on = g.reads ∙ ap (λ (k : ℕ). onwards k rest) one_left
 
+    -- One group more.
+    pub sum_small : (group : ℕ) → group < 128 → value + group * 2 ^ (7 * place) < 2 ^ (7 * (place + 1))
+    sum_small group h = omega (arith, g.small, next_unit place, mul-le-mul_right {m = suc group} {n = 128} (2 ^ (7 * place)) (omega arith))
+
     -- Past the last byte.
     pub too_short : length rest ≡ 0 → read_number bytes ≡ refused FileEnds
     unfolding groups onwards
     too_short h = reads_on ∙ ap (onwards (suc (g.left - 1))) (nil_from_length rest h)
-
-    pub sum_fits : (group : ℕ) → group < 128 → value + group * 2 ^ (7 * place) < 2 ^ 35
-    sum_fits group h =
-        omega (arith, g.small, mul-le-mul_right (2 ^ (7 * place)) h, pow_mono {i = 7 * place} {j = 28} (omega arith))
 
     module _ {b : ℕ} {more : List ℕ} (is : rest ≡ b ∷ more) where
       reads_byte : read_number bytes ≡ onwards (suc (g.left - 1)) (b ∷ more)
@@ -96,7 +96,7 @@ module _ {bytes rest : List ℕ} {value place : ℕ} (g : Gathered bytes value p
           record {
             left = g.left - 1;
             places = omega (arith, g.places);
-            small = omega (arith, g.small, next_unit place, mul-le-mul_right {m = suc low} {n = 128} unit (omega arith));
+            small = sum_small low (omega arith);
             reads =
                 reads_byte
                 ∙ ap (λ (x : Read ℕ). x next above value unit next limited) (continued (g.left - 1) b more again)

@@ -1,15 +1,12 @@
 // The numbers of a house file: read from the front of some bytes with their checks, read once they were checked, and the rate of one.
 #![tactic(auto)]
 
-ghost use Rattle.std.specs.Prelude.{◌≡◌, true, false, ltb, ◌*◌, ◌^◌, ◌≤◌, ◌<◌};
+ghost use Rattle.std.specs.Prelude.{◌≡◌, true, false, ◌*◌, ◌^◌, ◌≤◌, ◌<◌};
 ghost use Rattle.house_numbers.specs.Reading.{got};
 ghost use Rattle.house_numbers.specs.Numbers.{read_number, rate_of};
 ghost use Rattle.house_numbers.specs.Steps.{Reads, read_in};
 
 use refusals::Refusal;
-
-// The largest number that can be filed.
-const LARGEST: u64 = u32::MAX as u64;
 
 // A group of seven bits, shifted to its place in a number.
 fn placed(group: u64, shift: u32) -> u64
@@ -27,39 +24,33 @@ fn refuses<const CHECKED: bool>(test: bool) -> bool
     !CHECKED && test
 }
 
-// Whether a group is the last of its number. Of a number that was checked the fifth is, with no test.
-fn is_last<const CHECKED: bool>(group: u64, place: usize) -> bool
-    requires { CHECKED ≡ true → 4 ≤ place → group < 128 }
-    ensures { result ≡ ltb group 128 }
-{
-    if CHECKED && 4 <= place {
-        return true;
-    }
-    group < 128
-}
-
-// The filed number at the front of some bytes, which were checked or not, byte by byte.
+// The filed number at the front of some bytes, which were checked or not, byte by byte. Its first four groups fit whatever they are, the fifth where it is below 16.
 fn long_number<const CHECKED: bool>(bytes: &[u8]) -> Result<(u32, &[u8]), Refusal>
     requires { CHECKED ≡ true → Reads (read_number bytes.now) }
     ensures { read_in result ≡ read_number bytes.now }
 {
     let mut value: u64 = 0;
-    for place in 0..5 {
+    for place in 0..4 {
         if refuses::<CHECKED>(bytes.len() <= place) {
             return Err(Refusal::FileEnds);
         }
         let group = u64::from(bytes[place]);
         let shift = 7 * place as u32;
-        if is_last::<CHECKED>(group, place) {
+        if group < 128 {
             value += placed(group, shift);
-            if refuses::<CHECKED>(LARGEST < value) {
-                return Err(Refusal::FiledNumber);
-            }
             return Ok((value as u32, &bytes[place + 1..]));
         }
         value += placed(group - 128, shift);
     }
-    Err(Refusal::FiledNumber)
+    if refuses::<CHECKED>(bytes.len() <= 4) {
+        return Err(Refusal::FileEnds);
+    }
+    let fifth = u64::from(bytes[4]);
+    if refuses::<CHECKED>(16 <= fifth) {
+        return Err(Refusal::FiledNumber);
+    }
+    value += placed(fifth, 28);
+    Ok((value as u32, &bytes[5..]))
 }
 
 // The filed number at the front of some bytes, which were checked or not, with the bytes after it. Most have one byte.
@@ -96,7 +87,8 @@ pub fn checked_number(bytes: &[u8]) -> (u32, &[u8])
 pub fn rate_of(filed: u32) -> i64
     ensures { result ≡ rate_of filed }
 {
-    let half = i64::from(filed >> 1);
+    let filed = u64::from(filed); // in 64 bits, as the rate: one instruction less
+    let half = (filed >> 1) as i64;
     if filed & 1 == 0 {
         return half;
     }

@@ -6,15 +6,13 @@ use mathlib.Core.Path.{◌≡◌, refl, ap, ◌∙◌}
 use mathlib.Core.List.{List}
 use Prim.Native.Nat.{ℕ, suc, ◌-◌, ◌≤◌, ◌<◌}
 use native.Mathlib.Omega.{arith}
-use lib.Dec.{eqb}
 use lib.ListN.{length}
 use borrow.Author.Tests.{eq-eqb, ne_eqb}
 use Rattle.refusals.specs.declared.Refusal.{Refusal}
 use Rattle.refusals.specs.declared.Refusal.TheVariants.{BytesLeft}
-use Rattle.refusals.specs.Checks.{unless}
 use Rattle.house_numbers.specs.Reading.{got, refused}
 use Rattle.house_numbers.specs.Numbers.{read_number, rate_of}
-use Rattle.house_rates.specs.Rates.{read_rates}
+use Rattle.house_rates.specs.Rates.{read_rates, all_read}
 use Rattle.house_rates.specs.Steps.{checked_rates}
 use Rattle.house_rates.proofs.Rates.{one_more, one_refused, checked_after}
 
@@ -38,7 +36,7 @@ module _ {bytes rest : List ℕ} {count left : ℕ} (k : Checked bytes count lef
     unfolding checked_rates
     checked_refused e = one_left ∙ ap checked_rates (one_refused (left - 1) rest e)
 
-  at_end : left ≤ 0 → checked_rates (read_rates count bytes) ≡ unless (eqb (length rest) 0) BytesLeft
+  at_end : left ≤ 0 → checked_rates (read_rates count bytes) ≡ all_read rest
   unfolding checked_rates read_rates
   at_end h = let none : left ≡ 0 = omega arith in k.says ∙ ap (λ (m : ℕ). checked_rates (read_rates m rest)) none
 

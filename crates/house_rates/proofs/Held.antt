@@ -7,19 +7,15 @@ use mathlib.Core.List.{List, [], ◌∷◌}
 use Prim.Native.Nat.{ℕ, zero, suc}
 use native.Mathlib.Omega.{arith}
 use lib.IntN.{ℤ}
-use lib.Dec.{eqb}
 use lib.ListN.{length}
-use borrow.Author.Tests.{eqb-true}
 use Rattle.std.proofs.lemmas.List.{nil_from_length}
 use Rattle.refusals.specs.declared.Refusal.{Refusal}
-use Rattle.refusals.specs.declared.Refusal.TheVariants.{BytesLeft}
-use Rattle.refusals.proofs.Passing.{test_passed}
 use Rattle.house_numbers.specs.Reading.{Read, got, refused, ◌next◌}
 use Rattle.house_numbers.specs.Numbers.{read_number, rate_of}
 use Rattle.house_numbers.specs.Steps.{Reads}
 use Rattle.house_rates.specs.Rates.{prepended, read_rates}
 use Rattle.house_rates.specs.Steps.{checked_rates, rates_read, closed}
-use Rattle.house_rates.proofs.Rates.{one_more, one_refused, checked_after}
+use Rattle.house_rates.proofs.Rates.{one_more, one_refused, checked_after, nothing_left}
 
 rates_after : (x : Read (List ℤ)) (rate : ℤ) → checked_rates x ≡ Ok tt → rates_read (x next prepended rate) ≡ rate ∷ rates_read x
 unfolding checked_rates prepended rates_read
@@ -62,5 +58,5 @@ closed_refused (refused q) e = ap refused (cc)
 pub closed_passed : (x : Read (List ℤ)) → checked_rates x ≡ Ok tt → x next closed ≡ got (rates_read x) []
 unfolding checked_rates closed rates_read
 closed_passed (got rates rest) e =
-    rw e (ap (got rates) (nil_from_length rest (eqb-true (length rest) 0 (test_passed (eqb (length rest) 0) BytesLeft e))))
+    rw e (ap (got rates) (nil_from_length rest (nothing_left rest e)))
 closed_passed (refused q) e = cc

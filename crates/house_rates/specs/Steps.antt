@@ -1,13 +1,13 @@
 -- What the check of the rates and the pass that fills a buffer keep.
 -- Assumes nothing.
-use Rattle.std.specs.Prelude.{List, [], ◌++◌, ℕ, ◌+◌, ◌≤◌, ◌<◌, ltb, eqb, ℤ, length, get_or, drop, if◌then◌else◌, sum_by, Err}
-use Rattle.refusals.specs.declared.Refusal.TheVariants.{BytesLeft}
-use Rattle.refusals.specs.Checks.{unless, Verdict}
+use Rattle.std.specs.Prelude.{List, [], ◌++◌, ℕ, ◌+◌, ◌≤◌, ◌<◌, ltb, ℤ, length, get_or, drop, if◌then◌else◌, sum_by, Err}
+use Rattle.refusals.specs.Checks.{Verdict}
 use Rattle.house_numbers.specs.Reading.{Read, got, refused, ◌then_read◌}
+use Rattle.house_rates.specs.Rates.{all_read}
 
 -- What the check of the rates says: refused where they are, and with 13 where bytes are left after them.
 unfoldable pub checked_rates : Read (List ℤ) → Verdict
-checked_rates (got rates rest) = unless (eqb (length rest) 0) BytesLeft
+checked_rates (got rates rest) = all_read rest
 checked_rates (refused r) = Err r
 
 -- The rates that are read.
@@ -17,7 +17,7 @@ rates_read (refused r) = []
 
 -- Rates with nothing after them; where bytes are left they are refused with 13.
 unfoldable pub closed : List ℤ → List ℕ → Read (List ℤ)
-closed rates rest = unless (eqb (length rest) 0) BytesLeft then_read got rates rest
+closed rates rest = all_read rest then_read got rates rest
 
 -- A buffer with rates in its first places.
 unfoldable pub rates_over : List ℤ → List ℤ → List ℤ

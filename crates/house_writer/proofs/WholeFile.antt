@@ -6,18 +6,17 @@ use mathlib.Core.List.{List, ◌++◌, append_assoc}
 use Prim.Native.Nat.{ℕ, ◌+◌, ◌≤◌, ◌<◌}
 use native.Mathlib.Omega.{arith}
 use lib.IntN.{ℤ}
-use lib.ListN.{length, take, length-append}
+use lib.ListN.{length, take}
 use borrow.Author.Tests.{lt-leb}
 use Rattle.refusals.specs.declared.Refusal.{Refusal}
 use Rattle.refusals.specs.declared.Refusal.TheVariants.{TableLength}
 use Rattle.shapes.specs.declared.Shape.{Shape}
 use Rattle.shapes.specs.Shapes.{check_shape}
-use Rattle.shapes.proofs.Checked.{passed_in_range}
 use Rattle.tables.specs.Tables.{check_rated}
 use Rattle.buffers.specs.Put.{Put}
 use Rattle.buffers.proofs.Puts.{behind, past, put_behind, put_as, put_length, put_over}
 use Rattle.house_file.specs.Written.{written, written_rates, written_file}
-use Rattle.house_file.proofs.Lengths.{one_byte}
+use Rattle.house_file.proofs.Lengths.{head_size, file_size}
 use Rattle.house_writer.specs.Writing.{after_writing, kept_out, check_room, put_file, write_file}
 use Rattle.house_writer.proofs.Putting.{put_done}
 
@@ -46,31 +45,9 @@ module _ (file out : List ℕ) where
 
 module _ (s : Shape) (passed : check_shape s ≡ Ok tt) where
   module _ (rates : List ℤ) where
-    pub file_size : 2 + length (written_rates rates) ≡ length (written_file s rates)
-    unfolding written_file
-    file_size =
-        let range = passed_in_range s passed in
-        omega (
-          arith,
-          length-append (written s.axes) (written s.level ++ written_rates rates),
-          length-append (written s.level) (written_rates rates),
-          one_byte s.axes range.high,
-          one_byte s.level range.top,
-        )
-
     pub rates_room : {old mid : List ℕ} {place : ℕ} → length (written_file s rates) ≤ length old →
         Put (written s.axes ++ written s.level) old 0 mid place → place + length (written_rates rates) ≤ length mid
-    rates_room room put =
-        let range = passed_in_range s passed in
-        omega (
-          arith,
-          file_size,
-          put.after,
-          put_length put,
-          length-append (written s.axes) (written s.level),
-          one_byte s.axes range.high,
-          one_byte s.level range.top,
-        )
+    rates_room room put = omega (arith, file_size s passed rates, put.after, put_length put, head_size s passed)
 
     pub parts_put : {old mid put : List ℕ} {place size : ℕ} → Put (written s.axes ++ written s.level) old 0 mid place → place ≤ length mid →
         Put (written_rates rates) (behind mid place) 0 put size → Put (written_file s rates) old 0 (take place mid ++ (put ++ past mid place)) (place + size)

@@ -8,7 +8,8 @@ use borrow.Author.Tests.{leb-true, leb-false}
 use lib.ListN.{length}
 use Rattle.buffers.proofs.Puts.{length_behind}
 use Rattle.house_file.specs.Written.{written_rates, written_file}
-use Rattle.house_writer.proofs.WholeFile.{put_short, put_answered, file_size, rates_room, parts_put}
+use Rattle.house_file.proofs.Lengths.{file_size}
+use Rattle.house_writer.proofs.WholeFile.{put_short, put_answered, rates_room, parts_put}
 use Rattle.house_writer.proofs.put_file.Given as given
 use Rattle.house_writer.proofs.put_file.Goals.{After-put_head-head}
 use Rattle.house_writer.proofs.put_file.Goals as goal
