@@ -31,10 +31,10 @@ fills {value} {long} {a} {list} j v filled inside e =
 
 -- Cursor j where the first b level vectors of sum s are passed.
 abbrev pub cursor_at : Line → ℕ → ℕ → ℕ → ℕ
-cursor_at line s b j = start line.axes (s - j) + 2 ^ (s - j) * passed line.axes line.place s j b
+cursor_at line s b j = start line.shape.axes (s - j) + 2 ^ (s - j) * passed line.shape.axes line.place s j b
 
 -- The place of a sum is where the next list of cursor j is, before the first list; the one after it, after the last.
-module _ (starts : Starts) (s j : ℕ) (low : s ≤ starts.line.level) (le : j ≤ s) where
+module _ (starts : Starts) (s j : ℕ) (low : s ≤ starts.line.shape.level) (le : j ≤ s) where
   pub before_first : at starts.places (s + 0 - j) ≡ cursor_at starts.line s 0 j
   before_first =
       let same : s + 0 - j ≡ s - j = omega arith in
@@ -42,21 +42,21 @@ module _ (starts : Starts) (s j : ℕ) (low : s ≤ starts.line.level) (le : j �
       ∙ omega (
         arith,
         starts.first (s - j) (omega arith),
-        ap (λ (r : ℕ). 2 ^ (s - j) * r) (passed_none starts.line.axes starts.line.place s j),
+        ap (λ (r : ℕ). 2 ^ (s - j) * r) (passed_none starts.line.shape.axes starts.line.place s j),
         mul-zero (2 ^ (s - j)),
       )
 
-  pub after_last : at starts.places (s + 1 - j) ≡ cursor_at starts.line s (vectors starts.line.axes s) j
+  pub after_last : at starts.places (s + 1 - j) ≡ cursor_at starts.line s (vectors starts.line.shape.axes s) j
   after_last =
       let line = starts.line in
       let next : s + 1 - j ≡ suc (s - j) = omega arith in
       ap (at starts.places) next
       ∙ starts.first (suc (s - j)) (omega arith)
-      ∙ start_suc line.axes (s - j)
-      ∙ ap (λ (r : ℕ). start line.axes (s - j) + 2 ^ (s - j) * r) (sym (passed_all line.axes line.place s j line.axis le))
+      ∙ start_suc line.shape.axes (s - j)
+      ∙ ap (λ (r : ℕ). start line.shape.axes (s - j) + 2 ^ (s - j) * r) (sym (passed_all line.shape.axes line.place s j line.axis le))
 
 -- Cursors that are filled in from the places, each `past` after the start of its sum, are those where b level vectors of the sum are passed, if each is.
-pub cursors_filled : (starts : Starts) (s past b : ℕ) {list : List ℕ} → s ≤ starts.line.level →
+pub cursors_filled : (starts : Starts) (s past b : ℕ) {list : List ℕ} → s ≤ starts.line.shape.level →
     ((j : ℕ) → j ≤ s → at starts.places (s + past - j) ≡ cursor_at starts.line s b j) →
     Filled (λ j. at starts.places (s + past - j)) 9 1 (suc s) list → Cursors starts.line s b list
 cursors_filled starts s past b low is filled =

@@ -26,7 +26,7 @@ use Rattle.cursors.proofs.Filling.{cursor_at}
 
 -- The cursors below j are those where b level vectors are passed, the others still those where a are.
 pub record Moved (line : Line) (s a b j : ℕ) (cursors : List ℕ) : Type 0 where
-  pub low : s ≤ line.level
+  pub low : s ≤ line.shape.level
   pub long : length cursors ≡ 9
   pub done : (i : ℕ) → 1 ≤ i → i < j → i ≤ s → at cursors i ≡ cursor_at line s b i
   pub left : (i : ℕ) → 1 ≤ i → j ≤ i → i ≤ s → at cursors i ≡ cursor_at line s a i
@@ -70,13 +70,13 @@ moved_ends {own} stay moved =
     }
 
 -- A level vector that is met, of sum s.
-module _ {v : Subspace} {s : ℕ} (seen : Seen v) (sum : sum_to (at v.vector.levels) v.line.axes ≡ s) where
+module _ {v : Subspace} {s : ℕ} (seen : Seen v) (sum : sum_to (at v.vector.levels) v.line.shape.axes ≡ s) where
   -- How many level vectors of the sum come before it.
   abbrev before : ℕ
-  before = rank (at v.vector.levels) v.line.axes
+  before = rank (at v.vector.levels) v.line.shape.axes
 
   pub own_le : v.own ≤ s
-  own_le = omega (arith, seen.own, term_le (at v.vector.levels) v.line.axes v.line.place seen.axis)
+  own_le = omega (arith, seen.own, term_le (at v.vector.levels) v.line.shape.axes v.line.place seen.axis)
 
   pub sum_le : s ≤ 8
   sum_le = omega (arith, seen.sum, seen.top)
@@ -84,9 +84,9 @@ module _ {v : Subspace} {s : ℕ} (seen : Seen v) (sum : sum_to (at v.vector.lev
   -- The cursors past its level on the axis stay.
   stays : (j : ℕ) → v.own < j → cursor_at v.line s (suc before) j ≡ cursor_at v.line s before j
   stays j past =
-      let none = does_not_reach (at v.vector.levels) v.line.axes v.line.place s j seen.axis sum (omega (arith, seen.own)) in
-      ap (λ (r : ℕ). start v.line.axes (s - j) + 2 ^ (s - j) * r)
-      (omega (arith, passed_step v.line.axes v.line.place s j before, none))
+      let none = does_not_reach (at v.vector.levels) v.line.shape.axes v.line.place s j seen.axis sum (omega (arith, seen.own)) in
+      ap (λ (r : ℕ). start v.line.shape.axes (s - j) + 2 ^ (s - j) * r)
+      (omega (arith, passed_step v.line.shape.axes v.line.place s j before, none))
 
   pub moved_up : {cursors : List ℕ} → Moved v.line s before (suc before) (suc v.own) cursors → Cursors v.line s (suc before) cursors
   moved_up moved = moved_ends (λ j past. sym (stays j past)) moved
@@ -98,14 +98,14 @@ module _ {v : Subspace} {s : ℕ} (seen : Seen v) (sum : sum_to (at v.vector.lev
   module _ (j : ℕ) (to : j ≤ v.own) where
     steps : cursor_at v.line s (suc before) j ≡ cursor_at v.line s before j + 2 ^ (s - j)
     steps =
-        let one = does_reach (at v.vector.levels) v.line.axes v.line.place s j seen.axis sum (omega (arith, seen.own)) in
-        let more : passed v.line.axes v.line.place s j (suc before) ≡ suc (passed v.line.axes v.line.place s j before)
-        = omega (arith, passed_step v.line.axes v.line.place s j before, one)
+        let one = does_reach (at v.vector.levels) v.line.shape.axes v.line.place s j seen.axis sum (omega (arith, seen.own)) in
+        let more : passed v.line.shape.axes v.line.place s j (suc before) ≡ suc (passed v.line.shape.axes v.line.place s j before)
+        = omega (arith, passed_step v.line.shape.axes v.line.place s j before, one)
         in
         omega (
           arith,
           ap (λ (r : ℕ). 2 ^ (s - j) * r) more,
-          mul-suc (2 ^ (s - j)) (passed v.line.axes v.line.place s j before),
+          mul-suc (2 ^ (s - j)) (passed v.line.shape.axes v.line.place s j before),
         )
 
     shifted : 1 * 2 ^ (s - j) % 2 ^ 64 ≡ 2 ^ (s - j)
@@ -125,15 +125,15 @@ module _ {v : Subspace} {s : ℕ} (seen : Seen v) (sum : sum_to (at v.vector.lev
     cursor_small =
         let high : j ≤ at v.vector.levels v.line.place = omega (arith, seen.own) in
         let le : j ≤ s = omega (arith, own_le) in
-        let lower = passed_lower v.line.axes v.line.place s j seen.axis le (at v.vector.levels) sum high in
-        let below : suc (passed v.line.axes v.line.place s j before) ≤ vectors v.line.axes (s - j)
-        = omega (arith, lower, lowered_rank_lt v.line.axes v.line.place s j seen.axis le (at v.vector.levels) sum high)
+        let lower = passed_lower v.line.shape.axes v.line.place s j seen.axis le (at v.vector.levels) sum high in
+        let below : suc (passed v.line.shape.axes v.line.place s j before) ≤ vectors v.line.shape.axes (s - j)
+        = omega (arith, lower, lowered_rank_lt v.line.shape.axes v.line.place s j seen.axis le (at v.vector.levels) sum high)
         in
         omega (
           arith,
           steps,
-          mul-suc (2 ^ (s - j)) (passed v.line.axes v.line.place s j before),
+          mul-suc (2 ^ (s - j)) (passed v.line.shape.axes v.line.place s j before),
           mul-le-mul_left (2 ^ (s - j)) below,
-          start_suc v.line.axes (s - j),
-          start_small v.line.axes (omega (arith, seen.axis)) seen.few (suc (s - j)) (omega (arith, sum_le)),
+          start_suc v.line.shape.axes (s - j),
+          start_small v.line.shape.axes (omega (arith, seen.axis)) seen.few (suc (s - j)) (omega (arith, sum_le)),
         )

@@ -23,6 +23,6 @@ passed d t s j b = sum_to (reaches d t s j) b
 -- Of the level lists of sum s the first b are passed. Those of them with a level of at least j on the axis, each lowered by j there, are the first level lists
 -- of sum s − j: cursor j is the number of the first point that comes after these. Places 0 and past s are not read.
 pub record Cursors (line : Line) (s b : ℕ) (cursors : List ℕ) : Type 0 where
-  pub low : s ≤ line.level
+  pub low : s ≤ line.shape.level
   pub long : length cursors ≡ 9
-  pub first : (j : ℕ) → 1 ≤ j → j ≤ s → at cursors j ≡ start line.axes (s - j) + 2 ^ (s - j) * passed line.axes line.place s j b
+  pub first : (j : ℕ) → 1 ≤ j → j ≤ s → at cursors j ≡ start line.shape.axes (s - j) + 2 ^ (s - j) * passed line.shape.axes line.place s j b

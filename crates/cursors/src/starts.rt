@@ -10,7 +10,7 @@ use neighbours::Line;
 pub struct Starts {
     pub line: Line,
     pub places: [u64; 10],
-    ghost first: { (s : ℕ) → s ≤ suc line.level → at places s ≡ start line.axes s },
+    ghost first: { (s : ℕ) → s ≤ suc line.shape.level → at places s ≡ start line.shape.axes s },
 }
 
 impl Starts {
@@ -20,8 +20,8 @@ impl Starts {
     {
         let rows = shapes::Rows::new();
         let mut places = [0u64; 10];
-        for s in 1..line.level + 2 {
-            places[s as usize] = rows.start(line.axes, s);
+        for s in 1..line.shape.level + 2 {
+            places[s as usize] = rows.start(line.shape.axes, s);
         }
         Starts { line, places }
     }

@@ -25,7 +25,7 @@ use Rattle.grids.specs.Grids.{neighbour}
 use Rattle.grids.proofs.Sparse.{points_sparse}
 use Rattle.neighbours.specs.declared.subspaces.Subspace.{Subspace}
 use Rattle.neighbours.specs.declared.subspaces.Line.{Line}
-use Rattle.neighbours.specs.Steps.{sparse_of, code_from}
+use Rattle.neighbours.specs.Steps.{code_from}
 use Rattle.neighbours.proofs.Seeing.{seen}
 use Rattle.neighbours.proofs.Beside.{bits, end_inside, first_small}
 use Rattle.neighbours.proofs.Runs as runs
@@ -35,18 +35,18 @@ use Rattle.lists.proofs.Joining.{none_stepped, stepped_few, before_held, run_joi
 use Rattle.lists.proofs.Sums.{Parents, Borders, near_at, all_digits, block_end, run_inside, first_left, last_right, near_left, near_right, far_left, far_right, run_before, sum_between, sum_from_border, sum_to_border}
 
 -- A table of the shape that a line lies in.
-pub on_line : (line : Line) {xs : List ℤ} → length xs ≡ points_of (sparse_of line) → OnAxis (sparse_of line) line.place xs
+pub on_line : (line : Line) {xs : List ℤ} → length xs ≡ points_of line.shape → OnAxis line.shape line.place xs
 on_line line long = record { few = line.few; low = line.top; place = line.axis; long = long }
 
 -- It is small.
-pub table_small : (line : Line) (xs : List ℤ) → OnAxis (sparse_of line) line.place xs → length xs < 2 ^ 32
+pub table_small : (line : Line) (xs : List ℤ) → OnAxis line.shape line.place xs → length xs < 2 ^ 32
 table_small line xs on =
     omega (
       arith,
       on.long,
-      points_sparse line.axes line.level,
-      points_is line.axes line.level,
-      start_small line.axes (omega (arith, on.place)) on.few (suc line.level) (omega (arith, on.low)),
+      points_sparse line.shape.axes line.shape.level,
+      points_is line.shape.axes line.shape.level,
+      start_small line.shape.axes (omega (arith, on.place)) on.few (suc line.shape.level) (omega (arith, on.low)),
     )
 
 -- ---- the numbers that the code computes: no shift loses a bit
@@ -84,7 +84,7 @@ pub record Here (v : Subspace) (starts : List ℕ) (first beyond width : ℕ) (x
 -- The first e runs of a block are done, and the next begins at number x.
 pub record RunsDone (ahead : Bool) (v : Subspace) (first e x : ℕ) (xs : List ℤ) (k : ℕ) (ys : List ℤ) : Type 0 where
   pub place : x ≡ first + e * 2 ^ v.low
-  pub stepped : Stepped ahead (sparse_of v.line) v.line.place first x xs k ys
+  pub stepped : Stepped ahead v.line.shape v.line.place first x xs k ys
 
 -- All that the next one needs: it has the digit e on the axis.
 pub record NextRun (ahead : Bool) (v : Subspace) (first width : ℕ) (xs : List ℤ) (e x k : ℕ) (ys : List ℤ) : Type 0 where
@@ -95,7 +95,7 @@ pub record NextRun (ahead : Bool) (v : Subspace) (first width : ℕ) (xs : List 
   pub digit : e < 2 ^ v.own
 
 abbrev parents_sum : Subspace → List ℤ → ℕ → ℤ
-parents_sum v xs p = sum_on (neighbour (sparse_of v.line)) v.line.place (value_at xs) (suc p)
+parents_sum v xs p = sum_on (neighbour v.line.shape) v.line.place (value_at xs) (suc p)
 
 -- It has the border on one side, and its parents on the other are the points from number a on.
 pub record ByBorder (ahead : Bool) (v : Subspace) (first width : ℕ) (xs : List ℤ) (e x a k : ℕ) (ys : List ℤ) : Type 0 where
@@ -225,7 +225,7 @@ module _ {v : Subspace} {starts : List ℕ} {first beyond width : ℕ} {xs : Lis
   pub first_run : {ahead : Bool} {near : ℕ} → near ≡ near_at v starts beyond 0 → ByBorder ahead v first width xs 0 first near 0 xs
   first_run {ahead} {near} near_at_lem =
       let none : RunsDone ahead v first 0 first xs 0 xs
-      = record { place = omega arith; stepped = none_stepped ahead (sparse_of v.line) v.line.place first xs } in
+      = record { place = omega arith; stepped = none_stepped ahead v.line.shape v.line.place first xs } in
       let digit : 0 < 2 ^ v.own = pow_pos v.own in
       from_border none digit
       (first_left (seen v) w.below w.moves h.block 0 first digit none.place refl)
@@ -288,7 +288,7 @@ module _ {v : Subspace} {starts : List ℕ} {first beyond width : ℕ} {xs : Lis
 -- With it all runs are done, and they make the block.
 pub block_done : {ahead : Bool} {v : Subspace} {first width : ℕ} {xs : List ℤ} {x a k k' : ℕ} {sum : ℕ → ℤ} {ys zs : List ℤ} →
     ByBorder ahead v first width xs (2 ^ v.own - 1) x a k ys → RunStepped ahead x width sum ys k' zs → ((i : ℕ) → i < 2 ^ v.low → sum i ≡ value_in xs a i) →
-    Stepped ahead (sparse_of v.line) v.line.place first (first + 2 ^ (v.low + v.own)) xs (k + k') zs
+    Stepped ahead v.line.shape v.line.place first (first + 2 ^ (v.low + v.own)) xs (k + k') zs
 block_done {v = v} {first} {width} {x = x} r run held =
     let all = border_done r run held (2 ^ v.own) (omega (arith, pow_pos v.own)) in
     let end : x + width ≡ first + 2 ^ (v.low + v.own) = omega (arith, all.place, pow-add 2 v.low v.own) in

@@ -27,7 +27,7 @@ use Rattle.shapes.specs.declared.Shape.{Shape}
 use Rattle.shapes.specs.Shapes.{points_of}
 use Rattle.grids.specs.Grids.{neighbour}
 use Rattle.neighbours.specs.declared.subspaces.Subspace.{Subspace}
-use Rattle.neighbours.specs.Steps.{sparse_of, Below}
+use Rattle.neighbours.specs.Steps.{Below}
 use Rattle.neighbours.proofs.Seeing.{Seen, seen, vector_of}
 use Rattle.neighbours.proofs.Beside.{end_inside, parent_before, flat}
 use Rattle.lists.specs.Lists.{between, stepped_at, stepped_between, list_worked}
@@ -63,18 +63,18 @@ stepped_list {ahead} {s} {t} {lo} {hi} {k} {xs} {ys} done long order =
 
 module _ {v : Subspace} (s : Seen v) where
   pub some_points : v.start < v.end
-  some_points = omega (arith, s.start, s.end, pow_pos (sum_to (at v.vector.levels) v.line.axes))
+  some_points = omega (arith, s.start, s.end, pow_pos (sum_to (at v.vector.levels) v.line.shape.axes))
 
   -- All parents stand before the list.
-  pub list_before : (p : ℕ) → v.start ≤ p → p < v.end → (b : Side) → neighbour (sparse_of v.line) v.line.place b (suc p) ≤ v.start
+  pub list_before : (p : ℕ) → v.start ≤ p → p < v.end → (b : Side) → neighbour v.line.shape v.line.place b (suc p) ≤ v.start
   list_before p from to b = parent_before s p from to b
 
-  pub list_worked_lem : {ahead : Bool} {k : ℕ} {xs ys : List ℤ} → OnAxis (sparse_of v.line) v.line.place xs →
-      Stepped ahead (sparse_of v.line) v.line.place v.start v.end xs k ys → ys ≡ list_worked ahead (sparse_of v.line) v.line.place (at v.vector.levels) xs
+  pub list_worked_lem : {ahead : Bool} {k : ℕ} {xs ys : List ℤ} → OnAxis v.line.shape v.line.place xs →
+      Stepped ahead v.line.shape v.line.place v.start v.end xs k ys → ys ≡ list_worked ahead v.line.shape v.line.place (at v.vector.levels) xs
   unfolding list_worked
   list_worked_lem {ahead} {k} {xs} {ys} on done =
       stepped_list done on.long (omega (arith, some_points))
-      ∙ ap₂ (λ (lo hi : ℕ). stepped_between ahead (sparse_of v.line) v.line.place lo hi xs) s.start s.end
+      ∙ ap₂ (λ (lo hi : ℕ). stepped_between ahead v.line.shape v.line.place lo hi xs) s.start s.end
 
 -- ---- level 0
 
@@ -83,15 +83,15 @@ sum_of_none f zero none = sum_to_zero f
 sum_of_none f (suc m) none = omega (arith, sum_to_suc f m, sum_of_none f m none, none m)
 
 pub flat_stepped : {v : Subspace} → Seen v → v.own ≡ 0 → (ahead : Bool) (xs : List ℤ) →
-    Stepped ahead (sparse_of v.line) v.line.place v.start v.end xs 0 xs
+    Stepped ahead v.line.shape v.line.place v.start v.end xs 0 xs
 flat_stepped {v} s level ahead xs =
     let whole : v.start + (v.end - v.start) ≡ v.end = omega (arith, some_points s) in
-    rw whole at (run_joins (none_stepped ahead (sparse_of v.line) v.line.place v.start xs) (omega arith) still no_parents)
+    rw whole at (run_joins (none_stepped ahead v.line.shape v.line.place v.start xs) (omega arith) still no_parents)
   where
-    no_parents : (i : ℕ) → i < v.end - v.start → pos 0 ≡ sum_on (neighbour (sparse_of v.line)) v.line.place (value_at xs) (suc (v.start + i))
+    no_parents : (i : ℕ) → i < v.end - v.start → pos 0 ≡ sum_on (neighbour v.line.shape) v.line.place (value_at xs) (suc (v.start + i))
     no_parents i h =
         sym
-        (sum_still (neighbour (sparse_of v.line)) v.line.place (value_at xs) (value_zero xs) (suc (v.start + i))
+        (sum_still (neighbour v.line.shape) v.line.place (value_at xs) (value_zero xs) (suc (v.start + i))
         (λ b. flat s (v.start + i) (omega arith) (omega arith) level b))
 
     still : RunStepped ahead v.start (v.end - v.start) (λ i. pos 0) xs 0 xs
@@ -121,7 +121,7 @@ module _ (v : Subspace) where
         v.there,
         (vector_of v).total,
         sum_to_suc (at v.vector.levels) v.line.place,
-        sum_to_mono (at v.vector.levels) (suc v.line.place) v.line.axes v.line.axis,
+        sum_to_mono (at v.vector.levels) (suc v.line.place) v.line.shape.axes v.line.axis,
       )
 
   blocks_whole : blocks_of v * 2 ^ (v.low + v.own) ≡ 2 ^ v.vector.sum
@@ -149,14 +149,14 @@ module _ (v : Subspace) where
         let small : 2 ^ v.vector.sum ≤ 2 ^ 8 = pow_mono {i = v.vector.sum} {j = 8} (omega (arith, v.inside, v.line.top)) in
         mod-eq_of_lt (omega (arith, next_within, v.after, small, pow_pos (v.low + v.own)))
 
-    module _ {xs : List ℤ} (on : OnAxis (sparse_of v.line) v.line.place xs) where
+    module _ {xs : List ℤ} (on : OnAxis v.line.shape v.line.place xs) where
       list_small : v.end < 2 ^ 32
       list_small = omega (arith, end_inside (seen v), on.long, table_small v.line xs on)
 
       pub block_small : block_at v beyond < 2 ^ 32
       block_small = omega (arith, next_within, list_small)
 
-      module _ {ahead : Bool} {k : ℕ} {ys : List ℤ} (done : Stepped ahead (sparse_of v.line) v.line.place v.start (block_at v beyond) xs k ys) where
+      module _ {ahead : Bool} {k : ℕ} {ys : List ℤ} (done : Stepped ahead v.line.shape v.line.place v.start (block_at v beyond) xs k ys) where
         -- What the next block asks.
         pub workable : {starts : List ℕ} → Below v starts → 1 ≤ v.own → NoLarger (2 ^ 60) xs → Workable v starts (block_at v beyond) ys
         workable below moves within =
@@ -167,8 +167,8 @@ module _ (v : Subspace) where
               room = λ p outside. omega (arith, ap nat_abs (done.off p outside), within (suc p));
             }
 
-        module _ {k' : ℕ} {zs : List ℤ} (next : Stepped ahead (sparse_of v.line) v.line.place (block_at v beyond) (block_at v beyond + 2 ^ (v.low + v.own)) ys k' zs) where
-          pub next_done : Stepped ahead (sparse_of v.line) v.line.place v.start (block_at v (beyond + 1)) xs (k + k') zs
+        module _ {k' : ℕ} {zs : List ℤ} (next : Stepped ahead v.line.shape v.line.place (block_at v beyond) (block_at v beyond + 2 ^ (v.low + v.own)) ys k' zs) where
+          pub next_done : Stepped ahead v.line.shape v.line.place v.start (block_at v (beyond + 1)) xs (k + k') zs
           next_done =
               let end : block_at v beyond + 2 ^ (v.low + v.own) ≡ block_at v (beyond + 1) = omega arith in
               rw end at (part_joins done (omega arith) (omega arith) next

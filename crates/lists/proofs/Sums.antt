@@ -15,7 +15,7 @@ use Rattle.numbering.specs.Point.{at}
 use Rattle.hierarchy.specs.Turns.{sum_on}
 use Rattle.grids.specs.Grids.{neighbour}
 use Rattle.neighbours.specs.declared.subspaces.Subspace.{Subspace}
-use Rattle.neighbours.specs.Steps.{sparse_of, Below, code_from, number_in}
+use Rattle.neighbours.specs.Steps.{Below, code_from, number_in}
 use Rattle.neighbours.proofs.Seeing.{Seen}
 use Rattle.neighbours.proofs.Beside.{inner, parent_before}
 use Rattle.neighbours.proofs.Runs.{run_left, run_right, code_along, code_near, code_at_start, code_at_end, block_whole}
@@ -23,10 +23,10 @@ use Rattle.lists.specs.Steps.{BlockAt}
 
 -- The parents on one side of the run from number x on are the points from number a on; or they are the border.
 pub record Parents (v : Subspace) (b : Side) (x a : ℕ) : Type 0 where
-  pub each : (i : ℕ) → i < 2 ^ v.low → neighbour (sparse_of v.line) v.line.place b (suc (x + i)) ≡ suc (a + i)
+  pub each : (i : ℕ) → i < 2 ^ v.low → neighbour v.line.shape v.line.place b (suc (x + i)) ≡ suc (a + i)
 
 pub record Borders (v : Subspace) (b : Side) (x : ℕ) : Type 0 where
-  pub each : (i : ℕ) → i < 2 ^ v.low → neighbour (sparse_of v.line) v.line.place b (suc (x + i)) ≡ 0
+  pub each : (i : ℕ) → i < 2 ^ v.low → neighbour v.line.shape v.line.place b (suc (x + i)) ≡ 0
 
 -- The first of the parents one level up of the runs with the digits 2j and 2j + 1.
 abbrev pub near_at : Subspace → List ℕ → ℕ → ℕ → ℕ
@@ -58,13 +58,13 @@ module _ {v : Subspace} {starts : List ℕ} (s : Seen v) (held : Below v starts)
     there : (i : ℕ) → i < 2 ^ v.low → number_in v i e beyond < v.end
     there i h = omega (arith, number_is i, run_inside, block_end)
 
-    left_is : (i : ℕ) → i < 2 ^ v.low → neighbour (sparse_of v.line) v.line.place Left (suc (x + i)) ≡ code_from v starts i beyond (2 * e)
+    left_is : (i : ℕ) → i < 2 ^ v.low → neighbour v.line.shape v.line.place Left (suc (x + i)) ≡ code_from v starts i beyond (2 * e)
     left_is i h =
-        ap (λ (p : ℕ). neighbour (sparse_of v.line) v.line.place Left (suc p)) (number_is i) ∙ run_left s held i e beyond h digit (there i h)
+        ap (λ (p : ℕ). neighbour v.line.shape v.line.place Left (suc p)) (number_is i) ∙ run_left s held i e beyond h digit (there i h)
 
-    right_is : (i : ℕ) → i < 2 ^ v.low → neighbour (sparse_of v.line) v.line.place Right (suc (x + i)) ≡ code_from v starts i beyond (2 * e + 2)
+    right_is : (i : ℕ) → i < 2 ^ v.low → neighbour v.line.shape v.line.place Right (suc (x + i)) ≡ code_from v starts i beyond (2 * e + 2)
     right_is i h =
-        ap (λ (p : ℕ). neighbour (sparse_of v.line) v.line.place Right (suc p)) (number_is i) ∙ run_right s held i e beyond h digit (there i h)
+        ap (λ (p : ℕ). neighbour v.line.shape v.line.place Right (suc p)) (number_is i) ∙ run_right s held i e beyond h digit (there i h)
 
     -- The borders, beside the first run and beside the last.
     pub first_left : e ≡ 0 → Borders v Left x
@@ -106,7 +106,7 @@ module _ {v : Subspace} {starts : List ℕ} (s : Seen v) (held : Below v starts)
         far_right is = record { each = λ i h. right_is i h ∙ ap (code_from v starts i beyond) (omega (arith, is)) ∙ far_code i }
 
     -- They stand before the level list.
-    pub all_before : (i : ℕ) → i < 2 ^ v.low → (side : Side) → neighbour (sparse_of v.line) v.line.place side (suc (x + i)) ≤ v.start
+    pub all_before : (i : ℕ) → i < 2 ^ v.low → (side : Side) → neighbour v.line.shape v.line.place side (suc (x + i)) ≤ v.start
     all_before i h side = parent_before s (x + i) (omega (arith, run_from)) (omega (arith, number_is i, there i h)) side
 
     pub run_before : (side : Side) (a : ℕ) → Parents v side x a → a + 2 ^ v.low ≤ v.start
@@ -119,20 +119,20 @@ module _ {v : Subspace} {starts : List ℕ} (s : Seen v) (held : Below v starts)
 
 module _ (f : ℕ → ℤ) {v : Subspace} {x : ℕ} where
   pub sum_between : {a b : ℕ} → Parents v Left x a → Parents v Right x b → (i : ℕ) → i < 2 ^ v.low →
-      f (suc (a + i)) +ℤ f (suc (b + i)) ≡ sum_on (neighbour (sparse_of v.line)) v.line.place f (suc (x + i))
+      f (suc (a + i)) +ℤ f (suc (b + i)) ≡ sum_on (neighbour v.line.shape) v.line.place f (suc (x + i))
   unfolding sum_on
   sum_between left right i h = ap₂ (λ (p q : ℕ). f p +ℤ f q) (sym (left.each i h)) (sym (right.each i h))
 
   -- At the border nothing is held.
   pub sum_from_border : {b : ℕ} → f 0 ≡ pos 0 → Borders v Left x → Parents v Right x b → (i : ℕ) → i < 2 ^ v.low →
-      f (suc (b + i)) ≡ sum_on (neighbour (sparse_of v.line)) v.line.place f (suc (x + i))
+      f (suc (b + i)) ≡ sum_on (neighbour v.line.shape) v.line.place f (suc (x + i))
   unfolding sum_on
   sum_from_border {b} zero left right i h =
       sym (+ℤ_idl (f (suc (b + i))))
       ∙ ap₂ (λ (u w : ℤ). u +ℤ w) (sym (ap f (left.each i h) ∙ zero)) (ap f (sym (right.each i h)))
 
   pub sum_to_border : {a : ℕ} → f 0 ≡ pos 0 → Parents v Left x a → Borders v Right x → (i : ℕ) → i < 2 ^ v.low →
-      f (suc (a + i)) ≡ sum_on (neighbour (sparse_of v.line)) v.line.place f (suc (x + i))
+      f (suc (a + i)) ≡ sum_on (neighbour v.line.shape) v.line.place f (suc (x + i))
   unfolding sum_on
   sum_to_border {a} zero left right i h =
       sym (+ℤ_idr (f (suc (a + i))))

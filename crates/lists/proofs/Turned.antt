@@ -23,7 +23,6 @@ use Rattle.grids.specs.Grids.{neighbour, depth, height}
 use Rattle.grids.proofs.Instance.{grid, shallow}
 use Rattle.grids.proofs.Turned.{turned_holds, former_holds}
 use Rattle.neighbours.specs.declared.subspaces.Subspace.{Subspace}
-use Rattle.neighbours.specs.Steps.{sparse_of}
 use Rattle.neighbours.proofs.Seeing.{Seen}
 use Rattle.neighbours.proofs.Beside.{end_inside}
 use Rattle.lists.specs.Lists.{whole_turn, between, came_to, ListTurned}
@@ -106,7 +105,7 @@ module _ (s : Shape) (t lo hi k : ℕ) (xs ys zs : List ℤ) (long : length xs �
 
 module _ {v : Subspace} (seen : Seen v) where
   abbrev shape : Shape
-  shape = sparse_of v.line
+  shape = v.line.shape
 
   list_turned : (ahead : Bool) (k : ℕ) (xs ys zs : List ℤ) → length xs ≡ points_of shape → ys ≡ came_to ahead shape v.line.place (at v.vector.levels) xs →
       Stepped ahead shape v.line.place v.start v.end ys k zs → (p : ℕ) → v.start ≤ p → p < v.end →

@@ -7,7 +7,7 @@ use Rattle.hierarchy.specs.Turns.{value_at}
 use Rattle.shapes.specs.declared.Shape.{Shape}
 use Rattle.shapes.specs.Shapes.{points_of}
 use Rattle.neighbours.specs.declared.subspaces.Subspace.{Subspace}
-use Rattle.neighbours.specs.Steps.{sparse_of, Below}
+use Rattle.neighbours.specs.Steps.{Below}
 use Rattle.lists.specs.Lists.{odd_sums, stepped_at}
 
 -- Place t of a shape within the limits, and a table of its points.
@@ -49,7 +49,7 @@ pub record Stepped (ahead : Bool) (s : Shape) (t lo hi : ℕ) (xs : List ℤ) (k
 pub record Workable (v : Subspace) (starts : List ℕ) (x : ℕ) (xs : List ℤ) : Type 0 where
   pub below : Below v starts
   pub moves : 1 ≤ v.own
-  pub axis : OnAxis (sparse_of v.line) v.line.place xs
+  pub axis : OnAxis v.line.shape v.line.place xs
   pub room : (p : ℕ) → (p < v.start) ⊎ (x ≤ p) → nat_abs (value_at xs (suc p)) ≤ 2 ^ 61
 
 -- A block: the points to whose position the axes beyond add `beyond`, from number x on.

@@ -31,7 +31,7 @@ use Rattle.grids.specs.Grids.{level_on, index_on, neighbour}
 use Rattle.grids.proofs.Sparse.{points_sparse, number_sparse, levels_sparse, indices_sparse}
 use Rattle.grids.proofs.Beside.{numerator_on, to_border, to_parent}
 use Rattle.neighbours.specs.declared.subspaces.Subspace.{Subspace}
-use Rattle.neighbours.specs.Steps.{sparse_of, Below, code_from}
+use Rattle.neighbours.specs.Steps.{Below, code_from}
 use Rattle.neighbours.proofs.Seeing.{Seen}
 
 -- The two cases of a code.
@@ -71,22 +71,22 @@ bits {v} s =
       s.low,
       s.own,
       sum_to_suc (at v.vector.levels) v.line.place,
-      sum_to_mono (at v.vector.levels) (suc v.line.place) v.line.axes s.axis,
+      sum_to_mono (at v.vector.levels) (suc v.line.place) v.line.shape.axes s.axis,
       s.sum,
       s.top,
     )
 
 -- It ends within the table.
-pub end_inside : {v : Subspace} → Seen v → v.end ≤ points_of (sparse_of v.line)
+pub end_inside : {v : Subspace} → Seen v → v.end ≤ points_of v.line.shape
 end_inside {v} s =
-    let size : ℕ = 2 ^ sum_to (at v.vector.levels) v.line.axes in
-    let some : 0 < size = pow_pos (sum_to (at v.vector.levels) v.line.axes) in
+    let size : ℕ = 2 ^ sum_to (at v.vector.levels) v.line.shape.axes in
+    let some : 0 < size = pow_pos (sum_to (at v.vector.levels) v.line.shape.axes) in
     omega (
       arith,
       s.end,
       some,
-      block_below v.line.axes v.line.level (at v.vector.levels) s.rest s.sum (size - 1) (omega (arith, some)),
-      points_sparse v.line.axes v.line.level,
+      block_below v.line.shape.axes v.line.shape.level (at v.vector.levels) s.rest s.sum (size - 1) (omega (arith, some)),
+      points_sparse v.line.shape.axes v.line.shape.level,
     )
 
 -- The level vectors below it.
@@ -94,11 +94,11 @@ module _ {v : Subspace} {starts : List ℕ} (s : Seen v) (held : Below v starts)
   abbrev lowered : ℕ → ℕ
   lowered = update (at v.vector.levels) v.line.place (v.own - j)
 
-  lowered_rest : (u : ℕ) → v.line.axes ≤ u → lowered u ≡ 0
+  lowered_rest : (u : ℕ) → v.line.shape.axes ≤ u → lowered u ≡ 0
   lowered_rest u past = update_other (at v.vector.levels) v.line.place (v.own - j) u (λ same. omega (arith, s.axis)) ∙ s.rest u past
 
-  lowered_sum : sum_to lowered v.line.axes + j ≡ sum_to (at v.vector.levels) v.line.axes
-  lowered_sum = omega (arith, update_sum (at v.vector.levels) v.line.place (v.own - j) v.line.axes s.axis, s.own, most)
+  lowered_sum : sum_to lowered v.line.shape.axes + j ≡ sum_to (at v.vector.levels) v.line.shape.axes
+  lowered_sum = omega (arith, update_sum (at v.vector.levels) v.line.place (v.own - j) v.line.shape.axes s.axis, s.own, most)
 
   -- Their numbers are small.
   pub first_small : at starts j < 2 ^ 32
@@ -106,79 +106,79 @@ module _ {v : Subspace} {starts : List ℕ} (s : Seen v) (held : Below v starts)
       omega (
         arith,
         held.first j some most,
-        block_below v.line.axes v.line.level lowered lowered_rest (omega (arith, lowered_sum, s.sum)) 0 (pow_pos (sum_to lowered v.line.axes)),
-        points_is v.line.axes v.line.level,
-        start_small v.line.axes (omega (arith, s.axis)) s.few (suc v.line.level) (omega (arith, s.top)),
+        block_below v.line.shape.axes v.line.shape.level lowered lowered_rest (omega (arith, lowered_sum, s.sum)) 0 (pow_pos (sum_to lowered v.line.shape.axes)),
+        points_is v.line.shape.axes v.line.shape.level,
+        start_small v.line.shape.axes (omega (arith, s.axis)) s.few (suc v.line.shape.level) (omega (arith, s.top)),
       )
 
 -- Point number p of a level vector.
 module _ {v : Subspace} (s : Seen v) (p : ℕ) (from : v.start ≤ p) (to : p < v.end) where
-  inside_vector : p - v.start < 2 ^ sum_to (at v.vector.levels) v.line.axes
+  inside_vector : p - v.start < 2 ^ sum_to (at v.vector.levels) v.line.shape.axes
   inside_vector = omega (arith, s.start, s.end)
 
-  number_is : first_of v.line.axes (at v.vector.levels) + (p - v.start) ≡ p
+  number_is : first_of v.line.shape.axes (at v.vector.levels) + (p - v.start) ≡ p
   number_is = omega (arith, s.start)
 
-  named : Named v.line.axes v.line.level (at v.vector.levels) (indices_to v.line.axes (at v.vector.levels) (p - v.start))
-  named = block_point v.line.axes v.line.level (at v.vector.levels) s.rest s.sum (p - v.start) inside_vector
+  named : Named v.line.shape.axes v.line.shape.level (at v.vector.levels) (indices_to v.line.shape.axes (at v.vector.levels) (p - v.start))
+  named = block_point v.line.shape.axes v.line.shape.level (at v.vector.levels) s.rest s.sum (p - v.start) inside_vector
 
-  below : p < points_of (sparse_of v.line)
+  below : p < points_of v.line.shape
   below =
       omega (
         arith,
         number_is,
-        block_below v.line.axes v.line.level (at v.vector.levels) s.rest s.sum (p - v.start) inside_vector,
-        points_sparse v.line.axes v.line.level,
+        block_below v.line.shape.axes v.line.shape.level (at v.vector.levels) s.rest s.sum (p - v.start) inside_vector,
+        points_sparse v.line.shape.axes v.line.shape.level,
       )
 
-  levels_are : level_on (sparse_of v.line) p ≡ at v.vector.levels
+  levels_are : level_on v.line.shape p ≡ at v.vector.levels
   levels_are =
-      levels_sparse v.line.axes v.line.level p
-      ∙ ap (level_at v.line.axes v.line.level) (sym number_is)
-      ∙ block_levels v.line.axes v.line.level (at v.vector.levels) s.rest s.sum (p - v.start) inside_vector
+      levels_sparse v.line.shape.axes v.line.shape.level p
+      ∙ ap (level_at v.line.shape.axes v.line.shape.level) (sym number_is)
+      ∙ block_levels v.line.shape.axes v.line.shape.level (at v.vector.levels) s.rest s.sum (p - v.start) inside_vector
 
-  indices_are : index_on (sparse_of v.line) p ≡ indices_to v.line.axes (at v.vector.levels) (p - v.start)
+  indices_are : index_on v.line.shape p ≡ indices_to v.line.shape.axes (at v.vector.levels) (p - v.start)
   indices_are =
-      indices_sparse v.line.axes v.line.level p
-      ∙ ap (index_at v.line.axes v.line.level) (sym number_is)
-      ∙ block_indices v.line.axes v.line.level (at v.vector.levels) s.rest s.sum (p - v.start) inside_vector
+      indices_sparse v.line.shape.axes v.line.shape.level p
+      ∙ ap (index_at v.line.shape.axes v.line.shape.level) (sym number_is)
+      ∙ block_indices v.line.shape.axes v.line.shape.level (at v.vector.levels) s.rest s.sum (p - v.start) inside_vector
 
-  index_is : indices_to v.line.axes (at v.vector.levels) (p - v.start) v.line.place ≡ 2 * own_digit v (p - v.start) + 1
+  index_is : indices_to v.line.shape.axes (at v.vector.levels) (p - v.start) v.line.place ≡ 2 * own_digit v (p - v.start) + 1
   unfolding index_of
   index_is =
-      indices_in v.line.axes (at v.vector.levels) (p - v.start) v.line.place s.axis
+      indices_in v.line.shape.axes (at v.vector.levels) (p - v.start) v.line.place s.axis
       ∙ ap₂ (λ (a b : ℕ). 2 * ((p - v.start) / 2 ^ a % 2 ^ b) + 1) (sym s.low) (sym s.own)
 
   -- What the axes before and beyond add to its position.
-  before_is : position (at v.vector.levels) (indices_to v.line.axes (at v.vector.levels) (p - v.start)) v.line.place ≡ (p - v.start) % 2 ^ v.low
+  before_is : position (at v.vector.levels) (indices_to v.line.shape.axes (at v.vector.levels) (p - v.start)) v.line.place ≡ (p - v.start) % 2 ^ v.low
   before_is =
-      sym (position_low named.point v.line.place v.line.axes (omega (arith, s.axis)) (omega arith))
+      sym (position_low named.point v.line.place v.line.shape.axes (omega (arith, s.axis)) (omega arith))
       ∙ ap₂ (λ (q a : ℕ). q % 2 ^ a)
-      (block_position v.line.axes v.line.level (at v.vector.levels) s.rest s.sum (p - v.start) inside_vector) (sym s.low)
+      (block_position v.line.shape.axes v.line.shape.level (at v.vector.levels) s.rest s.sum (p - v.start) inside_vector) (sym s.low)
 
   through : sum_to (at v.vector.levels) (suc v.line.place) ≡ v.low + v.own
   through = omega (arith, sum_to_suc (at v.vector.levels) v.line.place, s.low, s.own)
 
   beyond_is :
-      position (at v.vector.levels) (indices_to v.line.axes (at v.vector.levels) (p - v.start)) v.line.axes / 2 ^ sum_to (at v.vector.levels) (suc v.line.place)
+      position (at v.vector.levels) (indices_to v.line.shape.axes (at v.vector.levels) (p - v.start)) v.line.shape.axes / 2 ^ sum_to (at v.vector.levels) (suc v.line.place)
       ≡ beyond_of v (p - v.start)
   beyond_is =
       ap₂ (λ (q a : ℕ). q / 2 ^ a)
-      (block_position v.line.axes v.line.level (at v.vector.levels) s.rest s.sum (p - v.start) inside_vector) through
+      (block_position v.line.shape.axes v.line.shape.level (at v.vector.levels) s.rest s.sum (p - v.start) inside_vector) through
       ∙ ap (λ (x : ℕ). (p - v.start) / x) (pow-add 2 v.low v.own)
       ∙ sym (div-div-eq-div-mul (p - v.start) (2 ^ v.low) (2 ^ v.own))
 
   module _ (b : Side) where
     abbrev top : ℕ
-    top = numerator b (indices_to v.line.axes (at v.vector.levels) (p - v.start) v.line.place)
+    top = numerator b (indices_to v.line.shape.axes (at v.vector.levels) (p - v.start) v.line.place)
 
     -- Which of the two it is, as the shape says.
-    border_is : is_border (level_on (sparse_of v.line) p v.line.place) (numerator_on (sparse_of v.line) v.line.place b p)
+    border_is : is_border (level_on v.line.shape p v.line.place) (numerator_on v.line.shape v.line.place b p)
         ≡ is_border (at v.vector.levels v.line.place) top
     border_is = ap₂ (λ (l i : ℕ → ℕ). is_border (l v.line.place) (numerator b (i v.line.place))) levels_are indices_are
 
-    at_border_lem : is_border (at v.vector.levels v.line.place) top ≡ true → neighbour (sparse_of v.line) v.line.place b (suc p) ≡ 0
-    at_border_lem e = to_border (sparse_of v.line) v.line.place b p below s.axis (border_is ∙ e)
+    at_border_lem : is_border (at v.vector.levels v.line.place) top ≡ true → neighbour v.line.shape v.line.place b (suc p) ≡ 0
+    at_border_lem e = to_border v.line.shape v.line.place b p below s.axis (border_is ∙ e)
 
     module _ (e : is_border (at v.vector.levels v.line.place) top ≡ false) where
       between_borders : Inside v.own top
@@ -188,24 +188,24 @@ module _ {v : Subspace} (s : Seen v) (p : ℕ) (from : v.start ≤ p) (to : p < 
 
       -- The parent's level vector is one of those below.
       module _ {starts : List ℕ} (held : Below v starts) where
-        first_below : at starts (twos top) ≡ first_of v.line.axes (update (at v.vector.levels) v.line.place (parent_level v.own top))
+        first_below : at starts (twos top) ≡ first_of v.line.shape.axes (update (at v.vector.levels) v.line.place (parent_level v.own top))
         unfolding parent_level
         first_below = held.first (twos top) (twos_pos v.own top between_borders) (twos_le v.own top between_borders)
 
         moved_number :
-            number v.line.axes
+            number v.line.shape.axes
             (update (at v.vector.levels) v.line.place (parent_level v.own top))
-            (update (indices_to v.line.axes (at v.vector.levels) (p - v.start)) v.line.place (parent_index top))
+            (update (indices_to v.line.shape.axes (at v.vector.levels) (p - v.start)) v.line.place (parent_index top))
             ≡ at starts (twos top)
             + (p - v.start) % 2 ^ v.low
             + (parent_index top - 1) / 2 * 2 ^ v.low
             + beyond_of v (p - v.start) * 2 ^ (v.low + parent_level v.own top)
         moved_number =
             let k : ℕ = parent_level v.own top in
-            let i : ℕ → ℕ = indices_to v.line.axes (at v.vector.levels) (p - v.start) in
+            let i : ℕ → ℕ = indices_to v.line.shape.axes (at v.vector.levels) (p - v.start) in
             omega (
               arith,
-              number_from_first v.line.axes (update (at v.vector.levels) v.line.place k) (update i v.line.place (parent_index top)),
+              number_from_first v.line.shape.axes (update (at v.vector.levels) v.line.place k) (update i v.line.place (parent_index top)),
               first_below,
               moved_position (at v.vector.levels) i v.line.place k (parent_index top) named.point s.axis,
               before_is,
@@ -214,22 +214,22 @@ module _ {v : Subspace} (s : Seen v) (p : ℕ) (from : v.start ≤ p) (to : p < 
             )
 
       beside_inner :
-          neighbour (sparse_of v.line) v.line.place b (suc p)
+          neighbour v.line.shape v.line.place b (suc p)
           ≡ suc
-          (number v.line.axes
+          (number v.line.shape.axes
           (update (at v.vector.levels) v.line.place (parent_level v.own top))
-          (update (indices_to v.line.axes (at v.vector.levels) (p - v.start)) v.line.place (parent_index top)))
+          (update (indices_to v.line.shape.axes (at v.vector.levels) (p - v.start)) v.line.place (parent_index top)))
       beside_inner =
           let t = v.line.place in
-          to_parent (sparse_of v.line) t b p below s.axis (border_is ∙ e)
-          ∙ ap suc (number_sparse v.line.axes v.line.level _ _)
-          ∙ ap₂ (λ (l i : ℕ → ℕ). suc (number v.line.axes (update l t (parent_level (l t) (numerator b (i t)))) (update i t (parent_index (numerator b (i t))))))
+          to_parent v.line.shape t b p below s.axis (border_is ∙ e)
+          ∙ ap suc (number_sparse v.line.shape.axes v.line.shape.level _ _)
+          ∙ ap₂ (λ (l i : ℕ → ℕ). suc (number v.line.shape.axes (update l t (parent_level (l t) (numerator b (i t)))) (update i t (parent_index (numerator b (i t))))))
           levels_are indices_are
           ∙ rw s.own
 
     code_beside : {starts : List ℕ} → Below v starts →
         code_from v starts ((p - v.start) % 2 ^ v.low) (beyond_of v (p - v.start)) top
-        ≡ neighbour (sparse_of v.line) v.line.place b (suc p)
+        ≡ neighbour v.line.shape v.line.place b (suc p)
     code_beside {starts} held =
         true_or_false (is_border (at v.vector.levels v.line.place) top)
         (λ e.
@@ -241,7 +241,7 @@ module _ {v : Subspace} (s : Seen v) (p : ℕ) (from : v.start ≤ p) (to : p < 
         ∙ sym (beside_inner e))
 
     -- It stands before the level vector.
-    pub parent_before : neighbour (sparse_of v.line) v.line.place b (suc p) ≤ v.start
+    pub parent_before : neighbour v.line.shape v.line.place b (suc p) ≤ v.start
     parent_before =
         true_or_false (is_border (at v.vector.levels v.line.place) top)
         (λ e. omega (arith, at_border_lem e))
@@ -249,15 +249,15 @@ module _ {v : Subspace} (s : Seen v) (p : ℕ) (from : v.start ≤ p) (to : p < 
         omega (
           arith,
           beside_inner e,
-          ap (λ (o : ℕ). number v.line.axes (update (at v.vector.levels) v.line.place (parent_level o top)) (update (indices_to v.line.axes (at v.vector.levels) (p - v.start)) v.line.place (parent_index top))) s.own,
+          ap (λ (o : ℕ). number v.line.shape.axes (update (at v.vector.levels) v.line.place (parent_level o top)) (update (indices_to v.line.shape.axes (at v.vector.levels) (p - v.start)) v.line.place (parent_index top))) s.own,
           number_in_shell (parent_is_point named.point v.line.place s.axis b e),
-          start_mono v.line.axes _ _ (parent_sum named.point v.line.place s.axis b e),
-          first_is v.line.axes (at v.vector.levels),
+          start_mono v.line.shape.axes _ _ (parent_sum named.point v.line.place s.axis b e),
+          first_is v.line.shape.axes (at v.vector.levels),
           s.start,
         ))
 
   -- At level 0 of the axis both are the border.
-  pub flat : v.own ≡ 0 → (b : Side) → neighbour (sparse_of v.line) v.line.place b (suc p) ≡ 0
+  pub flat : v.own ≡ 0 → (b : Side) → neighbour v.line.shape v.line.place b (suc p) ≡ 0
   flat e b =
       let zero : at v.vector.levels v.line.place ≡ 0 = sym s.own ∙ e in
       at_border_lem b
@@ -268,10 +268,10 @@ module _ {v : Subspace} (s : Seen v) (p : ℕ) (from : v.start ≤ p) (to : p < 
   -- The codes of both parents.
   pub left_code : {starts : List ℕ} → Below v starts →
       code_from v starts ((p - v.start) % 2 ^ v.low) (beyond_of v (p - v.start)) (2 * own_digit v (p - v.start))
-      ≡ neighbour (sparse_of v.line) v.line.place Left (suc p)
+      ≡ neighbour v.line.shape v.line.place Left (suc p)
   left_code {starts} held = ap (code_from v starts _ _) (omega (arith, index_is)) ∙ code_beside Left held
 
   pub right_code : {starts : List ℕ} → Below v starts →
       code_from v starts ((p - v.start) % 2 ^ v.low) (beyond_of v (p - v.start)) (2 * own_digit v (p - v.start) + 2)
-      ≡ neighbour (sparse_of v.line) v.line.place Right (suc p)
+      ≡ neighbour v.line.shape v.line.place Right (suc p)
   right_code {starts} held = ap (code_from v starts _ _) (omega (arith, index_is)) ∙ code_beside Right held

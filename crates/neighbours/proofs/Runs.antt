@@ -18,7 +18,7 @@ use Rattle.numbering.specs.Parent.{is_border, twos, parent_level, parent_index}
 use Rattle.numbering.proofs.Parents.{border_low, border_high, Inside, index_times, twos_pos}
 use Rattle.grids.specs.Grids.{neighbour}
 use Rattle.neighbours.specs.declared.subspaces.Subspace.{Subspace}
-use Rattle.neighbours.specs.Steps.{sparse_of, Below, code_from, number_in}
+use Rattle.neighbours.specs.Steps.{Below, code_from, number_in}
 use Rattle.neighbours.proofs.Seeing.{Seen}
 use Rattle.neighbours.proofs.Beside.{code_at_border, code_inside, inner, own_digit, beyond_of, left_code, right_code}
 
@@ -125,13 +125,13 @@ module _ {v : Subspace} {starts : List ℕ} (s : Seen v) (held : Below v starts)
   from : v.start ≤ number_in v before e beyond
   from = omega arith
 
-  pub run_left : neighbour (sparse_of v.line) v.line.place Left (suc (number_in v before e beyond)) ≡ code_from v starts before beyond (2 * e)
+  pub run_left : neighbour v.line.shape v.line.place Left (suc (number_in v before e beyond)) ≡ code_from v starts before beyond (2 * e)
   run_left =
       sym (left_code s (number_in v before e beyond) from there held)
       ∙ ap₂ (λ (a b : ℕ). code_from v starts a b (2 * own_digit v its_position)) before_digit beyond_digit
       ∙ ap (λ (d : ℕ). code_from v starts before beyond (2 * d)) own_digit_lem
 
-  pub run_right : neighbour (sparse_of v.line) v.line.place Right (suc (number_in v before e beyond)) ≡ code_from v starts before beyond (2 * e + 2)
+  pub run_right : neighbour v.line.shape v.line.place Right (suc (number_in v before e beyond)) ≡ code_from v starts before beyond (2 * e + 2)
   run_right =
       sym (right_code s (number_in v before e beyond) from there held)
       ∙ ap₂ (λ (a b : ℕ). code_from v starts a b (2 * own_digit v its_position + 2)) before_digit beyond_digit
@@ -141,9 +141,9 @@ module _ {v : Subspace} {starts : List ℕ} (s : Seen v) (held : Below v starts)
 
 module _ {v : Subspace} (s : Seen v) (beyond : ℕ) (there : v.start + beyond * 2 ^ (v.low + v.own) < v.end) where
   abbrev bits_beyond : ℕ
-  bits_beyond = sum_to (at v.vector.levels) v.line.axes - (v.low + v.own)
+  bits_beyond = sum_to (at v.vector.levels) v.line.shape.axes - (v.low + v.own)
 
-  blocks : 2 ^ sum_to (at v.vector.levels) v.line.axes ≡ 2 ^ bits_beyond * 2 ^ (v.low + v.own)
+  blocks : 2 ^ sum_to (at v.vector.levels) v.line.shape.axes ≡ 2 ^ bits_beyond * 2 ^ (v.low + v.own)
   blocks =
       ap (λ (a : ℕ). 2 ^ a)
       (omega (
@@ -151,7 +151,7 @@ module _ {v : Subspace} (s : Seen v) (beyond : ℕ) (there : v.start + beyond * 
         s.low,
         s.own,
         sum_to_suc (at v.vector.levels) v.line.place,
-        sum_to_mono (at v.vector.levels) (suc v.line.place) v.line.axes s.axis,
+        sum_to_mono (at v.vector.levels) (suc v.line.place) v.line.shape.axes s.axis,
       ))
       ∙ pow-add 2 bits_beyond (v.low + v.own)
 

@@ -21,17 +21,17 @@ use Rattle.neighbours.specs.declared.subspaces.Subspace.{Subspace}
 -- A level vector of the shape, with nothing past its axes, and its numbers are right: those of its points, its level sum before the axis and its level
 -- there.
 pub record Seen (v : Subspace) : Type 0 where
-  pub few : v.line.axes ≤ 8
-  pub top : v.line.level ≤ 8
-  pub axis : v.line.place < v.line.axes
-  pub rest : (u : ℕ) → v.line.axes ≤ u → at v.vector.levels u ≡ 0
-  pub sum : sum_to (at v.vector.levels) v.line.axes ≤ v.line.level
-  pub start : v.start ≡ first_of v.line.axes (at v.vector.levels)
-  pub end : v.end ≡ first_of v.line.axes (at v.vector.levels) + 2 ^ sum_to (at v.vector.levels) v.line.axes
+  pub few : v.line.shape.axes ≤ 8
+  pub top : v.line.shape.level ≤ 8
+  pub axis : v.line.place < v.line.shape.axes
+  pub rest : (u : ℕ) → v.line.shape.axes ≤ u → at v.vector.levels u ≡ 0
+  pub sum : sum_to (at v.vector.levels) v.line.shape.axes ≤ v.line.shape.level
+  pub start : v.start ≡ first_of v.line.shape.axes (at v.vector.levels)
+  pub end : v.end ≡ first_of v.line.shape.axes (at v.vector.levels) + 2 ^ sum_to (at v.vector.levels) v.line.shape.axes
   pub low : v.low ≡ sum_to (at v.vector.levels) v.line.place
   pub own : v.own ≡ at v.vector.levels v.line.place
 
-pub vector_of : (v : Subspace) → VectorIn v.line.axes v.vector.sum v.vector.levels
+pub vector_of : (v : Subspace) → VectorIn v.line.shape.axes v.vector.sum v.vector.levels
 vector_of v = rw v.same at v.vector.vector
 
 pub seen : (v : Subspace) → Seen v
@@ -48,13 +48,13 @@ seen v =
       own = v.there;
     }
 
-module _ (line : Line) (v : LevelVector) (start : ℕ) (same : v.axes ≡ line.axes) (low : v.sum ≤ line.level)
-    (first : start ≡ first_of line.axes (at v.levels)) where
-  vector : VectorIn line.axes v.sum v.levels
+module _ (line : Line) (v : LevelVector) (start : ℕ) (same : v.axes ≡ line.shape.axes) (low : v.sum ≤ line.shape.level)
+    (first : start ≡ first_of line.shape.axes (at v.levels)) where
+  vector : VectorIn line.shape.axes v.sum v.levels
   vector = rw same at v.vector
 
   pub before_small : sum_to (at v.levels) line.place ≤ 8
-  before_small = omega (arith, vector.total, line.top, sum_to_mono (at v.levels) line.place line.axes (omega (arith, line.axis)))
+  before_small = omega (arith, vector.total, line.top, sum_to_mono (at v.levels) line.place line.shape.axes (omega (arith, line.axis)))
 
   -- The end is small, since the level vector lies within the table.
   pub end_small : start + 1 * 2 ^ v.sum % 2 ^ 64 < 2 ^ 33
@@ -65,7 +65,7 @@ module _ (line : Line) (v : LevelVector) (start : ℕ) (same : v.axes ≡ line.a
         line.top,
         one_shifted 64 v.sum (omega (arith, line.top)),
         pow_mono {i = v.sum} {j = 8} (omega (arith, line.top)),
-        block_below line.axes line.level (at v.levels) vector.rest (omega (arith, vector.total)) 0 (pow_pos (sum_to (at v.levels) line.axes)),
-        points_is line.axes line.level,
-        start_small line.axes (omega (arith, line.axis)) line.few (suc line.level) (omega (arith, line.top)),
+        block_below line.shape.axes line.shape.level (at v.levels) vector.rest (omega (arith, vector.total)) 0 (pow_pos (sum_to (at v.levels) line.shape.axes)),
+        points_is line.shape.axes line.shape.level,
+        start_small line.shape.axes (omega (arith, line.axis)) line.few (suc line.shape.level) (omega (arith, line.top)),
       )

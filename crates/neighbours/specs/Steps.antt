@@ -4,20 +4,13 @@ use Rattle.std.specs.Prelude.{List, ◌≡◌, ℕ, suc, ◌+◌, ◌-◌, ◌*�
 use Rattle.numbering.specs.Point.{at}
 use Rattle.numbering.specs.Number.{first_of}
 use Rattle.numbering.specs.Parent.{is_border, twos, parent_level, parent_index, update}
-use Rattle.shapes.specs.declared.Shape.{Shape}
-use Rattle.shapes.specs.Shapes.{sparse}
-use Rattle.neighbours.specs.declared.subspaces.Line.{Line}
 use Rattle.neighbours.specs.declared.subspaces.Subspace.{Subspace}
-
--- The sparse table that a line lies in.
-abbrev pub sparse_of : Line → Shape
-sparse_of line = sparse line.axes line.level
 
 -- A list with, for each j from 1 to the level on the axis, the first number of the level vector that is lower by j there and elsewhere has the same levels.
 -- Other places are not read.
 pub record Below (v : Subspace) (starts : List ℕ) : Type 0 where
   pub long : length starts ≡ 9
-  pub first : (j : ℕ) → 1 ≤ j → j ≤ v.own → at starts j ≡ first_of v.line.axes (update (at v.vector.levels) v.line.place (v.own - j))
+  pub first : (j : ℕ) → 1 ≤ j → j ≤ v.own → at starts j ≡ first_of v.line.shape.axes (update (at v.vector.levels) v.line.place (v.own - j))
 
 -- The code of the parent at numerator m of a point, to whose position the axes before this one add `before`, those beyond it `beyond` in units of
 -- 2^(sum of the levels up to this axis): the parent's level vector is lower on the axis by as many levels as factors of two were dropped, and what the

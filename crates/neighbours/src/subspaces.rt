@@ -4,17 +4,17 @@ ghost use Rattle.naturals.specs.Sum.{sum_to};
 ghost use Rattle.numbering.specs.Point.{at};
 ghost use Rattle.numbering.specs.Number.{first_of};
 
+use shapes::Shape;
 use vectors::LevelVector;
 
 // A shape within the limits and the place of one of its axes, from 0: a turn works on the lines along that axis.
 #[derive(Clone, Copy)]
 pub struct Line {
-    pub axes: u32,
-    pub level: u32,
+    pub shape: Shape,
     pub place: u32,
-    ghost few: { axes ≤ 8 },
-    ghost top: { level ≤ 8 },
-    ghost axis: { place < axes },
+    ghost few: { shape.axes ≤ 8 },
+    ghost top: { shape.level ≤ 8 },
+    ghost axis: { place < shape.axes },
 }
 
 // A level vector (document 01: level list) of the shape as a turn on an axis meets it. Its points are the numbers from `start` to `end` − 1. `low` is the sum
@@ -27,9 +27,9 @@ pub struct Subspace {
     pub end: u64,
     pub low: u32,
     pub own: u32,
-    ghost same: { vector.axes ≡ line.axes },
-    ghost inside: { vector.sum ≤ line.level },
-    ghost first: { start ≡ first_of line.axes (at vector.levels) },
+    ghost same: { vector.axes ≡ line.shape.axes },
+    ghost inside: { vector.sum ≤ line.shape.level },
+    ghost first: { start ≡ first_of line.shape.axes (at vector.levels) },
     ghost after: { end ≡ start + 2 ^ vector.sum },
     ghost before: { low ≡ sum_to (at vector.levels) line.place },
     ghost there: { own ≡ at vector.levels line.place },
@@ -38,7 +38,7 @@ pub struct Subspace {
 impl Subspace {
     // A level vector with this first number, for a turn on an axis.
     pub fn on(line: Line, vector: &LevelVector, start: u64) -> Subspace
-        requires { (vector.now.axes ≡ line.axes) × (vector.now.sum ≤ line.level) × (start ≡ first_of line.axes (at vector.now.levels)) }
+        requires { (vector.now.axes ≡ line.shape.axes) × (vector.now.sum ≤ line.shape.level) × (start ≡ first_of line.shape.axes (at vector.now.levels)) }
         ensures { (result.line ≡ line) × (result.vector ≡ vector.now) × (result.start ≡ start) }
     {
         let place = line.place as usize;

@@ -25,7 +25,6 @@ use Rattle.walks.specs.Walks.{walk_down}
 use Rattle.vectors.specs.declared.LevelVector.{LevelVector}
 use Rattle.neighbours.specs.declared.subspaces.Line.{Line}
 use Rattle.neighbours.specs.declared.subspaces.Subspace.{Subspace}
-use Rattle.neighbours.specs.Steps.{sparse_of}
 use Rattle.lists.specs.Lists.{odd_sums, list_worked, first_in, end_of, whole_turn, came_to, ListTurned}
 use Rattle.lists.specs.Steps.{NoLarger}
 use Rattle.lists.proofs.Blocks.{on_line}
@@ -41,28 +40,28 @@ use Rattle.sweeps.proofs.Meeting.{Met, met_odds}
 
 -- The table after the whole turn.
 abbrev pub turned_on : Line → List ℤ → List ℤ
-turned_on line xs = turned_table (sparse_of line) line.place xs
+turned_on line xs = turned_table line.shape line.place xs
 
 -- Of the sum the first b lists are left; from number k on the table ys is turned, and so many sums were odd there.
 pub record Lowering (line : Line) (xs : List ℤ) (sum b k odd : ℕ) (ys : List ℤ) : Type 0 where
-  pub first : k ≡ first_at line.axes sum b
-  pub parted : Parted (points_of (sparse_of line)) k xs (turned_on line xs) ys
-  pub odds : odd_sums (sparse_of line) line.place xs k + odd ≡ odd_sums (sparse_of line) line.place xs (points_of (sparse_of line))
-  pub walked : lists_worked true (sparse_of line) line.place (left_down line.axes sum b) ys
-      ≡ lists_worked true (sparse_of line) line.place (walk_down line.axes line.level) xs
+  pub first : k ≡ first_at line.shape.axes sum b
+  pub parted : Parted (points_of line.shape) k xs (turned_on line xs) ys
+  pub odds : odd_sums line.shape line.place xs k + odd ≡ odd_sums line.shape line.place xs (points_of line.shape)
+  pub walked : lists_worked true line.shape line.place (left_down line.shape.axes sum b) ys
+      ≡ lists_worked true line.shape line.place (walk_down line.shape.axes line.shape.level) xs
 
-module _ (line : Line) (xs : List ℤ) (long : length xs ≡ points_of (sparse_of line)) where
-  turned_long : length (turned_on line xs) ≡ points_of (sparse_of line)
-  turned_long = turned_length (sparse_of line) line.place xs
+module _ (line : Line) (xs : List ℤ) (long : length xs ≡ points_of line.shape) where
+  turned_long : length (turned_on line xs) ≡ points_of line.shape
+  turned_long = turned_length line.shape line.place xs
 
   -- At the start all lists of the top level are left.
-  pub lowering_starts : (k : ℕ) → k ≡ points_of (sparse_of line) → Lowering line xs line.level (vectors line.axes line.level) k 0 xs
+  pub lowering_starts : (k : ℕ) → k ≡ points_of line.shape → Lowering line xs line.shape.level (vectors line.shape.axes line.shape.level) k 0 xs
   lowering_starts k whole =
       record {
-        first = omega (arith, whole, points_sparse line.axes line.level, points_is line.axes line.level, start_suc line.axes line.level);
+        first = omega (arith, whole, points_sparse line.shape.axes line.shape.level, points_is line.shape.axes line.shape.level, start_suc line.shape.axes line.shape.level);
         parted = rw whole (all_below _ xs (turned_on line xs) long turned_long);
         odds = rw whole (omega arith);
-        walked = same_walk true (sparse_of line) line.place xs (down_all line.axes line.level);
+        walked = same_walk true line.shape line.place xs (down_all line.shape.axes line.shape.level);
       }
 
   module _ {sum b k odd : ℕ} {ys : List ℤ} (s : Lowering line xs sum b k odd ys) where
@@ -71,25 +70,25 @@ module _ (line : Line) (xs : List ℤ) (long : length xs ≡ points_of (sparse_o
     lowering_room small =
         parted_within _ xs (turned_on line xs) long turned_long k ys s.parted (2 ^ 60)
         (λ code. omega (arith, small code))
-        (turned_within (sparse_of line) line.place xs (2 ^ 59) long small)
+        (turned_within line.shape line.place xs (2 ^ 59) long small)
 
     -- No more sums are odd than there are points.
-    pub lowering_few : odd ≤ points_of (sparse_of line)
-    lowering_few = omega (arith, s.odds, odds_few (sparse_of line) line.place xs (points_of (sparse_of line)))
+    pub lowering_few : odd ≤ points_of line.shape
+    lowering_few = omega (arith, s.odds, odds_few line.shape line.place xs (points_of line.shape))
 
     -- Where no list of the sum is left, all of the sum below are.
-    lowering_sum : (sum' : ℕ) → sum ≡ suc sum' → b ≡ 0 → Lowering line xs sum' (vectors line.axes sum') k odd ys
+    lowering_sum : (sum' : ℕ) → sum ≡ suc sum' → b ≡ 0 → Lowering line xs sum' (vectors line.shape.axes sum') k odd ys
     lowering_sum sum' e none =
         record {
-          first = omega (arith, s.first, ap₂ (first_at line.axes) e none, mul-zero (2 ^ suc sum'), start_suc line.axes sum');
+          first = omega (arith, s.first, ap₂ (first_at line.shape.axes) e none, mul-zero (2 ^ suc sum'), start_suc line.shape.axes sum');
           parted = s.parted;
           odds = s.odds;
           walked =
-              same_walk true (sparse_of line) line.place ys (sym (ap₂ (left_down line.axes) e none ∙ down_sum line.axes sum')) ∙ s.walked;
+              same_walk true line.shape line.place ys (sym (ap₂ (left_down line.shape.axes) e none ∙ down_sum line.shape.axes sum')) ∙ s.walked;
         }
 
     -- The list that comes next is the last of those left.
-    pub lowering_next : {sum' r : ℕ} → Follows line.axes sum' r sum b → Lowering line xs sum' (suc r) k odd ys
+    pub lowering_next : {sum' r : ℕ} → Follows line.shape.axes sum' r sum b → Lowering line xs sum' (suc r) k odd ys
     lowering_next {sum'} {r} =
         ⊎_elim (λ same. rw (same.0, same.1) at s) (λ below. rw below.2 (lowering_sum sum' below.0 below.1))
 
@@ -98,60 +97,60 @@ module _ (line : Line) (xs : List ℤ) (long : length xs ≡ points_of (sparse_o
       pub lowering_turned : ys ≡ turned_on line xs
       lowering_turned = above_only _ xs (turned_on line xs) long turned_long k ys s.parted done
 
-      pub lowering_odds : odd ≡ odd_sums (sparse_of line) line.place xs (points_of (sparse_of line))
-      lowering_odds = omega (arith, s.odds, odds_none (sparse_of line) line.place xs, ap (odd_sums (sparse_of line) line.place xs) done)
+      pub lowering_odds : odd ≡ odd_sums line.shape line.place xs (points_of line.shape)
+      lowering_odds = omega (arith, s.odds, odds_none line.shape line.place xs, ap (odd_sums line.shape line.place xs) done)
 
-      pub lowering_walked : b < vectors line.axes sum → ys ≡ lists_worked true (sparse_of line) line.place (walk_down line.axes line.level) xs
+      pub lowering_walked : b < vectors line.shape.axes sum → ys ≡ lists_worked true line.shape line.place (walk_down line.shape.axes line.shape.level) xs
       lowering_walked in_sum =
-          let none = first_of_all line.axes (omega (arith, line.axis)) sum b in_sum (sym s.first ∙ done) in
-          none_worked true (sparse_of line) line.place ys (ap₂ (left_down line.axes) none.0 none.1 ∙ down_none line.axes) ∙ s.walked
+          let none = first_of_all line.shape.axes (omega (arith, line.axis)) sum b in_sum (sym s.first ∙ done) in
+          none_worked true line.shape line.place ys (ap₂ (left_down line.shape.axes) none.0 none.1 ∙ down_none line.shape.axes) ∙ s.walked
 
   -- The last list that is left of the sum.
   module _ {vector : LevelVector} {k odd : ℕ} {ys : List ℤ} (here : Standing line vector)
-      (s : Lowering line xs vector.sum (suc (rank (at vector.levels) line.axes)) k odd ys) where
-    ends : k ≡ first_of line.axes (at vector.levels) + 2 ^ vector.sum
-    ends = omega (arith, s.first, first_at_lem (vector_in here), mul-suc (2 ^ vector.sum) (rank (at vector.levels) line.axes))
+      (s : Lowering line xs vector.sum (suc (rank (at vector.levels) line.shape.axes)) k odd ys) where
+    ends : k ≡ first_of line.shape.axes (at vector.levels) + 2 ^ vector.sum
+    ends = omega (arith, s.first, first_at_lem (vector_in here), mul-suc (2 ^ vector.sum) (rank (at vector.levels) line.shape.axes))
 
-    ends_list : k ≡ end_of (sparse_of line) (at vector.levels)
-    ends_list = ends ∙ ap (λ (u : ℕ). first_of line.axes (at vector.levels) + 2 ^ u) (sym (vector_in here).total)
+    ends_list : k ≡ end_of line.shape (at vector.levels)
+    ends_list = ends ∙ ap (λ (u : ℕ). first_of line.shape.axes (at vector.levels) + 2 ^ u) (sym (vector_in here).total)
 
     -- Its first number, as the code reckons it.
-    pub lowering_first : k - 1 * 2 ^ vector.sum % 2 ^ 64 ≡ first_of line.axes (at vector.levels)
+    pub lowering_first : k - 1 * 2 ^ vector.sum % 2 ^ 64 ≡ first_of line.shape.axes (at vector.levels)
     lowering_first = omega (arith, ends, one_shifted 64 vector.sum (omega (arith, here.low, line.top)))
 
-    came : ys ≡ came_to true (sparse_of line) line.place (at vector.levels) xs
+    came : ys ≡ came_to true line.shape line.place (at vector.levels) xs
     unfolding whole_turn
-    came = comes_down line.axes line.level line.place xs (on_line line long) (at vector.levels) ys (rw ends_list at s.parted)
+    came = comes_down line.shape.axes line.shape.level line.place xs (on_line line long) (at vector.levels) ys (rw ends_list at s.parted)
 
-    list_first : left_down line.axes vector.sum (suc (rank (at vector.levels) line.axes)) ≡ at vector.levels ∷ left_down line.axes vector.sum (rank (at vector.levels) line.axes)
+    list_first : left_down line.shape.axes vector.sum (suc (rank (at vector.levels) line.shape.axes)) ≡ at vector.levels ∷ left_down line.shape.axes vector.sum (rank (at vector.levels) line.shape.axes)
     list_first =
-        down_first line.axes vector.sum (rank (at vector.levels) line.axes)
-        ∙ ap (λ (l : ℕ → ℕ). l ∷ left_down line.axes vector.sum (rank (at vector.levels) line.axes)) (levels_of_rank (vector_in here))
+        down_first line.shape.axes vector.sum (rank (at vector.levels) line.shape.axes)
+        ∙ ap (λ (l : ℕ → ℕ). l ∷ left_down line.shape.axes vector.sum (rank (at vector.levels) line.shape.axes)) (levels_of_rank (vector_in here))
 
-    module _ (zs : List ℤ) (more : ℕ) (worked : zs ≡ list_worked true (sparse_of line) line.place (at vector.levels) ys)
-        (counted : odd_sums (sparse_of line) line.place xs (first_in (sparse_of line) (at vector.levels)) + more
-        ≡ odd_sums (sparse_of line) line.place xs (end_of (sparse_of line) (at vector.levels)))
-        (turned : ListTurned true (sparse_of line) line.place (at vector.levels) xs ys zs) where
-      list_parted : Parted (points_of (sparse_of line)) (first_in (sparse_of line) (at vector.levels)) xs (turned_on line xs) zs
+    module _ (zs : List ℤ) (more : ℕ) (worked : zs ≡ list_worked true line.shape line.place (at vector.levels) ys)
+        (counted : odd_sums line.shape line.place xs (first_in line.shape (at vector.levels)) + more
+        ≡ odd_sums line.shape line.place xs (end_of line.shape (at vector.levels)))
+        (turned : ListTurned true line.shape line.place (at vector.levels) xs ys zs) where
+      list_parted : Parted (points_of line.shape) (first_in line.shape (at vector.levels)) xs (turned_on line xs) zs
       unfolding whole_turn
-      list_parted = rw worked (goes_down line.axes line.level line.place xs (on_line line long) (at vector.levels) ys (rw ends_list at s.parted) (rw worked at turned))
+      list_parted = rw worked (goes_down line.shape.axes line.shape.level line.place xs (on_line line long) (at vector.levels) ys (rw ends_list at s.parted) (rw worked at turned))
 
-      list_done : Lowering line xs vector.sum (rank (at vector.levels) line.axes) (first_in (sparse_of line) (at vector.levels)) (odd + more) zs
+      list_done : Lowering line xs vector.sum (rank (at vector.levels) line.shape.axes) (first_in line.shape (at vector.levels)) (odd + more) zs
       list_done =
           record {
             first = first_at_lem (vector_in here);
             parted = list_parted;
-            odds = omega (arith, counted, s.odds, ap (odd_sums (sparse_of line) line.place xs) ends_list);
-            walked = first_worked true (sparse_of line) line.place ys zs list_first worked ∙ s.walked;
+            odds = omega (arith, counted, s.odds, ap (odd_sums line.shape line.place xs) ends_list);
+            walked = first_worked true line.shape line.place ys zs list_first worked ∙ s.walked;
           }
 
     -- As it is met: the work on it does its part of the turn.
     pub lowering_worked : (v : Subspace) → Met line vector v → (zs : List ℤ) (more : ℕ) →
-        zs ≡ list_worked true (sparse_of v.line) v.line.place (at v.vector.levels) ys →
-        odd_sums (sparse_of v.line) v.line.place ys v.start + more ≡ odd_sums (sparse_of v.line) v.line.place ys v.end →
-        ((ws : List ℤ) → length ws ≡ length ys → ys ≡ came_to true (sparse_of v.line) v.line.place (at v.vector.levels) ws →
-        ListTurned true (sparse_of v.line) v.line.place (at v.vector.levels) ws ys zs) →
-        Lowering line xs vector.sum (rank (at vector.levels) line.axes) (k - 1 * 2 ^ vector.sum % 2 ^ 64) (odd + more) zs
+        zs ≡ list_worked true v.line.shape v.line.place (at v.vector.levels) ys →
+        odd_sums v.line.shape v.line.place ys v.start + more ≡ odd_sums v.line.shape v.line.place ys v.end →
+        ((ws : List ℤ) → length ws ≡ length ys → ys ≡ came_to true v.line.shape v.line.place (at v.vector.levels) ws →
+        ListTurned true v.line.shape v.line.place (at v.vector.levels) ws ys zs) →
+        Lowering line xs vector.sum (rank (at vector.levels) line.shape.axes) (k - 1 * 2 ^ vector.sum % 2 ^ 64) (odd + more) zs
     lowering_worked v m zs more worked counted turned =
         let held : (code : ℕ) → code ≤ k → value_at xs code ≡ value_at ys code
         = below_codes _ xs (turned_on line xs) long turned_long k ys s.parted in

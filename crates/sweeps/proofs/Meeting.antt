@@ -10,7 +10,6 @@ use Rattle.hierarchy.specs.Turns.{value_at}
 use Rattle.vectors.specs.declared.LevelVector.{LevelVector}
 use Rattle.neighbours.specs.declared.subspaces.Line.{Line}
 use Rattle.neighbours.specs.declared.subspaces.Subspace.{Subspace}
-use Rattle.neighbours.specs.Steps.{sparse_of}
 use Rattle.neighbours.proofs.Seeing.{seen}
 use Rattle.lists.specs.Lists.{odd_sums, first_in, end_of}
 use Rattle.sweeps.proofs.Odds.{list_odds}
@@ -25,15 +24,15 @@ met v answered = record { on = answered.0; same = answered.1 }
 
 module _ {line : Line} {vector : LevelVector} (v : Subspace) (m : Met line vector v) where
   -- What it adds to the count of odd sums.
-  met_start : v.start ≡ first_in (sparse_of line) (at vector.levels)
+  met_start : v.start ≡ first_in line.shape (at vector.levels)
   met_start = rw (m.on, m.same) at (seen v).start
 
-  met_end : v.end ≡ end_of (sparse_of line) (at vector.levels)
+  met_end : v.end ≡ end_of line.shape (at vector.levels)
   met_end = rw (m.on, m.same) at (seen v).end
 
-  pub met_odds : (xs ys : List ℤ) → ((code : ℕ) → code ≤ first_in (sparse_of line) (at vector.levels) → value_at xs code ≡ value_at ys code) → (k : ℕ) →
-      odd_sums (sparse_of v.line) v.line.place ys v.start + k ≡ odd_sums (sparse_of v.line) v.line.place ys v.end →
-      odd_sums (sparse_of line) line.place xs (first_in (sparse_of line) (at vector.levels)) + k
-      ≡ odd_sums (sparse_of line) line.place xs (end_of (sparse_of line) (at vector.levels))
+  pub met_odds : (xs ys : List ℤ) → ((code : ℕ) → code ≤ first_in line.shape (at vector.levels) → value_at xs code ≡ value_at ys code) → (k : ℕ) →
+      odd_sums v.line.shape v.line.place ys v.start + k ≡ odd_sums v.line.shape v.line.place ys v.end →
+      odd_sums line.shape line.place xs (first_in line.shape (at vector.levels)) + k
+      ≡ odd_sums line.shape line.place xs (end_of line.shape (at vector.levels))
   met_odds xs ys same k counted =
       rw (m.on, met_start, met_end) at (list_odds v xs ys (rw (sym met_start) at same) k counted)

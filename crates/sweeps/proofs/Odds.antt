@@ -14,7 +14,6 @@ use Rattle.numbering.specs.declared.Side.TheVariants.{Left, Right}
 use Rattle.hierarchy.specs.Turns.{value_at, sum_on}
 use Rattle.shapes.specs.declared.Shape.{Shape}
 use Rattle.neighbours.specs.declared.subspaces.Subspace.{Subspace}
-use Rattle.neighbours.specs.Steps.{sparse_of}
 use Rattle.neighbours.proofs.Seeing.{seen}
 use Rattle.neighbours.proofs.Beside.{parent_before}
 use Rattle.lists.specs.Lists.{odd_at, odd_sums}
@@ -62,14 +61,14 @@ same_growth s t xs ys lo (suc hi) le same =
 -- ---- a level list
 
 module _ (v : Subspace) (xs ys : List ℤ) (same : (code : ℕ) → code ≤ v.start → value_at xs code ≡ value_at ys code) where
-  same_odd : (p : ℕ) → v.start ≤ p → p < v.end → odd_at (sparse_of v.line) v.line.place xs p ≡ odd_at (sparse_of v.line) v.line.place ys p
+  same_odd : (p : ℕ) → v.start ≤ p → p < v.end → odd_at v.line.shape v.line.place xs p ≡ odd_at v.line.shape v.line.place ys p
   unfolding odd_at sum_on
   same_odd p from to =
       ap₂ (λ (a b : ℤ). odd_of (a +ℤ b))
       (same _ (parent_before (seen v) p from to Left))
       (same _ (parent_before (seen v) p from to Right))
 
-  pub list_odds : (k : ℕ) → odd_sums (sparse_of v.line) v.line.place ys v.start + k ≡ odd_sums (sparse_of v.line) v.line.place ys v.end →
-      odd_sums (sparse_of v.line) v.line.place xs v.start + k ≡ odd_sums (sparse_of v.line) v.line.place xs v.end
+  pub list_odds : (k : ℕ) → odd_sums v.line.shape v.line.place ys v.start + k ≡ odd_sums v.line.shape v.line.place ys v.end →
+      odd_sums v.line.shape v.line.place xs v.start + k ≡ odd_sums v.line.shape v.line.place xs v.end
   list_odds k counted =
-      omega (arith, counted, same_growth (sparse_of v.line) v.line.place xs ys v.start v.end (omega (arith, (seen v).start, (seen v).end)) same_odd)
+      omega (arith, counted, same_growth v.line.shape v.line.place xs ys v.start v.end (omega (arith, (seen v).start, (seen v).end)) same_odd)

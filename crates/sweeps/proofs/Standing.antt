@@ -28,15 +28,14 @@ use Rattle.vectors.proofs.Following.{no_levels}
 use Rattle.points.specs.Points.{eight}
 use Rattle.points.proofs.Eight.{eight_whole}
 use Rattle.neighbours.specs.declared.subspaces.Line.{Line}
-use Rattle.neighbours.specs.Steps.{sparse_of}
 use Rattle.sweeps.proofs.Ranks.{first_at, end_le, some_points, Follows, following, last_of_all}
 
 -- A level vector of the shape.
 pub record Standing (line : Line) (vector : LevelVector) : Type 0 where
-  pub same : vector.axes ≡ line.axes
-  pub low : vector.sum ≤ line.level
+  pub same : vector.axes ≡ line.shape.axes
+  pub low : vector.sum ≤ line.shape.level
 
-pub vector_in : {line : Line} {vector : LevelVector} → Standing line vector → VectorIn line.axes vector.sum vector.levels
+pub vector_in : {line : Line} {vector : LevelVector} → Standing line vector → VectorIn line.shape.axes vector.sum vector.levels
 vector_in {line} {vector} s = rw s.same at vector.vector
 
 module _ {d sum : ℕ} {ls : List ℕ} (vector : VectorIn d sum ls) where
@@ -62,35 +61,35 @@ module _ {d sum : ℕ} {ls : List ℕ} (vector : VectorIn d sum ls) where
       (λ high. absurd (omega (arith, inside, first_at_lem, points_is d n, start_mono d (suc n) sum high)))
 
 module _ {line : Line} {vector : LevelVector} (s : Standing line vector) where
-  pub end_inside : first_of line.axes (at vector.levels) + 2 ^ vector.sum ≤ points line.axes line.level
+  pub end_inside : first_of line.shape.axes (at vector.levels) + 2 ^ vector.sum ≤ points line.shape.axes line.shape.level
   end_inside =
       omega (
         arith,
         first_at_lem (vector_in s),
-        end_le line.axes vector.sum (rank (at vector.levels) line.axes) (rank_in (vector_in s)),
-        start_mono line.axes (suc vector.sum) (suc line.level) (omega (arith, s.low)),
-        points_is line.axes line.level,
+        end_le line.shape.axes vector.sum (rank (at vector.levels) line.shape.axes) (rank_in (vector_in s)),
+        start_mono line.shape.axes (suc vector.sum) (suc line.shape.level) (omega (arith, s.low)),
+        points_is line.shape.axes line.shape.level,
       )
 
 -- The first of all has no level, so none comes before it.
-pub first_standing : (line : Line) (vector : LevelVector) → (vector.axes ≡ line.axes) × (vector.sum ≡ 0) → Standing line vector
+pub first_standing : (line : Line) (vector : LevelVector) → (vector.axes ≡ line.shape.axes) × (vector.sum ≡ 0) → Standing line vector
 first_standing line vector first = record { same = first.0; low = omega (arith, first.1) }
 
-pub first_rank : (line : Line) (vector : LevelVector) → (vector.axes ≡ line.axes) × (vector.sum ≡ 0) → rank (at vector.levels) line.axes ≡ 0
+pub first_rank : (line : Line) (vector : LevelVector) → (vector.axes ≡ line.shape.axes) × (vector.sum ≡ 0) → rank (at vector.levels) line.shape.axes ≡ 0
 first_rank line vector first =
-    rank_first (at vector.levels) line.axes (λ t some axis. no_levels (rw (first.0, first.1) at vector.vector) t)
+    rank_first (at vector.levels) line.shape.axes (λ t some axis. no_levels (rw (first.0, first.1) at vector.vector) t)
 
 -- ---- the one before and the next
 
 module _ {line : Line} {vector : LevelVector} (s : Standing line vector) (vector' : LevelVector) where
   module _ (stepped : (vector'.axes ≡ vector.axes) × PreviousVector vector.axes vector.sum vector.levels vector'.sum vector'.levels) where
-    before : PreviousVector line.axes vector.sum vector.levels vector'.sum vector'.levels
+    before : PreviousVector line.shape.axes vector.sum vector.levels vector'.sum vector'.levels
     before = rw s.same at stepped.1
 
-    pub previous_follows : Follows line.axes vector'.sum (rank (at vector'.levels) line.axes) vector.sum (rank (at vector.levels) line.axes)
+    pub previous_follows : Follows line.shape.axes vector'.sum (rank (at vector'.levels) line.shape.axes) vector.sum (rank (at vector.levels) line.shape.axes)
     previous_follows =
-        following line.axes (omega (arith, line.axis)) vector'.sum (rank (at vector'.levels) line.axes) (rank_in before.vector)
-        vector.sum (rank (at vector.levels) line.axes) (rank_in (vector_in s))
+        following line.shape.axes (omega (arith, line.axis)) vector'.sum (rank (at vector'.levels) line.shape.axes) (rank_in before.vector)
+        vector.sum (rank (at vector.levels) line.shape.axes) (rank_in (vector_in s))
         (omega (arith, before.first, first_at_lem (vector_in s), first_at_lem before.vector))
 
     pub previous_standing : Standing line vector'
@@ -101,58 +100,58 @@ module _ {line : Line} {vector : LevelVector} (s : Standing line vector) (vector
         }
 
   module _ (stepped : (vector'.axes ≡ vector.axes) × NextVector vector.axes vector.sum vector.levels vector'.sum vector'.levels) where
-    next : NextVector line.axes vector.sum vector.levels vector'.sum vector'.levels
+    next : NextVector line.shape.axes vector.sum vector.levels vector'.sum vector'.levels
     next = rw s.same at stepped.1
 
-    pub next_follows : Follows line.axes vector.sum (rank (at vector.levels) line.axes) vector'.sum (rank (at vector'.levels) line.axes)
+    pub next_follows : Follows line.shape.axes vector.sum (rank (at vector.levels) line.shape.axes) vector'.sum (rank (at vector'.levels) line.shape.axes)
     next_follows =
-        following line.axes (omega (arith, line.axis)) vector.sum (rank (at vector.levels) line.axes) (rank_in (vector_in s))
-        vector'.sum (rank (at vector'.levels) line.axes) (rank_in next.vector)
+        following line.shape.axes (omega (arith, line.axis)) vector.sum (rank (at vector.levels) line.shape.axes) (rank_in (vector_in s))
+        vector'.sum (rank (at vector'.levels) line.shape.axes) (rank_in next.vector)
         (omega (arith, next.first, first_at_lem (vector_in s), first_at_lem next.vector))
 
     -- It is one of the shape if the other ends before the table does.
-    pub next_standing : first_of line.axes (at vector.levels) + 2 ^ vector.sum < points line.axes line.level → Standing line vector'
+    pub next_standing : first_of line.shape.axes (at vector.levels) + 2 ^ vector.sum < points line.shape.axes line.shape.level → Standing line vector'
     next_standing more =
-        record { same = stepped.0 ∙ s.same; low = sum_inside next.vector line.level (omega (arith, next.first, more)) }
+        record { same = stepped.0 ∙ s.same; low = sum_inside next.vector line.shape.level (omega (arith, next.first, more)) }
 
 -- ---- the one that the last point lies in
 
 -- A table has points, N in all.
-module _ (line : Line) (xs : List ℤ) (long : length xs ≡ points_of (sparse_of line)) where
-  pub places : length xs ≡ points line.axes line.level
-  places = omega (arith, long, points_sparse line.axes line.level)
+module _ (line : Line) (xs : List ℤ) (long : length xs ≡ points_of line.shape) where
+  pub places : length xs ≡ points line.shape.axes line.shape.level
+  places = omega (arith, long, points_sparse line.shape.axes line.shape.level)
 
   pub some_place : 1 ≤ length xs
-  some_place = omega (arith, places, some_points line.axes line.level (omega (arith, line.axis)))
+  some_place = omega (arith, places, some_points line.shape.axes line.shape.level (omega (arith, line.axis)))
 
-  module _ (vector : LevelVector) (same : vector.axes ≡ line.axes) (sum_is : vector.sum ≡ sum_at line.axes line.level (length xs - 1))
-      (levels_are : vector.levels ≡ eight (level_at line.axes line.level (length xs - 1))) where
-    inside : length xs - 1 < points line.axes line.level
+  module _ (vector : LevelVector) (same : vector.axes ≡ line.shape.axes) (sum_is : vector.sum ≡ sum_at line.shape.axes line.shape.level (length xs - 1))
+      (levels_are : vector.levels ≡ eight (level_at line.shape.axes line.shape.level (length xs - 1))) where
+    inside : length xs - 1 < points line.shape.axes line.shape.level
     inside = omega (arith, places, some_place)
 
-    here : VectorIn line.axes vector.sum vector.levels
+    here : VectorIn line.shape.axes vector.sum vector.levels
     here = rw same at vector.vector
 
-    whole : at vector.levels ≡ level_at line.axes line.level (length xs - 1)
-    whole = ap at levels_are ∙ eight_whole _ (λ u h. level_zero line.axes line.level (length xs - 1) u (omega (arith, line.few)))
+    whole : at vector.levels ≡ level_at line.shape.axes line.shape.level (length xs - 1)
+    whole = ap at levels_are ∙ eight_whole _ (λ u h. level_zero line.shape.axes line.shape.level (length xs - 1) u (omega (arith, line.few)))
 
-    behind : first_of line.axes (at vector.levels) + within line.axes line.level (length xs - 1) % 2 ^ vector.sum ≡ length xs - 1
-    behind = rw (whole, sum_is) (number_behind_first line.axes line.level (length xs - 1) inside)
+    behind : first_of line.shape.axes (at vector.levels) + within line.shape.axes line.shape.level (length xs - 1) % 2 ^ vector.sum ≡ length xs - 1
+    behind = rw (whole, sum_is) (number_behind_first line.shape.axes line.shape.level (length xs - 1) inside)
 
     pub last_standing : Standing line vector
-    last_standing = record { same = same; low = sum_inside here line.level (omega (arith, behind, inside)) }
+    last_standing = record { same = same; low = sum_inside here line.shape.level (omega (arith, behind, inside)) }
 
     -- It ends with the last point, so it is the last of the top level.
-    pub last_of_table : (vector.sum ≡ line.level) × (suc (rank (at vector.levels) line.axes) ≡ vectors line.axes vector.sum)
+    pub last_of_table : (vector.sum ≡ line.shape.level) × (suc (rank (at vector.levels) line.shape.axes) ≡ vectors line.shape.axes vector.sum)
     last_of_table =
-        last_of_all line.axes (omega (arith, line.axis)) vector.sum (rank (at vector.levels) line.axes) (rank_in here) line.level last_standing.low
+        last_of_all line.shape.axes (omega (arith, line.axis)) vector.sum (rank (at vector.levels) line.shape.axes) (rank_in here) line.shape.level last_standing.low
         (omega (
           arith,
           behind,
-          mod-lt (within line.axes line.level (length xs - 1)) (pow_pos vector.sum),
+          mod-lt (within line.shape.axes line.shape.level (length xs - 1)) (pow_pos vector.sum),
           end_inside last_standing,
           first_at_lem here,
-          points_is line.axes line.level,
+          points_is line.shape.axes line.shape.level,
           places,
           some_place,
         ))

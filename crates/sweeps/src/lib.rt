@@ -5,7 +5,6 @@ ghost use Rattle.std.specs.Prelude.{true, false, ◌≡◌, ◌^◌, length};
 ghost use Rattle.shapes.specs.Shapes.{points_of};
 ghost use Rattle.grids.specs.Turned.{turned_table, former_table};
 ghost use Rattle.walks.specs.Walks.{walk_up, walk_down};
-ghost use Rattle.neighbours.specs.Steps.{sparse_of};
 ghost use Rattle.lists.specs.Lists.{odd_sums};
 ghost use Rattle.lists.specs.Steps.{NoLarger};
 ghost use Rattle.sweeps.specs.Sweeps.{lists_worked};
@@ -17,14 +16,14 @@ use vectors::LevelVector;
 
 // The forward turn of a table, whether or not it is accepted: the level lists from the last down. Answers how many sums were odd.
 pub fn lower(line: Line, table: &mut [i64]) -> u64
-    requires { (length table.old ≡ points_of (sparse_of line)) × NoLarger (2 ^ 59) table.old }
-    ensures walked { table.new ≡ lists_worked true (sparse_of line) line.place (walk_down line.axes line.level) table.old }
-    ensures turned { table.new ≡ turned_table (sparse_of line) line.place table.old }
-    ensures odds { result ≡ odd_sums (sparse_of line) line.place table.old (points_of (sparse_of line)) }
+    requires { (length table.old ≡ points_of line.shape) × NoLarger (2 ^ 59) table.old }
+    ensures walked { table.new ≡ lists_worked true line.shape line.place (walk_down line.shape.axes line.shape.level) table.old }
+    ensures turned { table.new ≡ turned_table line.shape line.place table.old }
+    ensures odds { result ≡ odd_sums line.shape line.place table.old (points_of line.shape) }
 {
     let starts = Starts::of(line);
     let mut start = table.len() as u64;
-    let mut vector = numbers::vector_at(line.axes, line.level, start - 1).vector;
+    let mut vector = numbers::vector_at(line.shape.axes, line.shape.level, start - 1).vector;
     let mut cursors = starts.after_last(vector.sum);
     let mut odd: u64 = 0;
     loop {
@@ -45,14 +44,14 @@ pub fn lower(line: Line, table: &mut [i64]) -> u64
 // The table that a forward turn takes to this one, whether or not that turn is accepted: the level lists from the first up. Answers how many sums were odd.
 // (A loop of its own: here the cursors step on after the work on a list, there they step back before it; shared would be the work and the count alone.)
 pub fn raise(line: Line, table: &mut [i64]) -> u64
-    requires { (length table.old ≡ points_of (sparse_of line)) × NoLarger (2 ^ 55) table.old }
-    ensures walked { table.new ≡ lists_worked false (sparse_of line) line.place (walk_up line.axes line.level) table.old }
-    ensures turned { table.new ≡ former_table (sparse_of line) line.place table.old }
-    ensures odds { result ≡ odd_sums (sparse_of line) line.place table.new (points_of (sparse_of line)) }
+    requires { (length table.old ≡ points_of line.shape) × NoLarger (2 ^ 55) table.old }
+    ensures walked { table.new ≡ lists_worked false line.shape line.place (walk_up line.shape.axes line.shape.level) table.old }
+    ensures turned { table.new ≡ former_table line.shape line.place table.old }
+    ensures odds { result ≡ odd_sums line.shape line.place table.new (points_of line.shape) }
 {
     let starts = Starts::of(line);
     let mut start: u64 = 0;
-    let mut vector = LevelVector::first(line.axes);
+    let mut vector = LevelVector::first(line.shape.axes);
     let mut cursors = starts.before_first(vector.sum);
     let mut odd: u64 = 0;
     loop {

@@ -6,7 +6,6 @@ ghost use Rattle.naturals.specs.Test.{all};
 ghost use Rattle.integers.specs.Half.{content_at};
 ghost use Rattle.shapes.specs.Shapes.{points_of};
 ghost use Rattle.states.specs.After.{after};
-ghost use Rattle.neighbours.specs.Steps.{sparse_of};
 ghost use Rattle.lists.specs.Lists.{whole_turn, odd_sums};
 ghost use Rattle.lists.specs.Steps.{NoLarger};
 ghost use Rattle.turns.specs.Turns.{check_turn, forward_turn, back_turn};
@@ -21,14 +20,14 @@ use states::State;
 pub trait Turning: Direction {
     // The turn of a table, whether or not it is accepted; answers how many sums were odd of the table that is not forward on the axis.
     fn sweep(line: Line, table: &mut [i64]) -> u64
-        requires { (length table.old ≡ points_of (sparse_of line)) × NoLarger (2 ^ 55) table.old }
-        ensures turned { table.new ≡ whole_turn Self.ahead (sparse_of line) line.place table.old }
-        ensures odds { result ≡ odd_sums (sparse_of line) line.place (if Self.ahead then table.old else table.new) (points_of (sparse_of line)) };
+        requires { (length table.old ≡ points_of line.shape) × NoLarger (2 ^ 55) table.old }
+        ensures turned { table.new ≡ whole_turn Self.ahead line.shape line.place table.old }
+        ensures odds { result ≡ odd_sums line.shape line.place (if Self.ahead then table.old else table.new) (points_of line.shape) };
 
     // The turn that undoes it.
     fn undo(line: Line, table: &mut [i64])
-        requires { (length table.old ≡ points_of (sparse_of line)) × NoLarger (2 ^ 55) table.old }
-        ensures { table.new ≡ whole_turn (not Self.ahead) (sparse_of line) line.place table.old };
+        requires { (length table.old ≡ points_of line.shape) × NoLarger (2 ^ 55) table.old }
+        ensures { table.new ≡ whole_turn (not Self.ahead) line.shape line.place table.old };
 
     // The state that it leaves; refused where the axis is turned already.
     fn mark(state: State, axis: u32) -> Result<State, Refusal>
@@ -82,8 +81,8 @@ fn check_turn(state: State, places: usize, axis: u32) -> Result<(), Refusal>
 // A turn on a line's axis where it is accepted (back: where the forward turn that leads here is); else the table is as it was. All values are within the
 // content limit before.
 pub fn try_on<D: Turning>(line: Line, table: &mut [i64]) -> bool
-    requires { (length table.old ≡ points_of (sparse_of line)) × (all (content_at table.old) (length table.old) ≡ true) }
-    ensures { tried result table.new ≡ tried_on D.ahead (sparse_of line) line.place table.old }
+    requires { (length table.old ≡ points_of line.shape) × (all (content_at table.old) (length table.old) ≡ true) }
+    ensures { tried result table.new ≡ tried_on D.ahead line.shape line.place table.old }
 {
     if D::sweep(line, table) == 0 {
         if integers::all_in_limit(table) {
@@ -104,8 +103,7 @@ fn turn<D: Turning>(state: State, table: &mut [i64], axis: u32) -> Result<State,
         return Err(Refusal::Contents);
     }
     let line = Line {
-        axes: state.shape.axes,
-        level: state.shape.level,
+        shape: state.shape,
         place: axis - 1,
     };
     if !try_on::<D>(line, table) {

@@ -18,11 +18,7 @@ fn climb(shape: Shape, from: u32, table: &mut [i64])
     ensures { table.new ≡ ascent (shape.axes - from) from shape table.old }
 {
     for k in from..shape.axes {
-        let line = Line {
-            axes: shape.axes,
-            level: shape.level,
-            place: k,
-        };
+        let line = Line { shape, place: k };
         sweeps::lower(line, table);
     }
 }
@@ -42,11 +38,7 @@ fn descend(shape: Shape, table: &mut [i64]) -> u32
     ensures { gone result table.new ≡ descent shape.axes shape table.old }
 {
     for k in (0..shape.axes).rev() {
-        let line = Line {
-            axes: shape.axes,
-            level: shape.level,
-            place: k,
-        };
+        let line = Line { shape, place: k };
         if !turns::try_on::<Back>(line, table) {
             return k + 1;
         }

@@ -70,7 +70,7 @@ work-odd-requires c =
 -- After the work line _ long it.
 done : (c : After-work-odd) →
     let line = c.args.line in
-    Lowering line c.args.table.now c.loop-start.vector.sum (rank (at c.loop-start.vector.levels) line.axes)
+    Lowering line c.args.table.now c.loop-start.vector.sum (rank (at c.loop-start.vector.levels) line.shape.axes)
     (c.loop-start.start - 1 * 2 ^ c.loop-start.vector.sum % 2 ^ 64) (c.loop-start.odd + c.work-odd.result) c.work-odd.new.table
 done c =
     let line = c.args.line in
@@ -113,7 +113,7 @@ follows : (c : After-previous) →
     let line = c.args.line in
     let before = c.previous.new.self in
     let here = c.loop-start.vector in
-    Follows line.axes before.sum (rank (at before.levels) line.axes) here.sum (rank (at here.levels) line.axes)
+    Follows line.shape.axes before.sum (rank (at before.levels) line.shape.axes) here.sum (rank (at here.levels) line.shape.axes)
 follows c = previous_follows c.loop-start.invariant.0 c.previous.new.self c.previous.ensures
 
 -- It is the last of the sum below.

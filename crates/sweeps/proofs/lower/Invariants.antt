@@ -12,8 +12,8 @@ use Rattle.sweeps.proofs.lower.Given as goal
 abbrev pub invariant-loop-start : goal.invariant-loop-start
 invariant-loop-start l =
     Standing l.line l.vector
-    × Cursors l.line l.vector.sum (suc (rank (at l.vector.levels) l.line.axes)) l.cursors
-    × Lowering l.line l.initial.table l.vector.sum (suc (rank (at l.vector.levels) l.line.axes)) l.start l.odd l.table
+    × Cursors l.line l.vector.sum (suc (rank (at l.vector.levels) l.line.shape.axes)) l.cursors
+    × Lowering l.line l.initial.table l.vector.sum (suc (rank (at l.vector.levels) l.line.shape.axes)) l.start l.odd l.table
 
 abbrev pub decreases-loop-start : goal.decreases-loop-start
 decreases-loop-start l = l.start

@@ -44,7 +44,7 @@ work-odd-requires c =
 -- After the work line _ long it.
 done : (c : After-work-odd) →
     let line = c.args.line in
-    Raising line c.args.table.now c.loop-start.vector.sum (suc (rank (at c.loop-start.vector.levels) line.axes))
+    Raising line c.args.table.now c.loop-start.vector.sum (suc (rank (at c.loop-start.vector.levels) line.shape.axes))
     (c.loop-start.start + 1 * 2 ^ c.loop-start.vector.sum % 2 ^ 64) (c.loop-start.odd + c.work-odd.result) c.work-odd.new.table
 done c =
     let line = c.args.line in
@@ -103,7 +103,7 @@ follows : (c : After-next) →
     let line = c.args.line in
     let next = c.next.new.self in
     let here = c.loop-start.vector in
-    Follows line.axes here.sum (rank (at here.levels) line.axes) next.sum (rank (at next.levels) line.axes)
+    Follows line.shape.axes here.sum (rank (at here.levels) line.shape.axes) next.sum (rank (at next.levels) line.shape.axes)
 follows c = next_follows c.loop-start.invariant.0 c.next.new.self c.next.ensures
 
 pub before_first-cursors-requires-then-v-vector : goal.before_first-cursors-requires-then-v-vector

@@ -7,7 +7,7 @@ use Rattle.cursors.proofs.starts.Starts.of.Goals as goal
 
 pub loop-s-init : goal.loop-s-init
 loop-s-init c =
-    let first : 0 ≡ start c.args.line.axes 0 = sym (start_zero c.args.line.axes) in
+    let first : 0 ≡ start c.args.line.shape.axes 0 = sym (start_zero c.args.line.shape.axes) in
     record { size = refl; holds = λ i from to. let same : i ≡ 0 = omega arith in rw same first }
 
 pub loop-s-preserved : goal.loop-s-preserved

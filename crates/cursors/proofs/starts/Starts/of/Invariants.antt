@@ -5,4 +5,4 @@ use Rattle.cursors.specs.Steps.{Filled}
 use Rattle.cursors.proofs.starts.Starts.of.Given as goal
 
 abbrev pub invariant-loop-s : goal.invariant-loop-s
-invariant-loop-s l = Filled (start l.line.axes) 10 0 l.s l.places
+invariant-loop-s l = Filled (start l.line.shape.axes) 10 0 l.s l.places
