@@ -21,6 +21,10 @@ pub record OnAxis (sh : Shape) (t : ℕ) (xs : List ℤ) : Type 0 where
 abbrev pub NoLarger : ℕ → List ℤ → Type 0
 NoLarger b xs = (code : ℕ) → nat_abs (value_at xs code) ≤ b
 
+-- A table of a shape, all its values at most b from zero. (What a turn asks is said of the table and not by a type around it: the table is the buffer that is lent.)
+abbrev pub TableOf : Shape → ℕ → List ℤ → Type 0
+TableOf s b xs = (length xs ≡ points_of s) × NoLarger b xs
+
 -- The value of the i-th of the points from number a on.
 abbrev pub value_in : List ℤ → ℕ → ℕ → ℤ
 value_in xs a i = value_at xs (suc (a + i))

@@ -4,10 +4,9 @@
 
 ghost use Rattle.std.specs.Prelude.{◌≡◌, ◌+◌, ◌^◌, ◌≤◌, ◌<◌, ◌+ℤ◌, List, ℤ, length};
 ghost use Rattle.numbering.specs.Point.{at};
-ghost use Rattle.shapes.specs.Shapes.{points_of};
 ghost use Rattle.neighbours.specs.Steps.{Below};
 ghost use Rattle.lists.specs.Lists.{odd_sums, list_worked, came_to, ListTurned};
-ghost use Rattle.lists.specs.Steps.{NoLarger, value_in, RoomIn, RunStepped, Stepped, Workable, BlockAt};
+ghost use Rattle.lists.specs.Steps.{TableOf, value_in, RoomIn, RunStepped, Stepped, Workable, BlockAt};
 
 use integers::Direction;
 use neighbours::Subspace;
@@ -96,7 +95,7 @@ fn sized_block<D: Direction>(
 
 // Block after block, of a level list that moves on the axis.
 fn all_blocks<D: Direction>(v: Subspace, starts: &[u64; 9], table: &mut [i64]) -> u64
-    requires { Below v starts.now × (1 ≤ v.own) × (length table.old ≡ points_of v.line.shape) × NoLarger (2 ^ 60) table.old }
+    requires { Below v starts.now × (1 ≤ v.own) × TableOf v.line.shape (2 ^ 60) table.old }
     ensures { Stepped D.ahead v.line.shape v.line.place v.start v.end table.old result table.new }
 {
     let bits = v.low + v.own;
@@ -111,7 +110,7 @@ fn all_blocks<D: Direction>(v: Subspace, starts: &[u64; 9], table: &mut [i64]) -
 // A step at each point of a level list, forward or back; answers how many of the sums are odd. Where the list has level 0 on the axis nothing moves. In a turn
 // that has come so far, the list's points then hold what the whole turn leaves them, and no other place changes.
 pub fn work<D: Direction>(v: Subspace, starts: &[u64; 9], table: &mut [i64]) -> u64
-    requires { Below v starts.now × (length table.old ≡ points_of v.line.shape) × NoLarger (2 ^ 60) table.old }
+    requires { Below v starts.now × TableOf v.line.shape (2 ^ 60) table.old }
     ensures worked { table.new ≡ list_worked D.ahead v.line.shape v.line.place (at v.vector.levels) table.old }
     ensures odds { odd_sums v.line.shape v.line.place table.old v.start + result ≡ odd_sums v.line.shape v.line.place table.old v.end }
     ensures turned { (xs : List ℤ) → length xs ≡ length table.old → table.old ≡ came_to D.ahead v.line.shape v.line.place (at v.vector.levels) xs → ListTurned D.ahead v.line.shape v.line.place (at v.vector.levels) xs table.old table.new }

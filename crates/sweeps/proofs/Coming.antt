@@ -80,7 +80,7 @@ module _ (d n t : ℕ) (xs : List ℤ) (on : OnAxis (sparse d n) t xs) where
     abbrev seen_as : Subspace
     seen_as =
         record {
-          line = record { axes = d; level = n; place = t; few = on.few; top = on.low; axis = on.place };
+          line = record { shape = shape; place = t; few = on.few; top = on.low; axis = on.place };
           vector =
               record {
                 axes = d;

@@ -1,12 +1,12 @@
 // The two ways over a table, in the one lent buffer, level list by level list: forward from the highest level sum down, back from the lowest up.
 #![tactic(auto)]
 
-ghost use Rattle.std.specs.Prelude.{true, false, ◌≡◌, ◌^◌, length};
+ghost use Rattle.std.specs.Prelude.{true, false, ◌≡◌, ◌^◌};
 ghost use Rattle.shapes.specs.Shapes.{points_of};
 ghost use Rattle.grids.specs.Turned.{turned_table, former_table};
 ghost use Rattle.walks.specs.Walks.{walk_up, walk_down};
 ghost use Rattle.lists.specs.Lists.{odd_sums};
-ghost use Rattle.lists.specs.Steps.{NoLarger};
+ghost use Rattle.lists.specs.Steps.{TableOf};
 ghost use Rattle.sweeps.specs.Sweeps.{lists_worked};
 
 use cursors::Starts;
@@ -16,7 +16,7 @@ use vectors::LevelVector;
 
 // The forward turn of a table, whether or not it is accepted: the level lists from the last down. Answers how many sums were odd.
 pub fn lower(line: Line, table: &mut [i64]) -> u64
-    requires { (length table.old ≡ points_of line.shape) × NoLarger (2 ^ 59) table.old }
+    requires { TableOf line.shape (2 ^ 59) table.old }
     ensures walked { table.new ≡ lists_worked true line.shape line.place (walk_down line.shape.axes line.shape.level) table.old }
     ensures turned { table.new ≡ turned_table line.shape line.place table.old }
     ensures odds { result ≡ odd_sums line.shape line.place table.old (points_of line.shape) }
@@ -44,7 +44,7 @@ pub fn lower(line: Line, table: &mut [i64]) -> u64
 // The table that a forward turn takes to this one, whether or not that turn is accepted: the level lists from the first up. Answers how many sums were odd.
 // (A loop of its own: here the cursors step on after the work on a list, there they step back before it; shared would be the work and the count alone.)
 pub fn raise(line: Line, table: &mut [i64]) -> u64
-    requires { (length table.old ≡ points_of line.shape) × NoLarger (2 ^ 55) table.old }
+    requires { TableOf line.shape (2 ^ 55) table.old }
     ensures walked { table.new ≡ lists_worked false line.shape line.place (walk_up line.shape.axes line.shape.level) table.old }
     ensures turned { table.new ≡ former_table line.shape line.place table.old }
     ensures odds { result ≡ odd_sums line.shape line.place table.new (points_of line.shape) }

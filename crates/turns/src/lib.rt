@@ -7,7 +7,7 @@ ghost use Rattle.integers.specs.Half.{content_at};
 ghost use Rattle.shapes.specs.Shapes.{points_of};
 ghost use Rattle.states.specs.After.{after};
 ghost use Rattle.lists.specs.Lists.{whole_turn, odd_sums};
-ghost use Rattle.lists.specs.Steps.{NoLarger};
+ghost use Rattle.lists.specs.Steps.{TableOf};
 ghost use Rattle.turns.specs.Turns.{check_turn, forward_turn, back_turn};
 ghost use Rattle.turns.specs.Steps.{tried, tried_on, marked_as, turn_on};
 
@@ -20,13 +20,13 @@ use states::State;
 pub trait Turning: Direction {
     // The turn of a table, whether or not it is accepted; answers how many sums were odd of the table that is not forward on the axis.
     fn sweep(line: Line, table: &mut [i64]) -> u64
-        requires { (length table.old ≡ points_of line.shape) × NoLarger (2 ^ 55) table.old }
+        requires { TableOf line.shape (2 ^ 55) table.old }
         ensures turned { table.new ≡ whole_turn Self.ahead line.shape line.place table.old }
         ensures odds { result ≡ odd_sums line.shape line.place (if Self.ahead then table.old else table.new) (points_of line.shape) };
 
     // The turn that undoes it.
     fn undo(line: Line, table: &mut [i64])
-        requires { (length table.old ≡ points_of line.shape) × NoLarger (2 ^ 55) table.old }
+        requires { TableOf line.shape (2 ^ 55) table.old }
         ensures { table.new ≡ whole_turn (not Self.ahead) line.shape line.place table.old };
 
     // The state that it leaves; refused where the axis is turned already.

@@ -12,7 +12,7 @@ use Rattle.lists.proofs.work.Goals as goal
 pub returns-then-v-eq0-clause-worked : goal.returns-then-v-eq0-clause-worked
 returns-then-v-eq0-clause-worked g c =
     let pre = c.requires in
-    list_worked_lem (seen c.args.v) (on_line c.args.v.line pre.1) (flat_stepped (seen c.args.v) c.if-v-eq0.true g.D.Direction.ahead c.args.table.now)
+    list_worked_lem (seen c.args.v) (on_line c.args.v.line pre.1.0) (flat_stepped (seen c.args.v) c.if-v-eq0.true g.D.Direction.ahead c.args.table.now)
 
 pub returns-then-v-eq0-clause-odds : goal.returns-then-v-eq0-clause-odds
 returns-then-v-eq0-clause-odds g c = (flat_stepped (seen c.args.v) c.if-v-eq0.true g.D.Direction.ahead c.args.table.now).odds
@@ -21,15 +21,15 @@ pub returns-then-v-eq0-clause-turned : goal.returns-then-v-eq0-clause-turned
 returns-then-v-eq0-clause-turned g c =
     let pre = c.requires in
     let xs = c.args.table.now in
-    λ old long came. work_turned (seen c.args.v) g.D.Direction.ahead 0 old xs xs (flat_stepped (seen c.args.v) c.if-v-eq0.true g.D.Direction.ahead xs) (long ∙ pre.1) came
+    λ old long came. work_turned (seen c.args.v) g.D.Direction.ahead 0 old xs xs (flat_stepped (seen c.args.v) c.if-v-eq0.true g.D.Direction.ahead xs) (long ∙ pre.1.0) came
 
 -- ---- a level that moves
 
 pub returns-clause-worked : goal.returns-clause-worked
-returns-clause-worked g c = list_worked_lem (seen c.args.v) (on_line c.args.v.line c.requires.1) c.all_blocks.ensures
+returns-clause-worked g c = list_worked_lem (seen c.args.v) (on_line c.args.v.line c.requires.1.0) c.all_blocks.ensures
 
 pub returns-clause-turned : goal.returns-clause-turned
 returns-clause-turned g c =
     let pre = c.requires in
     λ old long came.
-    work_turned (seen c.args.v) g.D.Direction.ahead c.all_blocks.result old c.args.table.now c.all_blocks.new.table c.all_blocks.ensures (long ∙ pre.1) came
+    work_turned (seen c.args.v) g.D.Direction.ahead c.all_blocks.result old c.args.table.now c.all_blocks.new.table c.all_blocks.ensures (long ∙ pre.1.0) came

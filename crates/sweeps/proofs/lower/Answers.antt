@@ -65,7 +65,7 @@ work-odd-requires c =
     let pre = c.requires in
     let s = c.loop-start.invariant in
     let m = met c.on-v.result c.on-v.ensures in
-    (cursors_below c.pass_back.ensures, rw m.on s.2.parted.long, lowering_room c.args.line _ pre.0 s.2 pre.1)
+    (cursors_below c.pass_back.ensures, (rw m.on s.2.parted.long, lowering_room c.args.line _ pre.0 s.2 pre.1))
 
 -- After the work line _ long it.
 done : (c : After-work-odd) →
