@@ -19,7 +19,7 @@ use vectors::LevelVector;
 
 // ---- from point to number
 
-// The rank of a level vector: two entries of the table for each axis.
+// The rank of a level vector: two entries of the table for each axis. (By index: t + 1 axes are asked for too, as a number of 32 bits.)
 fn vector_rank(rows: &Rows, axes: u32, levels: [u32; 8]) -> u64
     requires { (axes ≤ 8) × (sum_to (at levels) axes ≤ 8) }
     ensures { result ≡ rank (at levels) axes }
@@ -41,9 +41,8 @@ fn position_at(axes: usize, p: Point) -> u64
 {
     let mut position: u64 = 0;
     let mut sum: u32 = 0;
-    for t in 0..axes {
-        let half = (p.indices[t] - 1) / 2;
-        let bits = p.levels[t];
+    for (&index, &bits) in p.indices[..axes].iter().zip(&p.levels) {
+        let half = (index - 1) / 2;
         position += u64::from(half) << sum;
         sum += bits;
     }
@@ -129,8 +128,7 @@ fn indices_of(axes: u32, levels: [u32; 8], position: u64) -> [u32; 8]
 {
     let mut indices = [0u32; 8];
     let mut rest = position;
-    for t in 0..axes as usize {
-        let bits = levels[t];
+    for (t, &bits) in levels[..axes as usize].iter().enumerate() {
         let digit = low_bits(rest, bits);
         indices[t] = (2 * digit + 1) as u32;
         rest >>= bits;

@@ -18,9 +18,9 @@ fn next_indices(axes: usize, levels: &[u32; 8], indices: &mut [u32; 8]) -> bool
     requires { (axes ≤ 8) × IsPoint axes 8 (at levels.now) (at indices.old) }
     ensures { StepsIndices axes levels.now indices.old result indices.new }
 {
-    for t in 0..axes {
+    for (t, &level) in levels[..axes].iter().enumerate() {
         let raised = indices[t] + 2;
-        if raised < (2 << levels[t]) {
+        if raised < (2 << level) {
             indices[t] = raised;
             return false;
         }
