@@ -56,7 +56,8 @@ pub fn first_of(vector: &LevelVector) -> u64
     ensures { result ≡ first_of vector.now.axes (at vector.now.levels) }
 {
     let rows = Rows::new();
-    rows.start(vector.axes, vector.sum) + (vector_rank(&rows, vector) << vector.sum)
+    let rank = vector_rank(&rows, vector);
+    rows.start(vector.axes, vector.sum) + (rank << vector.sum)
 }
 
 // The number of a point of these axes, whose levels sum to at most 8.

@@ -7,25 +7,25 @@ use Rattle.naturals.specs.Sum.{sum_to}
 use Rattle.numbering.specs.Point.{at}
 use Rattle.numbering.specs.Number.{first_of}
 use Rattle.numbers.proofs.Parts.{first_small, first_of_parts}
-use Rattle.numbers.proofs.first_of.Goals.{After-vector_rank}
+use Rattle.numbers.proofs.first_of.Goals.{After-start}
 use Rattle.numbers.proofs.first_of.Goals as goal
 
-few : (c : After-vector_rank) → let v = c.args.vector.now in sum_to (at v.levels) v.axes ≤ 8
+few : (c : After-start) → let v = c.args.vector.now in sum_to (at v.levels) v.axes ≤ 8
 few c = omega (arith, c.requires, c.args.vector.now.vector.total)
 
 -- the sum that the code forms is the first number
-whole : (c : After-vector_rank) →
+whole : (c : After-start) →
     let v = c.args.vector.now in
-    c.start.result + c.vector_rank.result * 2 ^ v.sum % 2 ^ 64 ≡ first_of v.axes (at v.levels)
+    c.start.result + c.vector_rank-rank.result * 2 ^ v.sum % 2 ^ 64 ≡ first_of v.axes (at v.levels)
 whole c =
     let v = c.args.vector.now in
-    first_of_parts v.axes (at v.levels) v.some v.few (few c) c.start.ensures (sym v.vector.total) c.vector_rank.ensures
+    first_of_parts v.axes (at v.levels) v.some v.few (few c) c.start.ensures (sym v.vector.total) c.vector_rank-rank.ensures
 
 pub overflow_add-result : goal.overflow_add-result
 overflow_add-result c =
     let v = c.args.vector.now in
-    let rank = (goal.at.overflow_add-result c).After-vector_rank in
+    let rank = (goal.at.overflow_add-result c).After-start in
     omega (arith, whole rank, first_small v.axes (at v.levels) v.some v.few (few rank))
 
 pub returns : goal.returns
-returns c = whole (goal.at.returns c).After-vector_rank
+returns c = whole (goal.at.returns c).After-start
