@@ -2,6 +2,7 @@
 -- position the rest. The parts and their sums are within the width, since the number of a point is below that of all points.
 -- Assumes nothing.
 use mathlib.Core.Path.{◌≡◌, ap, ap₂}
+use mathlib.Core.List.{List}
 use Prim.Native.Nat.{ℕ, suc, ◌+◌, ◌*◌, ◌%◌, ◌^◌, ◌≤◌, ◌<◌}
 use native.Mathlib.Nat.{le_of_lt, mul_comm, mul-le-mul_left, mod-eq_of_lt}
 use native.Mathlib.Omega.{arith}
@@ -13,9 +14,17 @@ use Rattle.numbering.proofs.Rank.{rank_lt}
 use Rattle.numbering.proofs.Numbering.{start_suc, points_is, number_lt}
 use Rattle.numbering.proofs.Subspaces.{first_is, number_from_first}
 use Rattle.shapes.proofs.Totals.{start_small}
+use Rattle.points.specs.Steps.{PointIn}
 
-pub at_most_eight : {d n : ℕ} {l i : ℕ → ℕ} → IsPoint d n l i → n ≤ 8 → IsPoint d 8 l i
-at_most_eight point h = record { sum = omega (arith, point.sum); odd = point.odd; below = point.below }
+pub at_most_eight : {d n : ℕ} {ls is : List ℕ} → PointIn d n ls is → n ≤ 8 → PointIn d 8 ls is
+at_most_eight p h =
+    record {
+      long_levels = p.long_levels;
+      long_indices = p.long_indices;
+      point = record { sum = omega (arith, p.point.sum); odd = p.point.odd; below = p.point.below };
+      no_level = p.no_level;
+      no_index = p.no_index;
+    }
 
 -- The first number of a level vector.
 module _ (d : ℕ) (l : ℕ → ℕ) (low : 1 ≤ d) (high : d ≤ 8) (few : sum_to l d ≤ 8) where

@@ -9,6 +9,7 @@ ghost use Rattle.numbering.specs.Number.{first_of, number, rank, position};
 ghost use Rattle.numbering.specs.Inverse.{level_of, sum_at, within, level_at};
 ghost use Rattle.shapes.specs.Shapes.{sparse};
 ghost use Rattle.points.specs.Points.{eight, point_at};
+ghost use Rattle.points.specs.Steps.{PointIn};
 ghost use Rattle.numbers.specs.Numbers.{number_of_point, point_of_number};
 ghost use Rattle.numbers.specs.Steps.{Lies, Sizes, indices_of};
 
@@ -20,14 +21,14 @@ use vectors::LevelVector;
 // ---- from point to number
 
 // The rank of a level vector: two entries of the table for each axis. (By index: t + 1 axes are asked for too, as a number of 32 bits.)
-fn vector_rank(rows: &Rows, axes: u32, levels: [u32; 8]) -> u64
-    requires { (axes ≤ 8) × (sum_to (at levels) axes ≤ 8) }
-    ensures { result ≡ rank (at levels) axes }
+fn vector_rank(rows: &Rows, vector: &LevelVector) -> u64
+    requires { vector.now.sum ≤ 8 }
+    ensures { result ≡ rank (at vector.now.levels) vector.now.axes }
 {
     let mut rank: u64 = 0;
     let mut sum: u32 = 0;
-    for t in 0..axes {
-        let next = sum + levels[t as usize];
+    for t in 0..vector.axes {
+        let next = sum + vector.levels[t as usize];
         rank += rows.vectors(t + 1, next) - rows.vectors(t + 1, sum);
         sum = next;
     }
@@ -35,37 +36,37 @@ fn vector_rank(rows: &Rows, axes: u32, levels: [u32; 8]) -> u64
 }
 
 // The position of a point among those of its level vector.
-fn position_at(axes: usize, p: Point) -> u64
-    requires { (axes ≤ 8) × IsPoint axes 8 (at p.levels) (at p.indices) }
-    ensures { result ≡ position (at p.levels) (at p.indices) axes }
+fn position_at(vector: &LevelVector, indices: &[u32; 8]) -> u64
+    requires { IsPoint vector.now.axes 8 (at vector.now.levels) (at indices.now) }
+    ensures { result ≡ position (at vector.now.levels) (at indices.now) vector.now.axes }
 {
     let mut position: u64 = 0;
     let mut sum: u32 = 0;
-    for (&index, &bits) in p.indices[..axes].iter().zip(&p.levels) {
-        let half = (index - 1) / 2;
+    for (bits, index) in vector.levels[..vector.axes as usize].iter().zip(indices) {
+        let half = (*index - 1) / 2;
         position += u64::from(half) << sum;
-        sum += bits;
+        sum += *bits;
     }
     position
 }
 
-// The number of the first point of a level vector of these axes, whose levels sum to at most 8.
-pub fn first_of(axes: u32, levels: [u32; 8]) -> u64
-    requires { (1 ≤ axes) × (axes ≤ 8) × (sum_to (at levels) axes ≤ 8) }
-    ensures { result ≡ first_of axes (at levels) }
+// The number of the first point of a level vector whose sum is at most 8.
+pub fn first_of(vector: &LevelVector) -> u64
+    requires { vector.now.sum ≤ 8 }
+    ensures { result ≡ first_of vector.now.axes (at vector.now.levels) }
 {
     let rows = Rows::new();
-    let sum = vectors::level_sum(axes as usize, &levels);
-    let rank = vector_rank(&rows, axes, levels);
-    rows.start(axes, sum) + (rank << sum)
+    let rank = vector_rank(&rows, vector);
+    rows.start(vector.axes, vector.sum) + (rank << vector.sum)
 }
 
 // The number of a point of these axes, whose levels sum to at most 8.
 fn number_at(axes: u32, p: Point) -> u64
-    requires { (1 ≤ axes) × (axes ≤ 8) × IsPoint axes 8 (at p.levels) (at p.indices) }
+    requires { (1 ≤ axes) × (axes ≤ 8) × PointIn axes 8 p.levels p.indices }
     ensures { result ≡ number axes (at p.levels) (at p.indices) }
 {
-    first_of(axes, p.levels) + position_at(axes as usize, p)
+    let vector = LevelVector::of(axes, p.levels);
+    first_of(&vector) + position_at(&vector, &p.indices)
 }
 
 // The number of a point.
@@ -96,9 +97,9 @@ fn block_at<F: Fn(u32) -> u64>(last: u32, place: u64, size: F) -> (u32, u64)
 }
 
 // The level vector of this rank and level sum, from the last axis down.
-fn levels_of(rows: &Rows, axes: u32, sum: u32, rank: u64) -> [u32; 8]
+fn levels_of(rows: &Rows, axes: u32, sum: u32, rank: u64) -> LevelVector
     requires { (1 ≤ axes) × (axes ≤ 8) × (sum ≤ 8) × (rank < vectors axes sum) }
-    ensures { result ≡ eight (level_of axes sum rank) }
+    ensures { (result.axes ≡ axes) × (result.sum ≡ sum) × (result.levels ≡ eight (level_of axes sum rank)) }
 {
     let mut levels = [0u32; 8];
     let mut left = sum;
@@ -110,7 +111,7 @@ fn levels_of(rows: &Rows, axes: u32, sum: u32, rank: u64) -> [u32; 8]
         rest = before;
     }
     levels[0] = left;
-    levels
+    LevelVector { axes, sum, levels }
 }
 
 // The lowest bits of a number.
@@ -122,16 +123,16 @@ pub fn low_bits(x: u64, bits: u32) -> u64
 }
 
 // The indices at a position among the points of a level vector: the digits of the position, axis 1 lowest, l_t bits for axis t.
-fn indices_of(axes: u32, levels: [u32; 8], position: u64) -> [u32; 8]
-    requires { (axes ≤ 8) × (sum_to (at levels) axes ≤ 8) }
-    ensures { result ≡ eight (indices_of axes (at levels) position) }
+fn indices_of(vector: &LevelVector, position: u64) -> [u32; 8]
+    requires { vector.now.sum ≤ 8 }
+    ensures { result ≡ eight (indices_of vector.now.axes (at vector.now.levels) position) }
 {
     let mut indices = [0u32; 8];
     let mut rest = position;
-    for (t, &bits) in levels[..axes as usize].iter().enumerate() {
-        let digit = low_bits(rest, bits);
+    for (t, bits) in vector.levels[..vector.axes as usize].iter().enumerate() {
+        let digit = low_bits(rest, *bits);
         indices[t] = (2 * digit + 1) as u32;
-        rest >>= bits;
+        rest >>= *bits;
     }
     indices
 }
@@ -150,13 +151,8 @@ pub fn vector_at(axes: u32, level: u32, number: u64) -> Placed
 {
     let rows = Rows::new();
     let (sum, rest) = block_at(level, number, |sum| rows.vectors(axes, sum) << sum);
-    let vector = LevelVector {
-        axes,
-        sum,
-        levels: levels_of(&rows, axes, sum, rest >> sum),
-    };
     Placed {
-        vector,
+        vector: levels_of(&rows, axes, sum, rest >> sum),
         position: low_bits(rest, sum),
     }
 }
@@ -167,10 +163,9 @@ fn point_at(axes: u32, level: u32, number: u64) -> Point
     ensures { result ≡ point_at (sparse axes level) number }
 {
     let placed = vector_at(axes, level, number);
-    let levels = placed.vector.levels;
     Point {
-        levels,
-        indices: indices_of(axes, levels, placed.position),
+        levels: placed.vector.levels,
+        indices: indices_of(&placed.vector, placed.position),
     }
 }
 
@@ -179,8 +174,8 @@ fn point_at(axes: u32, level: u32, number: u64) -> Point
 pub fn point_of_number(shape: Shape, number: u64) -> Result<Point, Refusal>
     ensures { result ≡ point_of_number shape number }
 {
-    let checked = shape.check()?;
-    if checked.points() <= number {
+    shapes::check_shape(shape)?;
+    if shapes::points_of(shape) <= number {
         return Err(Refusal::PointNumber);
     }
     Ok(point_at(shape.axes, shape.level, number))

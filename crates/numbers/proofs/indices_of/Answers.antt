@@ -1,29 +1,29 @@
-use mathlib.Core.Path.{◌≡◌}
 use Prim.Native.Nat.{◌≤◌, ◌<◌}
 use native.Mathlib.Omega.{arith}
-use lib.ListN.{take, get_or}
-use lib.Seq.{get_or-take, length-take-le}
-use borrow.Author.Rules.{rules}
+use Rattle.std.proofs.Common.{◌≡◌, take, get_or, get_or-take, length-take-le}
 use Rattle.naturals.proofs.Sums.{term_le}
 use Rattle.numbering.specs.Point.{at}
 use Rattle.numbers.proofs.Widths.{digit_small}
-use Rattle.numbers.proofs.Unpacked.{unpacked_starts, unpacked_steps}
+use Rattle.numbers.proofs.Unpacked.{unpacked_starts, unpacked_steps, unpacked_ends}
 use Rattle.numbers.proofs.indices_of.Goals.{After-low_bits-digit, In-loop-t}
 use Rattle.numbers.proofs.indices_of.Goals as goal
 
 pub loop-t-init : goal.loop-t-init
 loop-t-init c = unpacked_starts _ _ _
 
-inside : (c : In-loop-t) → c.loop-t.t < c.args.axes
-inside c = omega (arith, c.loop-t-test.true, length-take-le c.args.axes c.args.levels (search rules))
+-- the walk is along the levels of the axes
+inside : (c : In-loop-t) → let v = c.args.vector.now in (c.loop-t.t < v.axes) × (get_or (take v.axes v.levels) c.loop-t.t 0 ≡ at v.levels c.loop-t.t)
+inside c =
+    let v = c.args.vector.now in
+    let many = length-take-le v.axes v.levels (omega (arith, v.few, v.vector.long)) in
+    let within : c.loop-t.t < v.axes = omega (arith, many, c.loop-t-test.true) in
+    (within, get_or-take v.axes v.levels c.loop-t.t 0 within)
 
--- the level at hand
-level : (c : In-loop-t) → get_or (take c.args.axes c.args.levels) c.loop-t.t 0 ≡ at c.args.levels c.loop-t.t
-level c = get_or-take c.args.axes c.args.levels c.loop-t.t 0 (inside c)
-
--- it is at most the level sum, and so its digit is small
-few : (c : In-loop-t) → get_or (take c.args.axes c.args.levels) c.loop-t.t 0 ≤ 8
-few c = omega (arith, level c, term_le (at c.args.levels) c.args.axes c.loop-t.t (inside c))
+-- a level is at most the level sum, and so its digit is small
+few : (c : In-loop-t) → let v = c.args.vector.now in get_or (take v.axes v.levels) c.loop-t.t 0 ≤ 8
+few c =
+    let v = c.args.vector.now in
+    omega (arith, (inside c).1, term_le (at v.levels) v.axes c.loop-t.t (inside c).0, v.vector.total, c.requires)
 
 small : (c : After-low_bits-digit) → c.low_bits-digit.result < 256
 small c = omega (arith, c.low_bits-digit.ensures, digit_small c.loop-t.rest _ (few c.before.before))
@@ -45,6 +45,13 @@ overflow_shr-rest c = omega (arith, few (goal.at.overflow_shr-rest c).In-loop-t)
 
 pub loop-t-preserved : goal.loop-t-preserved
 loop-t-preserved c =
-    let here = (goal.at.loop-t-preserved c).In-loop-t in
-    rw (level here)
-    (unpacked_steps c.loop-t.invariant c.low_bits-digit.result (inside here) (search rules) (rw (level here) at c.low_bits-digit.ensures))
+    let v = c.args.vector.now in
+    let axis = inside (goal.at.loop-t-preserved c).In-loop-t in
+    let low = rw axis.1 at c.low_bits-digit.ensures in
+    rw axis.1 (unpacked_steps c.loop-t.invariant c.low_bits-digit.result axis.0 v.few low)
+
+pub returns : goal.returns
+returns c =
+    let v = c.args.vector.now in
+    let many = length-take-le v.axes v.levels (omega (arith, v.few, v.vector.long)) in
+    unpacked_ends c.loop-t.invariant (omega (arith, many, c.loop-t-test.false))

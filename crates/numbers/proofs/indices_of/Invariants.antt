@@ -5,4 +5,4 @@ use Rattle.numbers.proofs.Unpacked.{Unpacked}
 use Rattle.numbers.proofs.indices_of.Given as goal
 
 abbrev pub invariant-loop-t : goal.invariant-loop-t
-invariant-loop-t l = Unpacked (at l.fn.levels) l.position l.axes l.indices l.t l.rest
+invariant-loop-t l = Unpacked (at l.vector.levels) l.position l.vector.axes l.indices l.t l.rest

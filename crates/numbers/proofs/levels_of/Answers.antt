@@ -1,6 +1,6 @@
 -- `numbers::levels_of` meets its contract: the last level of what is left of the axes is the block that the rank lies in.
 -- Assumes nothing.
-use mathlib.Core.Path.{◌≡◌, sym, ◌∙◌}
+use mathlib.Core.Path.{◌≡◌, refl, sym, ◌∙◌}
 use Prim.Native.Nat.{◌-◌}
 use borrow.Author.Rules.{rules}
 use Rattle.numbering.specs.Count.{vectors}
@@ -10,6 +10,7 @@ use Rattle.numbers.specs.Steps.{Lies}
 use Rattle.numbers.proofs.Searched.{lies_le}
 use Rattle.numbers.proofs.Places.{rank_inside}
 use Rattle.numbers.proofs.Unranked.{unranked_starts, unranked_below, unranked_steps, unranked_ends}
+use Rattle.numbers.proofs.Read.{vector_read}
 use Rattle.numbers.proofs.levels_of.Goals.{After-block_at-level}
 use Rattle.numbers.proofs.levels_of.Goals as goal
 
@@ -29,5 +30,13 @@ pub loop-k-preserved : goal.loop-k-preserved
 loop-k-preserved c =
     unranked_steps c.loop-k.invariant c.loop-k-test.true (search rules) (lies (goal.at.loop-k-preserved c).After-block_at-level)
 
+pub invariant_of-result : goal.invariant_of-result
+invariant_of-result c =
+    record {
+      some = c.requires.0;
+      few = c.requires.1;
+      vector = vector_read _ _ _ c.requires.1 c.requires.3 (unranked_ends c.loop-k.invariant c.loop-k-test.false);
+    }
+
 pub returns : goal.returns
-returns c = unranked_ends c.loop-k.invariant c.loop-k-test.false
+returns c = (refl, refl, unranked_ends c.loop-k.invariant c.loop-k-test.false)

@@ -11,7 +11,7 @@ use Rattle.numbers.proofs.number_of_point.Goals as goal
 pub number_at-requires : goal.number_at-requires
 number_at-requires c =
     let p = handed _ _ _ (sym c.in_ok-p.ensures) in
-    (p.shape.low, p.shape.high, at_most_eight p.inside.point p.shape.top)
+    (p.shape.low, p.shape.high, at_most_eight p.inside p.shape.top)
 
 pub returns : goal.returns
 unfolding number_of_point

@@ -1,6 +1,6 @@
 -- `numbers::vector_at` meets its contract: the level sum, the levels and the position of what the search finds are those of the point.
 -- Assumes nothing.
-use mathlib.Core.Path.{◌≡◌, sym, ◌∙◌, refl}
+use mathlib.Core.Path.{◌≡◌, sym, ◌∙◌}
 use Prim.Native.Nat.{◌*◌, ◌%◌, ◌^◌, ◌≤◌}
 use native.Mathlib.Omega.{arith}
 use borrow.Author.Rules.{rules}
@@ -9,7 +9,7 @@ use Rattle.numbers.specs.Steps.{Lies}
 use Rattle.numbers.proofs.Widths.{shell_shifted}
 use Rattle.numbers.proofs.Searched.{lies_le}
 use Rattle.numbers.proofs.Places.{number_inside, sum_found}
-use Rattle.numbers.proofs.Read.{rank_below, levels_found, position_found, vector_read}
+use Rattle.numbers.proofs.Read.{rank_below, levels_found, position_found}
 use Rattle.numbers.proofs.vector_at.Goals.{After-block_at-sum}
 use Rattle.numbers.proofs.vector_at.Goals as goal
 
@@ -36,20 +36,12 @@ levels_of-requires c =
 pub low_bits-requires : goal.low_bits-requires
 low_bits-requires c = few (goal.at.low_bits-requires c).After-block_at-sum
 
-pub invariant_of-vector : goal.invariant_of-vector
-invariant_of-vector c =
-    let sum = (goal.at.invariant_of-vector c).After-block_at-sum in
-    record {
-      some = c.requires.0;
-      few = c.requires.1;
-      vector = vector_read _ _ _ c.requires.1 (rank_below _ _ _ c.requires.3 (lies sum)) c.levels_of.ensures;
-    }
-
 pub returns : goal.returns
 returns c =
-    let found = lies (goal.at.returns c).After-block_at-sum in (
-      refl,
-      sym (sum_found _ _ _ found),
-      c.levels_of.ensures ∙ levels_found _ _ _ (search rules) found,
+    let found = lies (goal.at.returns c).After-block_at-sum in
+    let vector = c.levels_of.ensures in (
+      vector.0,
+      vector.1 ∙ sym (sum_found _ _ _ found),
+      vector.2 ∙ levels_found _ _ _ (search rules) found,
       c.low_bits.ensures ∙ sym (position_found _ _ _ (search rules) found),
     )

@@ -5,4 +5,4 @@ use Rattle.numbers.proofs.Ranked.{Ranked}
 use Rattle.numbers.proofs.vector_rank.Given as goal
 
 abbrev pub invariant-loop-t : goal.invariant-loop-t
-invariant-loop-t l = Ranked (at l.levels) l.axes l.t l.rank l.sum
+invariant-loop-t l = Ranked (at l.vector.levels) l.vector.axes l.t l.rank l.sum
