@@ -14,23 +14,32 @@ pub fn is_coordinate(x: u32) -> bool
     x <= 1 << BITS
 }
 
-// The weight at x of a point of this level and index on one axis.
-pub fn weight(x: u64, level: u32, index: u64) -> u64
-    requires { (x ≤ unit) × (level ≤ 8) × (index < 2 ^ suc level) }
-    ensures { result ≡ weight unit x level index }
-{
-    let apart = (x << (level + 1)).abs_diff(index << BITS);
-    (1u64 << BITS).saturating_sub(apart)
+// A coordinate as the weights take it, in 64 bits.
+#[derive(Clone, Copy)]
+pub struct Coordinate {
+    pub x: u64,
+    ghost inside: { x ≤ unit },
 }
 
-// The cell of a level on one axis in which x lies, counted from 0: the point of index 2 × cell + 1 alone can have a weight above 0 at x.
-pub fn cell(x: u64, level: u32) -> u64
-    requires { (x ≤ unit) × (level ≤ 8) }
-    ensures { result ≡ cell_of x level }
-{
-    if x < 1 << BITS {
-        (x << level) >> BITS
-    } else {
-        0
+impl Coordinate {
+    // The weight there of a point of this level and index on one axis.
+    pub fn weight(self, level: u32, index: u64) -> u64
+        requires { (level ≤ 8) × (index < 2 ^ suc level) }
+        ensures { result ≡ weight unit self.x level index }
+    {
+        let apart = (self.x << (level + 1)).abs_diff(index << BITS);
+        (1u64 << BITS).saturating_sub(apart)
+    }
+
+    // The cell of a level on one axis in which it lies, counted from 0: the point of index 2 × cell + 1 alone can have a weight above 0 there.
+    pub fn cell(self, level: u32) -> u64
+        requires { level ≤ 8 }
+        ensures { result ≡ cell_of self.x level }
+    {
+        if self.x < 1 << BITS {
+            (self.x << level) >> BITS
+        } else {
+            0
+        }
     }
 }

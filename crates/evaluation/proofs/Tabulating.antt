@@ -1,10 +1,12 @@
 -- Loops that write one place after another, and what their tables of hats give: hats of coordinates are bounded, and so are the first d of them.
 -- Assumes nothing.
 use mathlib.Core.List.{List, []}
-use mathlib.Core.Path.{ap, sym, subst}
-use Prim.Native.Nat.{ℕ, ◌+◌, ◌≤◌, ◌<◌}
+use mathlib.Core.Path.{◌≡◌, ap, sym, subst}
+use Prim.Native.Nat.{ℕ, zero, suc, ◌+◌, ◌≤◌, ◌<◌}
 use native.Mathlib.Omega.{arith}
 use lib.ListN.{length, take, set, get_or}
+use Rattle.std.specs.Array.{IsFromFnResultFrom, IsFromFnResult}
+use Rattle.std.specs.Fn.{Called, Mut}
 use Rattle.std.proofs.lemmas.List.{get_or-set_same, get_or-set_other, get_or-take}
 use Rattle.naturals.proofs.Cases.{eq_or_not}
 use Rattle.surfaces.specs.Weights.{unit}
@@ -33,3 +35,16 @@ tabulated_bounded {x} {d} few table =
 pub tabulated_front : {x : ℕ → ℕ} {d : ℕ} {hats : List (List Hat)} → Tabulated x d hats → Tabulated x d (take d hats)
 tabulated_front {x} {d} {hats} table =
     record { axis = λ t h. subst (AxisHats (x t)) (sym (get_or-take d hats t [] h)) (table.axis t h) }
+
+-- An array made by a closure that calls leave as it is: each element is what its call answers.
+module _ {F B : Type 0} (g : Mut F (ℕ × Unit {0}) B) (P : ℕ → B → Type 0) (f : F) (call : (i : ℕ) (y : B) (f' : F) → Called g f (i, tt) y f' → P i y × (f' ≡ f)) where
+  made_from : (ys : List B) (d : B) (i n : ℕ) → IsFromFnResultFrom g f ys i n → (k : ℕ) → i ≤ k → k < i + n → P k (get_or ys k d)
+  made_from ys d i zero made k low high = absurd (omega arith)
+  made_from ys d i (suc n) (q, y, is, called, rest) k low high =
+      let here = call i y q called in
+      eq_or_not i k
+      (λ same. subst (λ m. P m (get_or ys m d)) same (subst (P i) (sym (is.1 d)) here.0))
+      (λ other. made_from ys d (i + 1) n (subst (λ f'. IsFromFnResultFrom g f' ys (i + 1) n) here.1 rest) k (omega arith) (omega arith))
+
+  pub made : (ys : List B) (n : ℕ) → IsFromFnResult g f ys n → (d : B) (k : ℕ) → k < n → P k (get_or ys k d)
+  made ys n all d k h = made_from ys d 0 n all.each k (omega arith) (omega arith)

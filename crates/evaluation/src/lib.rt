@@ -5,11 +5,12 @@ ghost use Rattle.std.specs.Prelude.{◌≡◌, ◌≤◌, length};
 ghost use Rattle.naturals.specs.Sum.{sum_to};
 ghost use Rattle.numbering.specs.Point.{at};
 ghost use Rattle.hierarchy.specs.Turns.{value_at};
-ghost use Rattle.surfaces.specs.Weights.{unit};
 ghost use Rattle.surfaces.specs.Surface.{estimate_at};
-ghost use Rattle.evaluation.specs.Steps.{AxisHats, Tabulated, joint_of, position_of, Bounded, Listed, Evaluable};
+ghost use Rattle.evaluation.specs.Steps.{hat_at, AxisHats, Tabulated, joint_of, position_of, Bounded, Listed, Evaluable};
 
+use axis_weights::Coordinate;
 use shapes::Shape;
+use std::array;
 use surfaces::BITS;
 use vectors::LevelVector;
 use wide_sums::Sum;
@@ -21,18 +22,23 @@ struct Hat {
     weight: u64,
 }
 
-// The hats of an axis at the coordinate x, one for each level.
-fn axis_hats(x: u64) -> [Hat; 9]
-    requires { x ≤ unit }
-    ensures { AxisHats x result }
-{
-    let mut hats = [Hat { cell: 0, weight: 0 }; 9];
-    for level in 0..9 {
-        let cell = axis_weights::cell(x, level);
-        let weight = axis_weights::weight(x, level, 2 * cell + 1);
-        hats[level as usize] = Hat { cell, weight };
+impl Hat {
+    // That of a coordinate at a level.
+    fn at(coordinate: Coordinate, level: u32) -> Hat
+        requires { level ≤ 8 }
+        ensures { result ≡ hat_at coordinate.x level }
+    {
+        let cell = coordinate.cell(level);
+        let weight = coordinate.weight(level, 2 * cell + 1);
+        Hat { cell, weight }
     }
-    hats
+}
+
+// The hats of an axis at a coordinate, one for each level.
+fn axis_hats(coordinate: Coordinate) -> [Hat; 9]
+    ensures { AxisHats coordinate.x result }
+{
+    array::from_fn(|level| Hat::at(coordinate, level as u32))
 }
 
 // Those of all axes.
@@ -42,7 +48,7 @@ fn tabulated(coordinates: &[u32]) -> [[Hat; 9]; 8]
 {
     let mut hats = [[Hat { cell: 0, weight: 0 }; 9]; 8];
     for (t, x) in coordinates.iter().enumerate() {
-        hats[t] = axis_hats(u64::from(*x));
+        hats[t] = axis_hats(Coordinate { x: u64::from(*x) });
     }
     hats
 }
