@@ -9,3 +9,4 @@ pub mod Legal
 pub mod WholeGrid
 pub mod Leaves
 pub mod Limits
+pub mod Products

@@ -2,10 +2,10 @@
 // that are still to do.
 #![tactic(auto)]
 
-ghost use Rattle.std.specs.Prelude.{◌≡◌, ◌≤◌};
+ghost use Rattle.std.specs.Prelude.{ℕ, ◌≡◌, ◌≤◌, length, min};
 ghost use Rattle.numbering.specs.Point.{at};
 ghost use Rattle.splits.specs.Splits.{cut};
-ghost use Rattle.component_grids.specs.Component.{across};
+ghost use Rattle.component_grids.specs.Component.{across, points_to};
 ghost use Rattle.component_boxes.specs.Order.{widest};
 
 // The axis with most points left in a box, the smallest of several.
@@ -35,4 +35,15 @@ pub fn points_across(level: u32) -> u64
     ensures { result ≡ across level }
 {
     (2 << level) - 1
+}
+
+// How many points axes of these levels have together, or the largest number of the width where they have more.
+pub fn count_points(levels: &[u32]) -> u64
+    requires { (t : ℕ) → at levels.now t ≤ 8 }
+    ensures { result ≡ min (points_to (at levels.now) (length levels.now)) 18446744073709551615 }
+{
+    levels
+        .iter()
+        .map(|level| points_across(*level))
+        .fold(1, |points: u64, across| points.saturating_mul(across))
 }

@@ -36,11 +36,7 @@ impl<'a> Piece<'a> {
     fn points_left(&self) -> u64
         ensures { result ≡ points_to (at self.now.of.levels) self.now.of.grid.now.axes }
     {
-        let mut points = 1;
-        for t in 0..self.of.grid.axes {
-            points *= component_boxes::points_across(self.of.levels[t]);
-        }
-        points
+        component_boxes::count_points(&self.of.levels[..self.of.grid.axes])
     }
 
     // The axes that are due, one after the other.

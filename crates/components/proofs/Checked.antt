@@ -4,7 +4,7 @@ use Rattle.std.specs.Prelude.{Ok}
 use mathlib.Core.Path.{◌≡◌}
 use mathlib.Core.Bool.{true, ◌&&◌}
 use mathlib.Core.List.{List}
-use Prim.Native.Nat.{ℕ, ◌≤◌}
+use Prim.Native.Nat.{ℕ, ◌≤◌, min}
 use native.Mathlib.Omega.{arith}
 use lib.Dec.{leb}
 use lib.ListN.{length, get_or-eq_default}
@@ -15,9 +15,9 @@ use Rattle.naturals.proofs.Tests.{and_left, and_right, all_at}
 use Rattle.refusals.specs.declared.Refusal.TheVariants.{Axes, Level, TooManyPoints}
 use Rattle.refusals.specs.Checks.{unless}
 use Rattle.refusals.proofs.Passing.{first_passed, next_passed, test_passed}
+use Rattle.component_grids.specs.Component.{points_to}
 use Rattle.shapes.specs.Shapes.{most_points}
 use Rattle.components.specs.Components.{tops_in, low_at, check_levels, grid_points, check_grid}
-use Rattle.components.specs.Steps.{Counts}
 
 pub record LevelsIn (ls : List ℕ) : Type 0 where
   pub low : 1 ≤ length ls
@@ -61,8 +61,6 @@ module _ (ls : List ℕ) where
         (next_passed (check_levels ls) (unless (leb (grid_points ls) most_points) TooManyPoints) e))
 
     -- Then the count is the number of points.
-    pub count_exact : (points : ℕ) → Counts ls points → points ≡ grid_points ls
-    count_exact points counts =
-        le_or_lt points most_points
-        (λ le. counts.exact le)
-        (λ gt. absurd (omega (arith, counts.more gt, grid_small)))
+    pub count_exact : (points : ℕ) → points ≡ min (points_to (tops_in ls) (length ls)) 18446744073709551615 → points ≡ grid_points ls
+    unfolding grid_points
+    count_exact points is = omega (arith, is, grid_small)

@@ -15,7 +15,6 @@ use Rattle.component_grids.proofs.Places.{across_is, across_pos, points_to_zero,
 use Rattle.shapes.specs.Shapes.{most_points}
 use Rattle.component_boxes.proofs.Falling.{points_before}
 use Rattle.components.specs.Components.{tops_in, grid_points}
-use Rattle.components.specs.Steps.{Counts}
 
 -- At most 511 points lie across.
 pub across_le : (n : ℕ) → n ≤ 8 → across n ≤ 511
@@ -28,36 +27,6 @@ pub record Counted (ls : List ℕ) (t points : ℕ) : Type 0 where
 
 pub counted_starts : (ls : List ℕ) → Counted ls 0 1
 counted_starts ls = record { place = omega arith; product = sym (points_to_zero (tops_in ls)); small = omega arith }
-
--- The running product that stops at the largest number of the width.
-pub record Reached (ls : List ℕ) (t points : ℕ) : Type 0 where
-  pub exact : points ≤ most_points → points ≡ points_to (tops_in ls) t
-  pub more : most_points < points → most_points < points_to (tops_in ls) t
-
-pub reached_starts : (ls : List ℕ) → Reached ls 0 1
-reached_starts ls = record { exact = λ le. sym (points_to_zero (tops_in ls)); more = λ gt. absurd (omega arith) }
-
-module _ {ls : List ℕ} {t points : ℕ} (reached : Reached ls t points) where
-  pub reached_ends : t ≡ length ls → Counts ls points
-  unfolding grid_points
-  reached_ends last = record { exact = rw last at reached.exact; more = rw last at reached.more }
-
-  pub reached_steps : (a : ℕ) → a ≡ across (tops_in ls t) → Reached ls (t + 1) (min (points * a) 18446744073709551615)
-  reached_steps a e =
-      let some : 1 ≤ a = omega (arith, e, across_pos (tops_in ls t)) in
-      let grows : points ≤ points * a = omega (arith, mul-le-mul_left {m = 1} {n = a} points some) in
-      let next : points_to (tops_in ls) (t + 1) ≡ points_to (tops_in ls) t * a = rw (add-one t) (points_to_suc (tops_in ls) t ∙ ap (λ (x : ℕ). points_to (tops_in ls) t * x) (sym e)) in
-      record {
-        exact =
-            λ le.
-            let here : points ≡ points_to (tops_in ls) t = reached.exact (omega (arith, grows)) in
-            omega (arith, next, ap (λ (x : ℕ). x * a) here);
-        more =
-            λ gt.
-            le_or_lt points most_points
-            (λ le. omega (arith, next, ap (λ (x : ℕ). x * a) (reached.exact le)))
-            (λ above. omega (arith, next, reached.more above, mul-le-mul_left {m = 1} {n = a} (points_to (tops_in ls) t) some));
-      }
 
 module _ {ls : List ℕ} {t points : ℕ} (counted : Counted ls t points) where
   -- One axis more, of a points.

@@ -4,8 +4,9 @@
 ghost use Rattle.std.specs.Prelude.{◌≡◌, Ok};
 ghost use Rattle.states.specs.After.{left};
 ghost use Rattle.components.specs.Components.{check_levels, check_grid, check_component, component_coefficients};
-ghost use Rattle.components.specs.Steps.{Counts, LaidOut};
+ghost use Rattle.components.specs.Steps.{LaidOut};
 
+use component_boxes::{count_points, points_across};
 use component_sweeps::Layout;
 use refusals::Refusal;
 use shapes::MOST_POINTS;
@@ -14,30 +15,13 @@ use shapes::MOST_POINTS;
 fn check_levels(levels: &[u32]) -> Result<(), Refusal>
     ensures { result ≡ check_levels levels.now }
 {
-    if levels.len() < 1 {
+    if !(1..=8).contains(&levels.len()) {
         return Err(Refusal::Axes);
     }
-    if 8 < levels.len() {
-        return Err(Refusal::Axes);
-    }
-    for level in levels {
-        if 8 < *level {
-            return Err(Refusal::Level);
-        }
+    if !levels.iter().all(|level| *level <= 8) {
+        return Err(Refusal::Level);
     }
     Ok(())
-}
-
-// The product of the axes' points, or some number above 32,768 where it is above that.
-fn count_points(levels: &[u32]) -> u64
-    requires { check_levels levels.now ≡ Ok tt }
-    ensures { Counts levels.now result }
-{
-    let mut points: u64 = 1;
-    for level in levels {
-        points = points.saturating_mul(component_boxes::points_across(*level));
-    }
-    points
 }
 
 // Refused with 1, 2 or 19.
@@ -71,9 +55,10 @@ fn layout_of(levels: &[u32]) -> Layout
 {
     let mut strides = [0usize; 8];
     let mut points: u64 = 1;
+    // A for, since each turn stores the stride of its axis and makes that of the next.
     for (t, level) in levels.iter().enumerate() {
         strides[t] = points as usize;
-        points *= component_boxes::points_across(*level);
+        points *= points_across(*level);
     }
     Layout {
         axes: levels.len(),

@@ -6,7 +6,7 @@ use native.Mathlib.Omega.{arith}
 use borrow.Author.Tests.{eq-eqb, ne_eqb}
 use lib.ListN.{length}
 use Rattle.components.specs.Components.{grid_points, check_grid, check_component}
-use Rattle.components.proofs.Checked.{grid_levels, count_exact}
+use Rattle.components.proofs.Checked.{levels_passed, grid_levels, count_exact}
 use Rattle.components.proofs.check_component.Goals.{In_ok-check_grid}
 use Rattle.components.proofs.check_component.Goals as goal
 
@@ -15,7 +15,7 @@ passed : (c : In_ok-check_grid) → check_grid c.args.levels.now ≡ Ok tt
 passed c = sym c.in_ok-check_grid.ensures
 
 pub count_points-requires : goal.count_points-requires
-count_points-requires c = grid_levels _ (passed (goal.at.count_points-requires c).In_ok-check_grid)
+count_points-requires c = (levels_passed _ (grid_levels _ (passed (goal.at.count_points-requires c).In_ok-check_grid))).tops
 
 pub returns-then-table-count_points : goal.returns-then-table-count_points
 unfolding check_component

@@ -1,46 +1,49 @@
+-- `components::check_levels` meets its contract: each return is decided by the tests on the way to it.
+-- Assumes nothing.
+use Rattle.std.proofs.Common.{◌≡◌, refl, ◌&&◌, rules, tests, sym, ◌∙◌, length}
+use Rattle.std.proofs.lemmas.Iterator.{YieldsList-from_slice}
+use Rattle.std.proofs.lemmas.Iterator.Search.{all_from_yields_List}
 use native.Mathlib.Omega.{arith}
-use borrow.Author.Count.{below_more}
-use borrow.Author.Rules.{rules}
-use borrow.Author.Tests.{le-leb, lt-leb}
-use lib.ListN.{length}
-use Rattle.naturals.proofs.Tests.{all_from, all_fails}
-use Rattle.components.specs.Components.{tops_in, low_at, check_levels}
+use lib.Dec.{leb}
+use Rattle.naturals.specs.Test.{all}
+use Rattle.integers.proofs.Tables.{all_list}
+use Rattle.components.specs.Components.{low_at, check_levels}
+use Rattle.components.proofs.check_levels.Goals.{After-contains, After-all}
 use Rattle.components.proofs.check_levels.Goals as goal
 
-pub returns-then-levels-lt1 : goal.returns-then-levels-lt1
-unfolding check_levels
-returns-then-levels-lt1 c = simp (lt-leb 1 (length c.args.levels.now) (omega arith))
-
-pub returns-then-levels-gt8 : goal.returns-then-levels-gt8
-unfolding check_levels
-returns-then-levels-gt8 c =
-    let ls = c.args.levels.now in
-    simp (le-leb 1 (length ls) (omega arith), lt-leb (length ls) 8 (omega arith))
-
-pub returns-then-level-gt8 : goal.returns-then-level-gt8
-unfolding check_levels low_at
-returns-then-level-gt8 c =
-    let loop = c.loop-level in
-    let ls = c.args.levels.now in
-    simp (
-      le-leb 1 (length ls) (omega arith),
-      le-leb (length ls) 8 (omega arith),
-      all_fails (low_at ls) (length ls) loop.level-index (omega arith) (lt-leb (tops_in ls loop.level-index) 8 (omega (arith, c.if-level-gt8.true))),
-    )
-
-pub loop-level-preserved : goal.loop-level-preserved
+-- all levels are tested
+tested : (c : After-all) → c.all.result ≡ all (low_at c.args.levels.now) (length c.args.levels.now)
 unfolding low_at
-loop-level-preserved c =
-    let loop = c.loop-level in
-    let ls = c.args.levels.now in
-    below_more _ _ loop.invariant (le-leb (tops_in ls loop.level-index) 8 (omega (arith, c.if-level-gt8.false)))
+tested c =
+    all_from_yields_List (λ l. leb l 8) _ _ c.all.result c.all.ensures.ran (YieldsList-from_slice c.args.levels.now cc) (λ x b q k. search (rules, tests))
+    ∙ all_list (λ l. leb l 8) 0 c.args.levels.now
+
+-- the number of axes is tested
+few : (c : After-contains) → c.contains.result ≡ (leb 1 (length c.args.levels.now) && leb (length c.args.levels.now) 8)
+few c = search (rules, tests)
+
+pub returns-then-not-contains : goal.returns-then-not-contains
+unfolding check_levels
+returns-then-not-contains c = rw (sym (few (goal.at.returns-then-not-contains c).After-contains), c.if-not-contains.true) refl
+
+pub returns-then-not-all : goal.returns-then-not-all
+unfolding check_levels
+returns-then-not-all c =
+    rw (
+      sym (few (goal.at.returns-then-not-all c).After-contains),
+      c.if-not-contains.false,
+      sym (tested (goal.at.returns-then-not-all c).After-all),
+      c.if-not-all.true,
+    )
+    refl
 
 pub returns : goal.returns
 unfolding check_levels
 returns c =
-    let ls = c.args.levels.now in
-    simp (
-      le-leb 1 (length ls) (omega arith),
-      le-leb (length ls) 8 (omega arith),
-      all_from (low_at ls) (length ls) (λ t h. c.loop-level.invariant t (omega arith)),
+    rw (
+      sym (few (goal.at.returns c).After-contains),
+      c.if-not-contains.false,
+      sym (tested (goal.at.returns c).After-all),
+      c.if-not-all.false,
     )
+    refl

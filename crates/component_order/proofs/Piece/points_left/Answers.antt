@@ -1,14 +1,11 @@
-use Rattle.std.proofs.Common.{sym, arith}
-use Rattle.component_grids.proofs.Places.{points_to_zero}
-use Rattle.component_order.proofs.Counting.{counted_next, counted_fits}
+-- `Piece::points_left` meets its contract: the box has no more points than the grid, far from the width.
+-- Assumes nothing.
+use Rattle.std.proofs.Common.{arith}
+use Rattle.component_boxes.proofs.Products.{points_taken}
+use Rattle.component_order.proofs.Counting.{few_points}
 use Rattle.component_order.proofs.Piece.points_left.Goals as goal
 
-pub loop-t-init : goal.loop-t-init
-loop-t-init c = sym (points_to_zero _)
-
-pub overflow_mul-points : goal.overflow_mul-points
-overflow_mul-points c =
-    omega (arith, counted_fits c.args.self.now.of _ _ c.loop-t.invariant c.loop-t-test.true _ c.points_across-points.ensures)
-
-pub loop-t-preserved : goal.loop-t-preserved
-loop-t-preserved c = counted_next c.args.self.now.of _ _ c.loop-t.invariant c.loop-t-test.true _ c.points_across-points.ensures
+pub returns : goal.returns
+returns c =
+    let b = c.args.self.now.of in
+    omega (arith, c.count_points.ensures, points_taken b.levels b.grid.now.axes, few_points b)
