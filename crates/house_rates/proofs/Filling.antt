@@ -1,7 +1,7 @@
 -- The loop that fills the table: its first places hold the rates taken so far, and the others what they held.
 -- Assumes nothing.
 use mathlib.Core.Path.{◌≡◌, sym, ap, ◌∙◌}
-use mathlib.Core.List.{List, [], ◌∷◌, ◌++◌}
+use mathlib.Core.List.{List, [], ◌∷◌, ◌++◌, append-nil}
 use Prim.Native.Nat.{ℕ, suc, ◌+◌, ◌≤◌, ◌<◌}
 use native.Mathlib.Numerals.{add-one}
 use native.Mathlib.Omega.{arith}
@@ -32,6 +32,14 @@ module _ {all left xs ys : List ℤ} {p : ℕ} (f : Filled all left xs ys p) whe
             ∙ set_at f.done (get_or xs p (pos 0)) (drop (suc p) xs) rate p f.many
             ∙ rw (add-one p) (sym (append_snoc f.done rate (drop (suc p) xs)));
       }
+
+  pub filled_over : length all ≤ p → ys ≡ all ++ drop (length all) xs
+  filled_over few =
+      let none : left ≡ [] = nil_from_length left (omega (arith, left_many)) in
+      let many : p ≡ length all = omega (arith, left_many) in
+      f.holds
+      ∙ ap (λ (l : List ℤ). l ++ drop p xs) (sym (f.split ∙ ap (λ (l : List ℤ). f.done ++ l) none ∙ append-nil f.done))
+      ∙ ap (λ (n : ℕ). all ++ drop n xs) many
 
   pub filled_all : length all ≤ p → length xs ≤ p → ys ≡ all
   filled_all few room =
