@@ -42,7 +42,4 @@ module _ {all left xs ys : List ℤ} {p : ℕ} (f : Filled all left xs ys p) whe
       ∙ ap (λ (n : ℕ). all ++ drop n xs) many
 
   pub filled_all : length all ≤ p → length xs ≤ p → ys ≡ all
-  filled_all few room =
-      f.holds
-      ∙ ap (λ (l : List ℤ). f.done ++ l) (drop_of_length-le xs room ∙ sym (nil_from_length left (omega (arith, left_many))))
-      ∙ sym f.split
+  filled_all few room = filled_over few ∙ ap (λ (l : List ℤ). all ++ l) (drop_of_length-le xs (omega (arith, left_many))) ∙ append-nil all
