@@ -12,6 +12,14 @@ use house_rates::CheckedRates;
 use refusals::Refusal;
 use shapes::{CheckedShape, Shape};
 
+// So many bytes of a file decide what is read into so many places, one more than an accepted file can have: 10 and for each place 5.
+#[macro_export]
+macro_rules! deciding_bytes {
+    ($places:expr) => {
+        10 + 5 * $places + 1
+    };
+}
+
 // d and n, with the bytes after them.
 pub fn read_head(bytes: &[u8]) -> Result<(Shape, &[u8]), Refusal>
     ensures { read_in result ≡ read_head bytes.now }

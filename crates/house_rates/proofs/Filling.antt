@@ -1,7 +1,7 @@
 -- The loop that fills the table: its first places hold the rates taken so far, and the others what they held.
 -- Assumes nothing.
 use mathlib.Core.Path.{◌≡◌, sym, ap, ◌∙◌}
-use mathlib.Core.List.{List, [], ◌∷◌, ◌++◌}
+use mathlib.Core.List.{List, [], ◌∷◌, ◌++◌, append-nil}
 use Prim.Native.Nat.{ℕ, suc, ◌+◌, ◌≤◌, ◌<◌}
 use native.Mathlib.Numerals.{add-one}
 use native.Mathlib.Omega.{arith}
@@ -33,8 +33,13 @@ module _ {all left xs ys : List ℤ} {p : ℕ} (f : Filled all left xs ys p) whe
             ∙ rw (add-one p) (sym (append_snoc f.done rate (drop (suc p) xs)));
       }
 
-  pub filled_all : length all ≤ p → length xs ≤ p → ys ≡ all
-  filled_all few room =
+  pub filled_over : length all ≤ p → ys ≡ all ++ drop (length all) xs
+  filled_over few =
+      let none : left ≡ [] = nil_from_length left (omega (arith, left_many)) in
+      let many : p ≡ length all = omega (arith, left_many) in
       f.holds
-      ∙ ap (λ (l : List ℤ). f.done ++ l) (drop_of_length-le xs room ∙ sym (nil_from_length left (omega (arith, left_many))))
-      ∙ sym f.split
+      ∙ ap (λ (l : List ℤ). l ++ drop p xs) (sym (f.split ∙ ap (λ (l : List ℤ). f.done ++ l) none ∙ append-nil f.done))
+      ∙ ap (λ (n : ℕ). all ++ drop n xs) many
+
+  pub filled_all : length all ≤ p → length xs ≤ p → ys ≡ all
+  filled_all few room = filled_over few ∙ ap (λ (l : List ℤ). all ++ l) (drop_of_length-le xs (omega (arith, left_many))) ∙ append-nil all

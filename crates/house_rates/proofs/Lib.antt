@@ -5,3 +5,4 @@ pub mod FiveBytes
 pub mod Together
 pub mod Held
 pub mod Filling
+pub mod Short

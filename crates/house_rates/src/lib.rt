@@ -1,9 +1,10 @@
 // The rates of a house file: checked, many bytes at once where that decides, and then read one after the other.
 #![tactic(auto)]
 
-ghost use Rattle.std.specs.Prelude.{◌≡◌, true, false, ◌≤◌, length, Ok};
+ghost use Rattle.std.specs.Prelude.{◌≡◌, true, false, ◌≤◌, length, map, Ok};
+ghost use Rattle.house_numbers.specs.Numbers.{rate_of};
 ghost use Rattle.house_rates.specs.Rates.{read_rates};
-ghost use Rattle.house_rates.specs.Steps.{checked_rates, ends, NotLargeAt, NoneLarge};
+ghost use Rattle.house_rates.specs.Steps.{checked_rates, rates_over, ends, NotLargeAt, NoneLarge};
 
 use house_numbers::{checked_number, rate_of, read_number};
 use refusals::Refusal;
@@ -35,6 +36,7 @@ fn few_ends(bytes: &[u8]) -> u8
 fn count_ends(bytes: &[u8]) -> usize
     ensures { result ≡ ends bytes.now }
 {
+    // A `for`: of a chain, a sum of `map` over `chunks`, the bound and the equation did not close, for std has no lemma that follows one over `chunks`.
     let mut count: usize = 0;
     for few in bytes.chunks(224) {
         count += usize::from(few_ends(few));
@@ -54,6 +56,7 @@ fn is_large(row: &[u8; 5]) -> bool
 fn none_large(bytes: &[u8]) -> bool
     ensures { result ≡ true → NoneLarge bytes.now }
 {
+    // A `for`: of a chain, a `fold` over `array_windows`, the implication did not close, for std has no lemma that follows one over `array_windows`.
     let mut large = false;
     for row in bytes.array_windows::<5>() {
         large |= is_large(row);
@@ -71,6 +74,16 @@ fn sound(bytes: &[u8], count: usize) -> bool
     }
 }
 
+// The rates of bytes that are a number each, into the first places.
+fn fill_short(bytes: &[u8], table: &mut [i64])
+    requires { length bytes.now ≤ length table.old }
+    ensures { table.new ≡ rates_over table.old (map rate_of bytes.now) }
+{
+    for (place, byte) in bytes.iter().enumerate() {
+        table[place] = rate_of(u32::from(*byte));
+    }
+}
+
 // The rates of a file, which were checked: so many filed numbers, and no byte after them.
 #[derive(Clone, Copy)]
 pub struct CheckedRates<'a> {
@@ -82,8 +95,7 @@ pub struct CheckedRates<'a> {
 impl<'a> CheckedRates<'a> {
     ghost use Rattle.std.specs.Prelude.{◌∷◌, ◌<◌};
     ghost use Rattle.house_numbers.specs.Reading.{◌next◌};
-    ghost use Rattle.house_numbers.specs.Numbers.{rate_of};
-    ghost use Rattle.house_rates.specs.Steps.{closed, rates_over};
+    ghost use Rattle.house_rates.specs.Steps.{closed};
     ghost use Rattle.house_rates.specs.Held.{rates_of, split_off, held};
 
     // The check of the rates: all at once, and number by number only where that does not say yes.
@@ -121,11 +133,14 @@ impl<'a> CheckedRates<'a> {
         Some(self.take_first())
     }
 
-    // The rates into the first places.
+    // The rates into the first places. Where there are no more bytes than rates, each byte is a number.
     pub fn fill(self, table: &mut [i64])
         requires { length (rates_of self) ≤ length table.old }
         ensures { table.new ≡ rates_over table.old (rates_of self.entry) }
     {
+        if self.bytes.len() == self.count {
+            return fill_short(self.bytes, table);
+        }
         let mut rates = self;
         for place in table[..self.count].iter_mut() {
             let (filed, rest) = rates.take_first();

@@ -58,7 +58,8 @@ impl<'a> FiledRates for CheckedRates<'a> {
     }
 }
 
-// Rates that were checked are never written in more bytes than they were read from. No method: of a slice in a field a proof does not know that it holds bytes.
+// Rates that were checked are never written in more bytes than they were read from.
+// (As a method it did not close: of a slice in a field, also of a local copy of it, a proof is told the length alone, and not that its elements are bytes.)
 fn enough_again(bytes: &[u8], count: usize) -> usize
     requires { checked_rates (read_rates count bytes.now) ≡ Ok tt }
     ensures { 2 + length (written_rates (rates_read (read_rates count bytes.now))) ≤ result }

@@ -10,6 +10,7 @@ ghost use Rattle.reports.specs.Report.{report as Report·report};
 ghost use Rattle.buffers.specs.Put.{Put};
 
 use contents::put_table;
+use house_file::deciding_bytes;
 use refusals::Refusal;
 use texts::lines::put_refused;
 
@@ -19,8 +20,8 @@ const PLACES: usize = 8192;
 // The most characters of a report: a first line of 81, and for each place a line of 43.
 pub const MOST: usize = LINE + 43 * PLACES;
 
-// So many bytes of a file decide its report, one more than an accepted file can have: 10 and for each place 5.
-pub const BYTES: usize = 10 + 5 * PLACES + 1;
+// So many bytes of a file decide its report.
+pub const BYTES: usize = deciding_bytes!(PLACES);
 
 // The most characters of a first line, and of the line of a refused file.
 pub const LINE: usize = 81;

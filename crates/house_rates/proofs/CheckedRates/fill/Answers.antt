@@ -1,4 +1,5 @@
 use mathlib.Core.Path.{◌≡◌, sym, ◌∙◌}
+use mathlib.Core.List.{map}
 use native.Mathlib.Omega.{arith}
 use lib.ListN.{length, take}
 use mir.Syntax.{w64}
@@ -9,6 +10,7 @@ use Rattle.house_rates.specs.declared.CheckedRates.{CheckedRates}
 use Rattle.house_rates.specs.Steps.{rates_over}
 use Rattle.house_rates.specs.Held.{rates_of}
 use Rattle.house_rates.proofs.Held.{read_many}
+use Rattle.house_rates.proofs.Short.{all_short}
 use Rattle.house_rates.proofs.Filling.{left_many, filled_steps, filled_all}
 use Rattle.house_rates.proofs.CheckedRates.fill.Goals.{Start}
 use Rattle.house_rates.proofs.CheckedRates.fill.Goals as goal
@@ -21,6 +23,19 @@ many s = read_many s.count s.bytes.now s.passed
 -- so many places are filled
 places : (c : Start) → length (take c.args.self.count c.args.table.now) ≡ c.args.self.count
 places c = length-take-le c.args.self.count c.args.table.now (omega (arith, c.requires, many c.args.self))
+
+-- each byte is a number
+short : (s : CheckedRates) → length s.bytes.now ≡ s.count → map filed_rate s.bytes.now ≡ rates_of s
+unfolding rates_of
+short s e = sym (all_short s.count s.bytes.now s.passed e)
+
+pub fill_short-requires : goal.fill_short-requires
+fill_short-requires c = omega (arith, c.requires, many c.args.self)
+
+pub returns-then-self : goal.returns-then-self
+returns-then-self c =
+    let s = c.args.self in
+    rw (sym (short s (omega arith))) c.fill_short.ensures
 
 pub slice_bounds-place-items-end : goal.slice_bounds-place-items-end
 slice_bounds-place-items-end c = omega (arith, c.requires, many c.args.self)
