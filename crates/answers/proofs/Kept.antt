@@ -2,7 +2,7 @@
 -- Assumes nothing.
 use Rattle.std.specs.Prelude.{Option, Some, None, Result, Ok, Err}
 use Rattle.refusals.specs.declared.Refusal.{Refusal}
-use mathlib.Core.Bool.{not}
+use mathlib.Core.Bool.{true, false}
 use mathlib.Core.List.{List}
 use mathlib.Core.Path.{◌≡◌, refl}
 use Prim.Native.Nat.{ℕ, ◌-◌}
@@ -18,7 +18,7 @@ use Rattle.states.specs.After.{After, after, kept, Left, left_by}
 use Rattle.states.specs.States.{has, check_state}
 use Rattle.tables.specs.Tables.{check_table, check_rated, load, scaled_at, check_sampled, unload}
 use Rattle.grids.specs.Turned.{former_table}
-use Rattle.turns.specs.Turns.{is_accepted, check_turn, forward_turn, back_turn}
+use Rattle.turns.specs.Turns.{is_accepted, check_turn, check_waits, forward_turn, back_turn}
 use Rattle.runs.specs.Runs.{Ran, run}
 use Rattle.runs.specs.Calls.{Report, calls_of, report_of, unrun, check_lengths, run_calls}
 use Rattle.whole.specs.Whole.{rates_to_coefficients, has_rates, coefficients_to_rates}
@@ -37,22 +37,14 @@ Keeps held r = (r.told.number ≡ 0 → ⊥) → r.outputs ≡ held
 
 -- ---- where the outputs follow the answer alone
 
-value_keeps : {A : Type 0} (held : A) (a : Result A Refusal) → Keeps held (of_value held a)
+-- A count, a point's number and an estimate.
+pub value_keeps : {A : Type 0} (held : A) (a : Result A Refusal) → Keeps held (of_value held a)
 value_keeps held (Ok x) e = absurd (e refl)
 value_keeps held (Err r) e = refl
-
-pub count_keeps : (held : ℕ) (a : Result ℕ Refusal) → Keeps held (of_value held a)
-count_keeps = value_keeps
-
-pub number_of_point_keeps : (held : ℕ) (a : Result ℕ Refusal) → Keeps held (of_value held a)
-number_of_point_keeps = value_keeps
 
 pub adopt_keeps : (held : ℕ) (a : Result State Refusal) → Keeps held (of_answer held a)
 adopt_keeps held (Ok s) e = absurd (e refl)
 adopt_keeps held (Err r) e = refl
-
-pub estimate_keeps : (held : ℤ) (a : Result ℤ Refusal) → Keeps held (of_value held a)
-estimate_keeps = value_keeps
 
 -- The successor and the parent.
 pub located_keeps : (held : List ℕ × List ℕ × ℕ) (a : Result (Option Point) Refusal) → Keeps held (of_located held a)
@@ -101,14 +93,14 @@ module _ (s : State) (xs : List ℤ) where
   unfolding forward_turn
   forward_keeps axis = after_keeps s.forward xs (forward_turn s xs axis)
       (check_turn s (length xs) axis
-      and_then unless (not (has s.forward (axis - 1))) (refusal.AlreadyForward axis)
+      and_then check_waits true s axis
       and_then unless (is_accepted s.shape (axis - 1) xs) refusal.Contents) _ _ refl
 
   pub back_keeps : (axis : ℕ) → Keeps (s.forward, xs) (of_after s.forward (back_turn s xs axis))
   unfolding back_turn
   back_keeps axis = after_keeps s.forward xs (back_turn s xs axis)
       (check_turn s (length xs) axis
-      and_then unless (has s.forward (axis - 1)) (refusal.NotForward axis)
+      and_then check_waits false s axis
       and_then unless (is_accepted s.shape (axis - 1) (former_table s.shape (axis - 1) xs)) refusal.Contents) _ _ refl
 
   pub run_keeps : (directions axes ns ps : List ℕ) → Keeps (s.forward, xs, ns, ps) (of_report s.forward (run_calls s xs directions axes ns ps))

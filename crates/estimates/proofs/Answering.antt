@@ -36,10 +36,6 @@ unfolding first_outside inside_at is_coordinate
 each_inside d cs le t h = leb-true (at cs t) unit (none_first (inside_at unit cs) d le t h)
 
 module _ (s : State) (xs : List ℤ) (cs : List ℕ) where
-  pub unchecked : (r : Refusal) → check_state s (length xs) ≡ Err r → estimate s xs cs ≡ Err r
-  unfolding estimate_in_unit check_estimate
-  unchecked r e = rw e
-
   module _ (e : check_state s (length xs) ≡ Ok tt) where
     stands : Stands s (length xs)
     stands = state_passed s (length xs) e

@@ -22,13 +22,11 @@ fn check_forward(checked: CheckedState) -> Result<(), Refusal>
 fn check_coordinates(axes: u32, coordinates: &[u32]) -> Result<(), Refusal>
     ensures { result ≡ check_coordinates unit axes coordinates.now }
 {
-    if coordinates.len() as u64 != axes as u64 {
+    if coordinates.len() != axes as usize {
         return Err(Refusal::ListLength);
     }
-    for (t, x) in coordinates.iter().enumerate() {
-        if !axis_weights::is_coordinate(*x) {
-            return Err(Refusal::Coordinate(t as u32 + 1));
-        }
+    if let Some(t) = coordinates.iter().position(|&x| !axis_weights::is_coordinate(x)) {
+        return Err(Refusal::Coordinate(t as u32 + 1));
     }
     Ok(())
 }

@@ -174,8 +174,8 @@ fn point_at(axes: u32, level: u32, number: u64) -> Point
 pub fn point_of_number(shape: Shape, number: u64) -> Result<Point, Refusal>
     ensures { result ≡ point_of_number shape number }
 {
-    shapes::check_shape(shape)?;
-    if shapes::points_of(shape) <= number {
+    let checked = shape.check()?;
+    if checked.points() <= number {
         return Err(Refusal::PointNumber);
     }
     Ok(point_at(shape.axes, shape.level, number))

@@ -28,6 +28,7 @@ pub extern "C" fn numolefays_read_house_file(
 }
 
 // The shape that a file names and its number of points, from the first two numbers alone.
+#[tactic(auto, using(house_file::proofs::Heads::shape_passes))]
 #[unsafe(no_mangle)]
 pub extern "C" fn numolefays_house_file_shape(
     bytes: &[u8],

@@ -10,7 +10,7 @@ use Prim.Native.Nat.{ℕ, zero, suc, ◌+◌, ◌≤◌, ◌<◌}
 use native.Mathlib.Numerals.{add-one}
 use native.Mathlib.Omega.{arith}
 use lib.IntN.{ℤ}
-use lib.ListN.{length, get_or, take, drop, set, length-append, length-map, length-drop}
+use lib.ListN.{length, get_or, take, drop, set, length-append, length-map}
 use lib.Seq.{take-suc, take-length, drop-length, drop-cons, length-take-le, append_snoc, set_at}
 use Rattle.hierarchy.specs.declared.Turn.{Turn}
 use Rattle.hierarchy.specs.declared.Turn.TheVariants.{Back}
@@ -59,9 +59,6 @@ module _ (f : Verdict → ℕ) where
   abbrev pub answered : List Verdict → List ℕ → List ℕ
   answered answers ns = map f answers ++ drop (length answers) ns
 
-  answered_long : (answers : List Verdict) (ns : List ℕ) → length answers ≤ length ns → length (answered answers ns) ≡ length ns
-  answered_long answers ns h = simp (length-append, length-map, length-drop) (omega arith)
-
   answered_all : (answers : List Verdict) (ns : List ℕ) → length answers ≡ length ns → answered answers ns ≡ map f answers
   answered_all answers ns e = rw (e, drop-length, append-nil)
 
@@ -97,12 +94,6 @@ module _ (s : State) (xs : List ℤ) (directions axes ns ps : List ℕ) where
         ∙ calls_long (take i directions) (take i axes)
         (length-take-le i axes (omega (arith, r.matched.axes_long, r.within)) ∙ sym (length-take-le i directions r.within))
         ∙ length-take-le i directions r.within
-
-    pub numbers_kept : length numbers ≡ length ns
-    numbers_kept = ap length r.numbered ∙ answered_long number_in (ran_to i).answers ns (omega (arith, count_is, r.within, r.matched.numbers_long))
-
-    pub places_kept : length places ≡ length ps
-    places_kept = ap length r.placed ∙ answered_long place_in (ran_to i).answers ps (omega (arith, count_is, r.within, r.matched.places_long))
 
     pub reporting_ends : length directions ≤ i → report (Ok reached) table numbers places ≡ run_calls s xs directions axes ns ps
     reporting_ends h =

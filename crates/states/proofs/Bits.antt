@@ -169,9 +169,3 @@ all_bits_in d t h =
     (ap (λ (x : ℕ). x / 2 ^ t % 2) e
     ∙ ap (λ (x : ℕ). x % 2) (high (2 ^ suc k - 1) t (ones_lt t))
     ∙ omega (arith, pow-suc 2 k, pow_pos k))
-
-pub all_bits_out : (d t : ℕ) → d ≤ t → has (2 ^ d - 1) t ≡ false
-unfolding has
-all_bits_out d t h =
-    let small : 2 ^ d - 1 < 2 ^ t = omega (arith, pow_mono {i = d} {j = t} h, pow_pos d) in
-    ap (λ (x : ℕ). eqb (x % 2) 1) (div-eq_of_lt small)

@@ -41,10 +41,8 @@ pub fn check_rates(table: &[i64]) -> Result<(), Refusal>
 fn first_rate(table: &[i64]) -> Result<(), Refusal>
     ensures { result ≡ check_rates table.now }
 {
-    for (p, v) in table.iter().enumerate() {
-        if !integers::is_rate(*v) {
-            return Err(Refusal::Rate(p as u64));
-        }
+    if let Some(p) = table.iter().position(|&v| !integers::is_rate(v)) {
+        return Err(Refusal::Rate(p as u64));
     }
     Ok(())
 }

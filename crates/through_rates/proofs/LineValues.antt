@@ -8,10 +8,10 @@ use Prim.Native.Nat.{ℕ, zero, suc, ◌+◌, ◌*◌, ◌<◌}
 use native.Mathlib.Nat.{one-mul, zero-mul}
 use native.Mathlib.Omega.{arith}
 use lib.Dec.{eqb}
+use Rattle.std.proofs.lemmas.Int.{ints}
 use lib.IntN.{ℤ, pos, ◌+ℤ◌, ◌*ℤ◌}
 use borrow.Author.Tests.{eq-eqb, ne_eqb}
 use Rattle.naturals.proofs.Cases.{eq_or_not, true_or_false}
-use Rattle.integers.proofs.Linear.{leaf, ◌⊕◌, equal, known}
 use Rattle.integers.proofs.Products.{times_cancel}
 use Rattle.numbering.specs.declared.Side.{Side}
 use Rattle.numbering.specs.declared.Side.TheVariants.{Left, Right}
@@ -139,15 +139,5 @@ module _ (s : Shape) (few : s.level < unit_bits) (t : ℕ) (axis : t < s.axes) w
       (λ r. rw r.coded (sum_there g r.point ∙ same r.point r.below r.line ∙ sym (sum_there h r.point)))
       (neighbour_on_line s t axis b q q_in) in
       let here : sum_at g (suc q) ≡ sum_at h (suc q) = sum_there g q ∙ same q q_in (itself s t q) ∙ sym (sum_there h q) in
-      let own : ℤ = h (suc q) *ℤ pos (unit + unit) in
-      let rest = leaf (sum_at g (neighbour s t Left (suc q))) ⊕ leaf (sum_at g (neighbour s t Right (suc q))) in
       times_cancel (g (suc q)) (h (suc q)) (unit + unit) (omega (arith, unit_pos))
-      (equal (leaf (g (suc q) *ℤ pos (unit + unit))) (leaf own)
-      (omega (
-        arith,
-        known (rest ⊕ leaf (g (suc q) *ℤ pos (unit + unit))) (rest ⊕ leaf own)
-            (sym (twice_sum g q q_in)
-            ∙ ap₂ ◌+ℤ◌ here here
-            ∙ twice_sum h q q_in
-            ∙ sym (ap₂ (λ (a b : ℤ). a +ℤ b +ℤ own) (beside Left) (beside Right))),
-      )))
+      (omega (arith, ints, twice_sum g q q_in, twice_sum h q q_in, here, beside Left, beside Right))

@@ -1,18 +1,18 @@
 -- What a turn answers, by the first check that refuses: that of the state, the table and the axis, that of the axis's bit, and that of the contents.
 -- Each case is the definition with its tests decided.
 -- Assumes nothing.
-use mathlib.Core.Path.{◌≡◌, refl, ap, ap₂, sym, ◌∙◌}
+use mathlib.Core.Path.{◌≡◌, ap, ap₂, sym, ◌∙◌}
 use mathlib.Core.Bool.{Bool, true, false}
 use mathlib.Core.List.{List}
 use Prim.Native.Nat.{ℕ, ◌-◌}
-use native.Mathlib.Omega.{arith}
 use lib.IntN.{ℤ}
 use lib.ListN.{length}
-use Rattle.std.specs.Prelude.{if◌then◌else◌, Ok, Err}
+use Rattle.std.specs.Prelude.{Ok, Err}
+use Rattle.naturals.proofs.Cases.{true_or_false}
 use Rattle.refusals.specs.declared.Refusal.{Refusal}
 use Rattle.refusals.specs.declared.Refusal.TheVariants.{Contents, AlreadyForward, NotForward}
 use Rattle.states.specs.declared.State.{State}
-use Rattle.states.specs.States.{has, marked, cleared}
+use Rattle.states.specs.States.{has, marked, cleared, toggled}
 use Rattle.states.specs.After.{after, kept}
 use Rattle.shapes.specs.Shapes.{points_of}
 use Rattle.grids.specs.Turned.{turned_table, former_table}
@@ -70,38 +70,30 @@ module _ (s : State) (xs : List ℤ) (axis : ℕ) where
 
   -- What the state that it leaves tells of the axis.
   forward_free : (next : State) → Ok next ≡ marked_as true s axis → (has s.forward (axis - 1) ≡ false) × (next ≡ marked s (axis - 1))
-  unfolding marked_as
-  forward_free next e = free (has s.forward (axis - 1)) refl e
-    where
-      free : (b : Bool) → has s.forward (axis - 1) ≡ b → Ok next ≡ (if b then Err (AlreadyForward axis) else Ok (marked s (axis - 1))) →
-          (has s.forward (axis - 1) ≡ false) × (next ≡ marked s (axis - 1))
-      free true h e = absurd (let z : ◌≡◌ {A = ℕ} 0 1 = cc in omega arith)
-      free false h e = (h, cc)
+  unfolding marked_as toggled
+  forward_free next e =
+      true_or_false (has s.forward (axis - 1))
+      (λ set. let never = rw set at e in absurd cc)
+      (λ clear. let same = rw clear at e in (clear, cc))
 
   back_there : (next : State) → Ok next ≡ marked_as false s axis → (has s.forward (axis - 1) ≡ true) × (next ≡ cleared s (axis - 1))
-  unfolding marked_as
-  back_there next e = there (has s.forward (axis - 1)) refl e
-    where
-      there : (b : Bool) → has s.forward (axis - 1) ≡ b → Ok next ≡ (if b then Ok (cleared s (axis - 1)) else Err (NotForward axis)) →
-          (has s.forward (axis - 1) ≡ true) × (next ≡ cleared s (axis - 1))
-      there true h e = (h, cc)
-      there false h e = absurd (let z : ◌≡◌ {A = ℕ} 0 1 = cc in omega arith)
+  unfolding marked_as toggled
+  back_there next e =
+      true_or_false (has s.forward (axis - 1))
+      (λ set. let same = rw set at e in (set, cc))
+      (λ clear. let never = rw clear at e in absurd cc)
 
   module _ (e : check_turn s (length xs) axis ≡ Ok tt) where
     pub turn_unmarked : (ahead : Bool) (r : Refusal) → Err r ≡ marked_as ahead s axis → turn_on ahead s xs axis ≡ kept xs r
     unfolding marked_as
-    turn_unmarked true r f = already (has s.forward (axis - 1)) refl f
-      where
-        already : (b : Bool) → has s.forward (axis - 1) ≡ b → Err r ≡ (if b then Err (AlreadyForward axis) else Ok (marked s (axis - 1))) →
-            forward_turn s xs axis ≡ kept xs r
-        already true h f = let same : r ≡ AlreadyForward axis = cc in rw same (forward_already s xs axis e h)
-        already false h f = absurd (let z : ◌≡◌ {A = ℕ} 0 1 = cc in omega arith)
-    turn_unmarked false r f = missing (has s.forward (axis - 1)) refl f
-      where
-        missing : (b : Bool) → has s.forward (axis - 1) ≡ b → Err r ≡ (if b then Ok (cleared s (axis - 1)) else Err (NotForward axis)) →
-            back_turn s xs axis ≡ kept xs r
-        missing true h f = absurd (let z : ◌≡◌ {A = ℕ} 0 1 = cc in omega arith)
-        missing false h f = let same : r ≡ NotForward axis = cc in rw same (back_not_forward s xs axis e h)
+    turn_unmarked true r f =
+        true_or_false (has s.forward (axis - 1))
+        (λ set. let same = rw set at f in let why : r ≡ AlreadyForward axis = cc in rw why (forward_already s xs axis e set))
+        (λ clear. let never = rw clear at f in absurd cc)
+    turn_unmarked false r f =
+        true_or_false (has s.forward (axis - 1))
+        (λ set. let never = rw set at f in absurd cc)
+        (λ clear. let same = rw clear at f in let why : r ≡ NotForward axis = cc in rw why (back_not_forward s xs axis e clear))
 
     module _ (long : length xs ≡ points_of s.shape) {next : State} where
       -- Past the limit before it, it is not accepted: back, the forward turn of the former table leads to this one.

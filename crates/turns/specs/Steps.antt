@@ -2,13 +2,13 @@
 -- Assumes nothing.
 use Rattle.refusals.specs.declared.Refusal.{Refusal}
 use Rattle.std.specs.Prelude.{Bool, true, false, List, ℕ, ◌-◌, ℤ, if◌then◌else◌, Result, Ok, Err}
-use Rattle.refusals.specs.declared.Refusal.TheVariants.{AlreadyForward, NotForward}
+use Rattle.refusals.specs.Checks.{answer}
 use Rattle.shapes.specs.declared.Shape.{Shape}
 use Rattle.grids.specs.Turned.{turned_table, former_table}
 use Rattle.states.specs.declared.State.{State}
 use Rattle.states.specs.After.{After}
-use Rattle.states.specs.States.{has, marked, cleared}
-use Rattle.turns.specs.Turns.{is_accepted, forward_turn, back_turn}
+use Rattle.states.specs.States.{toggled}
+use Rattle.turns.specs.Turns.{is_accepted, check_waits, forward_turn, back_turn}
 
 -- Whether it was carried out, and the table that it left.
 pub record Tried : Type 0 where
@@ -29,10 +29,9 @@ abbrev pub tried_on : Bool → Shape → ℕ → List ℤ → Tried
 tried_on true s t xs = forward_tried s t xs
 tried_on false s t xs = back_tried s t xs
 
--- The state that a turn leaves: forward, the axis is set, and refused with 15 where it was; back, it is cleared, and refused with 16 where it was not set.
+-- The state that a turn leaves: the bit of its axis is changed; refused where the axis does not wait for it.
 unfoldable pub marked_as : Bool → State → ℕ → Result State Refusal
-marked_as true s axis = if has s.forward (axis - 1) then Err (AlreadyForward axis) else Ok (marked s (axis - 1))
-marked_as false s axis = if has s.forward (axis - 1) then Ok (cleared s (axis - 1)) else Err (NotForward axis)
+marked_as ahead s axis = answer Err (check_waits ahead s axis) (Ok (toggled s (axis - 1)))
 
 -- The whole turn, as the two definitions have it.
 abbrev pub turn_on : Bool → State → List ℤ → ℕ → After

@@ -29,12 +29,13 @@ pub trait Turning: Direction {
         requires { TableOf line.shape (2 ^ 55) table.old }
         ensures { table.new ≡ whole_turn (not Self.ahead) line.shape line.place table.old };
 
-    // The state that it leaves; refused where the axis is turned already.
+    // The state that it leaves; refused where the axis is turned already. (One function for both would be handed the bit and the refusal, all that it does besides one call.)
     fn mark(state: State, axis: u32) -> Result<State, Refusal>
         requires { (1 ≤ axis) × (axis ≤ 8) }
         ensures { result ≡ marked_as Self.ahead state axis };
 }
 
+#[tactic(auto, unfolding(lists::specs::Lists::whole_turn, crate::specs::Steps::marked_as))]
 impl Turning for Forward {
     fn sweep(line: Line, table: &mut [i64]) -> u64 {
         sweeps::lower(line, table) // forward
@@ -52,6 +53,7 @@ impl Turning for Forward {
     }
 }
 
+#[tactic(auto, unfolding(lists::specs::Lists::whole_turn, crate::specs::Steps::marked_as))]
 impl Turning for Back {
     fn sweep(line: Line, table: &mut [i64]) -> u64 {
         sweeps::raise(line, table) // back

@@ -12,7 +12,7 @@ use lib.Seq.{ext_get_or}
 use borrow.Author.Tests.{eqb-true, eq-eqb}
 use Rattle.naturals.specs.Test.{all}
 use Rattle.naturals.proofs.Tests.{and_left, and_right, all_at, all_from}
-use Rattle.integers.proofs.Linear.{leaf, ◌⊕◌, ⊖◌, parts, equal, size}
+use Rattle.integers.proofs.Products.{no_difference}
 use Rattle.hierarchy.specs.Turns.{value_at, values_of}
 use Rattle.hierarchy.specs.Sets.{scaled, table_of, every_axis}
 use Rattle.hierarchy.proofs.Closed.{scaled_border}
@@ -35,11 +35,6 @@ quotient_of_scaled d r p = quotient_times d (r p)
 same_self : (xs : List ℤ) (p : ℕ) → same_at xs xs p ≡ true
 unfolding same_at
 same_self xs p = eq-eqb (nat_abs (value_at xs (suc p) -ℤ value_at xs (suc p))) 0 (ap nat_abs (+ℤ_invr (value_at xs (suc p))))
-
-no_difference : (a b : ℤ) → nat_abs (a -ℤ b) ≡ 0 → a ≡ b
-no_difference a b e =
-    let d = leaf a ⊕ ⊖ leaf b in
-    equal (leaf a) (leaf b) (omega (arith, parts d, size (a -ℤ b)))
 
 same_at_lem : (xs ys : List ℤ) (p : ℕ) → same_at xs ys p ≡ true → value_at xs (suc p) ≡ value_at ys (suc p)
 unfolding same_at

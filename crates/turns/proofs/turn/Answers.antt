@@ -2,11 +2,10 @@
 -- it is accepted, and its table is the one to leave.
 -- Assumes nothing.
 use Rattle.std.specs.Prelude.{Ok, Err}
-use mathlib.Core.Path.{◌≡◌, ap, sym, ◌∙◌}
+use mathlib.Core.Path.{◌≡◌, sym, ◌∙◌}
 use borrow.Author.Rules.{rules}
 use native.Mathlib.Omega.{arith}
 use lib.ListN.{length}
-use Rattle.states.specs.After.{after}
 use Rattle.turns.specs.Steps.{marked_as}
 use Rattle.turns.specs.Turns.{check_turn}
 use Rattle.turns.proofs.Answering.{turn_unchecked, turn_unmarked, turn_past, turn_refused, turn_done}
