@@ -10,6 +10,7 @@ use component_boxes::{count_points, points_across};
 use component_sweeps::Layout;
 use refusals::Refusal;
 use shapes::MOST_POINTS;
+use tables::Factor;
 
 // Refused with 1 or 2.
 fn check_levels(levels: &[u32]) -> Result<(), Refusal>
@@ -74,7 +75,8 @@ pub fn component_coefficients(levels: &[u32], table: &mut [i64]) -> Result<(), R
 {
     check_component(levels, table)?;
     let axes = levels.len() as u32;
-    tables::scale(axes, table);
+    let factor = Factor { axes };
+    factor.scale(table);
     component_order::in_order(&layout_of(levels), table);
     Ok(())
 }

@@ -56,21 +56,63 @@ pub fn check_rated(shape: Shape, table: &[i64]) -> Result<(), Refusal>
     check_rates(table)
 }
 
-// A rate times 2^d. (That d is at most 8 stands in each contract: a type for d would take the bound out of four lines, and put in its own making.)
-fn scaled(axes: u32, rate: i64) -> i64
-    requires { (axes ≤ 8) × (is_rate rate ≡ true) }
-    ensures { result ≡ times axes rate }
-{
-    rate * (1 << axes)
+// The factor 2^d between the rates and the values of a loaded table.
+#[derive(Clone, Copy)]
+pub struct Factor {
+    pub axes: u32,
+    ghost few: { axes ≤ 8 },
 }
 
-// Each rate times 2^d.
-pub fn scale(axes: u32, table: &mut [i64])
-    requires { (axes ≤ 8) × Passes (rate_at table.old) (length table.old) }
-    ensures { table.new ≡ map (times axes) table.old }
-{
-    for v in table.iter_mut() {
-        *v = scaled(axes, *v);
+impl Factor {
+    // A rate times 2^d.
+    fn times(self, rate: i64) -> i64
+        requires { is_rate rate ≡ true }
+        ensures { result ≡ times self.axes rate }
+    {
+        rate * (1 << self.axes)
+    }
+
+    // Each rate times 2^d.
+    pub fn scale(self, table: &mut [i64])
+        requires { Passes (rate_at table.old) (length table.old) }
+        ensures { table.new ≡ map (times self.axes) table.old }
+    {
+        for v in table.iter_mut() {
+            *v = self.times(*v);
+        }
+    }
+
+    // The value is 2^d times a rate.
+    fn is_scaled(self, v: i64) -> bool
+        ensures { result ≡ is_scaled self.axes v }
+    {
+        let rate = v >> self.axes;
+        integers::is_rate(rate) && self.times(rate) == v
+    }
+
+    // All values are 2^d times a rate, seen without a branch for each.
+    fn seen_scaled(self, table: &[i64]) -> bool
+        ensures { result ≡ true → Passes (scaled_at self.axes table.now) (length table.now) }
+    {
+        let axes = self.axes;
+        let bits = integers::gathered(31 + axes, table);
+        bits < 1 << (32 + axes) && bits % (1 << axes) == 0
+    }
+
+    // All values are 2^d times a rate. Where that is not seen for all together, they are looked at one by one.
+    fn all_scaled(self, table: &[i64]) -> bool
+        ensures { result ≡ all (scaled_at self.axes table.now) (length table.now) }
+    {
+        self.seen_scaled(table) || table.iter().all(|&v| self.is_scaled(v))
+    }
+
+    // Each value divided by 2^d.
+    fn divide(self, table: &mut [i64])
+        ensures { table.new ≡ map (quotient self.axes) table.old }
+    {
+        for v in table.iter_mut() {
+            *v >>= self.axes;
+        }
     }
 }
 
@@ -80,7 +122,8 @@ pub fn load(shape: Shape, table: &mut [i64]) -> Result<State, Refusal>
     ensures { after result table.new ≡ load shape table.old }
 {
     check_rated(shape, table)?;
-    scale(shape.axes, table);
+    let factor = Factor { axes: shape.axes };
+    factor.scale(table);
     Ok(State { shape, forward: 0 })
 }
 
@@ -118,42 +161,6 @@ fn check_sampled(checked: CheckedState) -> Result<(), Refusal>
     Ok(())
 }
 
-// The value is 2^d times a rate.
-fn is_scaled(axes: u32, v: i64) -> bool
-    requires { axes ≤ 8 }
-    ensures { result ≡ is_scaled axes v }
-{
-    let rate = v >> axes;
-    integers::is_rate(rate) && scaled(axes, rate) == v
-}
-
-// All values are 2^d times a rate, seen without a branch for each.
-fn seen_scaled(axes: u32, table: &[i64]) -> bool
-    requires { axes ≤ 8 }
-    ensures { result ≡ true → Passes (scaled_at axes table.now) (length table.now) }
-{
-    let bits = integers::gathered(31 + axes, table);
-    bits < 1 << (32 + axes) && bits % (1 << axes) == 0
-}
-
-// All values are 2^d times a rate. Where that is not seen for all together, they are looked at one by one.
-fn all_scaled(axes: u32, table: &[i64]) -> bool
-    requires { axes ≤ 8 }
-    ensures { result ≡ all (scaled_at axes table.now) (length table.now) }
-{
-    seen_scaled(axes, table) || table.iter().all(|&v| is_scaled(axes, v))
-}
-
-// Each value divided by 2^d.
-fn divide(axes: u32, table: &mut [i64])
-    requires { axes ≤ 8 }
-    ensures { table.new ≡ map (quotient axes) table.old }
-{
-    for v in table.iter_mut() {
-        *v >>= axes;
-    }
-}
-
 // Unload: a table with no axis forward becomes rates.
 #[tactic(auto, unfolding(crate::specs::Tables::unload))]
 pub fn unload(state: State, table: &mut [i64]) -> Result<(), Refusal>
@@ -161,10 +168,12 @@ pub fn unload(state: State, table: &mut [i64]) -> Result<(), Refusal>
 {
     let checked = state.check(table.len())?;
     check_sampled(checked)?;
-    let axes = state.shape.axes;
-    if !all_scaled(axes, table) {
+    let factor = Factor {
+        axes: state.shape.axes,
+    };
+    if !factor.all_scaled(table) {
         return Err(Refusal::Contents);
     }
-    divide(axes, table);
+    factor.divide(table);
     Ok(())
 }

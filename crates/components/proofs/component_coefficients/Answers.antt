@@ -20,11 +20,12 @@ accepted c = passed_accepted _ _ (sym c.in_ok-check_component.ensures)
 pub overflow_cast-axes : goal.overflow_cast-axes
 overflow_cast-axes c = omega (arith, (levels_passed _ (grid_levels _ (accepted (goal.at.overflow_cast-axes c).In_ok-check_component).grid)).high)
 
+pub invariant_of-factor : goal.invariant_of-factor
+invariant_of-factor c =
+    record { few = omega (arith, (levels_passed _ (grid_levels _ (accepted (goal.at.invariant_of-factor c).In_ok-check_component).grid)).high) }
+
 pub scale-requires : goal.scale-requires
-scale-requires c = (
-  omega (arith, (levels_passed _ (grid_levels _ (accepted (goal.at.scale-requires c).In_ok-check_component).grid)).high),
-  accepted_rates _ _ (accepted (goal.at.scale-requires c).In_ok-check_component),
-)
+scale-requires c = accepted_rates _ _ (accepted (goal.at.scale-requires c).In_ok-check_component)
 
 pub layout_of-requires : goal.layout_of-requires
 layout_of-requires c = (accepted (goal.at.layout_of-requires c).In_ok-check_component).grid

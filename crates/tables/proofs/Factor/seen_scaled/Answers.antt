@@ -1,16 +1,16 @@
--- `tables::seen_scaled` meets its contract: what is gathered is in range and divided by 2^d only where all that it is gathered of are.
+-- `Factor::seen_scaled` meets its contract: what is gathered is in range and divided by 2^d only where all that it is gathered of are.
 -- Assumes nothing.
 use Rattle.std.proofs.Common.{◌≡◌, ℕ, ◌+◌, ◌*◌, ◌<◌, ◌%◌, ◌^◌, ap, sym, ◌∙◌, pos, get_or, arith, eqb-true}
 use Rattle.naturals.proofs.Shifts.{one_shifted}
 use Rattle.hierarchy.proofs.Values.{value_suc}
 use Rattle.tables.specs.Tables.{is_scaled, scaled_at}
 use Rattle.tables.proofs.Divisible.{scaled_within}
-use Rattle.tables.proofs.seen_scaled.Goals as goal
+use Rattle.tables.proofs.Factor.seen_scaled.Goals as goal
 
 pub returns-then-bits-axes : goal.returns-then-bits-axes
 unfolding scaled_at
 returns-then-bits-axes c e p h =
-    let d = c.args.axes in
+    let d = c.args.self.axes in
     let xs = c.args.table.now in
     let bits = c.gathered-bits.result in
     let small : bits < 2 ^ (31 + d + 1) =

@@ -6,25 +6,23 @@ use Rattle.integers.specs.Half.{is_rate}
 use Rattle.hierarchy.proofs.Values.{value_suc}
 use Rattle.tables.specs.Tables.{times, rate_at}
 use Rattle.tables.proofs.Mapping.{next_value}
-use Rattle.tables.proofs.scale.Goals as goal
+use Rattle.tables.proofs.Factor.scale.Goals as goal
 
 -- the value read is still the rate that it was
-pub scaled-requires : goal.scaled-requires
+pub times-requires : goal.times-requires
 unfolding rate_at
-scaled-requires c =
+times-requires c =
     let xs = c.args.table.now in
     let loop = c.loop-v in
-    let read = to_z-of_z w64 (get_or loop.table loop.v-index (pos 0)) (search rules) in (
-      omega arith,
-      ap is_rate (read ∙ next_value (times c.args.axes) xs loop.table loop.v-index c.loop-v-test.true loop.invariant ∙ sym (value_suc xs loop.v-index))
-          ∙ c.requires.1 loop.v-index (omega arith),
-    )
+    let read = to_z-of_z w64 (get_or loop.table loop.v-index (pos 0)) (search rules) in
+    ap is_rate (read ∙ next_value (times c.args.self.axes) xs loop.table loop.v-index c.loop-v-test.true loop.invariant ∙ sym (value_suc xs loop.v-index))
+    ∙ c.requires loop.v-index (omega arith)
 
 pub loop-v-preserved : goal.loop-v-preserved
 loop-v-preserved c =
     let loop = c.loop-v in
     let value = get_or loop.table loop.v-index (pos 0) in
-    let written = to_z-of_z w64 c.scaled.result (record { sfits = c.scaled.type_inv }) ∙ c.scaled.ensures ∙ ap (times c.args.axes) (to_z-of_z w64 value (search rules)) in
+    let written = to_z-of_z w64 c.times.result (record { sfits = c.times.type_inv }) ∙ c.times.ensures ∙ ap (times c.args.self.axes) (to_z-of_z w64 value (search rules)) in
     rw written
-    (map_over_more (times c.args.axes) c.args.table.now loop.table loop.v-index value c.loop-v-test.true loop.invariant
+    (map_over_more (times c.args.self.axes) c.args.table.now loop.table loop.v-index value c.loop-v-test.true loop.invariant
     (get_or_default loop.table loop.v-index (pos 0) value (omega arith)))
