@@ -1,10 +1,9 @@
 -- `evaluation::Hat::at` meets its contract: the index of the cell is one of its level.
 -- Assumes nothing.
-use Rattle.std.proofs.Common.{◌≡◌, ℕ, suc, ◌^◌, ◌<◌, arith, pow_mono, ap, ap₂, ◌∙◌}
+use Rattle.std.proofs.Common.{ℕ, suc, ◌^◌, ◌<◌, arith, pow_mono, ap, ap₂, ◌∙◌}
 use Rattle.surfaces.specs.Weights.{unit, weight}
 use Rattle.axis_weights.specs.Steps.{index_of_cell}
 use Rattle.axis_weights.proofs.Weighing.{index_below}
-use Rattle.evaluation.specs.declared.Hat.{Hat}
 use Rattle.evaluation.proofs.Hat.at.Goals.{After-cell-cell}
 use Rattle.evaluation.proofs.Hat.at.Goals as goal
 
