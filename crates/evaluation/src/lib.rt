@@ -24,6 +24,7 @@ struct Hat {
 
 impl Hat {
     // That of a coordinate at a level.
+    #[tactic(auto, using(axis_weights::proofs::Weighing::index_below, axis_weights::proofs::Weighing::cell_small))]
     fn at(coordinate: Coordinate, level: u32) -> Hat
         requires { level ≤ 8 }
         ensures { result ≡ hat_at coordinate.x level }

@@ -5,7 +5,7 @@ use native.Mathlib.Omega.{arith}
 use lib.ListN.{length, get_or}
 use Rattle.std.proofs.Common.{rules}
 use Rattle.std.proofs.lemmas.List.{length_push}
-use Rattle.std.proofs.lemmas.Slice.Zip.{zip_turn, zip_end}
+use Rattle.std.proofs.lemmas.Slice.Zip.{zip_turn}
 use Rattle.numbering.specs.Point.{at}
 use Rattle.surfaces.specs.Weights.{unit}
 use Rattle.surfaces.proofs.Unit.{unit_bits, unit_is}
@@ -65,11 +65,3 @@ loop-axis-preserved c =
     let weight = weight_at c.args.hats.now (at c.args.levels.now) (length l.yielded) in
     rw (length_push l.yielded (c.in-Some.axis, c.in-Some.level), here.1, here.2)
     (record { axis = next.axis; total = next.total; packed = next.packed; weighed = shifted (l.joint * weight) ∙ next.weighed })
-
-pub returns : goal.returns
-returns c =
-    let a = c.args in
-    let loop = c.loop-axis in
-    let all = zip_end a.hats.now a.levels.now loop.yielded c.into_iter-axis-iterator.result loop.axis-iterator c.next.new.self c.next.result (search rules) (search rules) loop.yielded_by c.in-None.is c.next.ensures.steps in
-    let passed : length loop.yielded ≡ length a.hats.now = omega (arith, all, c.told-levels, c.requires.0.few) in
-    (rw passed at loop.invariant.packed, rw passed at loop.invariant.weighed)
