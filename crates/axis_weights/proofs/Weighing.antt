@@ -5,7 +5,7 @@ use Prim.Native.Nat.{ℕ, suc, ◌+◌, ◌*◌, ◌/◌, ◌%◌, ◌^◌, ◌�
 use native.Mathlib.Nat.{suc-mul, mul_comm, mul-le-mul_right, pow-suc, div-lt_iff_lt-mul}
 use native.Mathlib.Numerals.{add-one}
 use native.Mathlib.Omega.{arith}
-use lib.Pow.{pow_pos, shl_exact}
+use lib.Pow.{pow_pos, pow_mono, shl_exact}
 use borrow.Author.Tests.{lt-ltb, le-ltb}
 use Rattle.std.specs.Int.{abs_diff}
 use Rattle.naturals.proofs.Cases.{le_or_lt}
@@ -50,3 +50,6 @@ module _ (x l : ℕ) where
 
   pub index_below : index_of_cell (cell_of x l) < 2 ^ suc l
   index_below = omega (arith, cell_below, pow-suc 2 l)
+
+  pub cell_small : l ≤ 8 → cell_of x l < 256
+  cell_small low = omega (arith, cell_below, pow_mono {i = l} {j = 8} low)

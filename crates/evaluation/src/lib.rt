@@ -24,6 +24,7 @@ struct Hat {
 
 impl Hat {
     // That of a coordinate at a level.
+    #[tactic(auto, using(axis_weights::proofs::Weighing::index_below, axis_weights::proofs::Weighing::cell_small))]
     fn at(coordinate: Coordinate, level: u32) -> Hat
         requires { level ≤ 8 }
         ensures { result ≡ hat_at coordinate.x level }
@@ -67,12 +68,11 @@ fn taken(hats: &[[Hat; 9]], levels: &[u32; 8]) -> Term
     let mut position: u64 = 0;
     let mut joint: u64 = 1 << BITS;
     let mut sum: u32 = 0;
-    for (t, axis) in hats.iter().enumerate() {
-        let level = levels[t];
-        let hat = axis[level as usize];
+    for (axis, level) in hats.iter().zip(levels) {
+        let hat = axis[*level as usize];
         position += hat.cell << sum;
         joint = (joint * hat.weight) >> BITS;
-        sum += level;
+        sum += *level;
     }
     Term { position, joint }
 }

@@ -5,5 +5,5 @@ use Rattle.numbering.specs.Point.{at}
 use Rattle.evaluation.proofs.Taking.{Taken}
 use Rattle.evaluation.proofs.taken.Given as goal
 
-abbrev pub invariant-loop-t : goal.invariant-loop-t
-invariant-loop-t l = Taken l.hats (at l.levels) (length l.hats) l.t l.position l.joint l.sum
+abbrev pub invariant-loop-axis : goal.invariant-loop-axis
+invariant-loop-axis l = Taken l.hats (at l.levels) (length l.hats) (length l.yielded) l.position l.joint l.sum
