@@ -89,19 +89,9 @@ fn place(list: &[u32], t: usize) -> u32
     list.get(t).copied().unwrap_or(0)
 }
 
-// The first eight numbers of a list, with zeros past its end. (`array::from_fn` was tried: its clause knows each value by the closure's state at that call, and
-// that all eight states are one did not close.)
+// The first eight numbers of a list, with zeros past its end.
 pub fn padded(list: &[u32]) -> [u32; 8]
     ensures { result ≡ eight (at list.now) }
 {
-    [
-        place(list, 0),
-        place(list, 1),
-        place(list, 2),
-        place(list, 3),
-        place(list, 4),
-        place(list, 5),
-        place(list, 6),
-        place(list, 7),
-    ]
+    std::array::from_fn(|t| place(list, t))
 }
