@@ -4,3 +4,4 @@ pub mod Cases
 pub mod Summed
 pub mod Shifts
 pub mod FirstFailing
+pub mod Made

@@ -3,4 +3,3 @@ pub mod PointTest
 pub mod Tested
 pub mod Passed
 pub mod Handed
-pub mod Made

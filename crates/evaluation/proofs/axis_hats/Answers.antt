@@ -3,7 +3,7 @@
 use Rattle.std.proofs.Common.{rules, ◌≡◌, ℕ}
 use Rattle.evaluation.specs.declared.Hat.{Hat}
 use Rattle.evaluation.specs.Steps.{no_hat, hat_at}
-use Rattle.evaluation.proofs.Tabulating.{made}
+use Rattle.naturals.proofs.Made.{made}
 use Rattle.evaluation.proofs.axis_hats.Goals as goal
 
 pub returns : goal.returns

@@ -3,7 +3,7 @@
 use Rattle.std.proofs.Common.{rules, ◌≡◌, ℕ}
 use Rattle.numbering.specs.Point.{at}
 use Rattle.points.proofs.Eight.{eight_ext}
-use Rattle.points.proofs.Made.{made}
+use Rattle.naturals.proofs.Made.{made}
 use Rattle.points.proofs.padded.Goals as goal
 
 pub returns : goal.returns
