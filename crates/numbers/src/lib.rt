@@ -20,7 +20,7 @@ use vectors::LevelVector;
 
 // ---- from point to number
 
-// The rank of a level vector: two entries of the table for each axis. (By index: t + 1 axes are asked for too, as a number of 32 bits.)
+// The rank of a level vector: two entries of the table for each axis. (The index also counts the axes, for the table: an enumerate would need it cast back.)
 fn vector_rank(rows: &Rows, vector: &LevelVector) -> u64
     requires { vector.now.sum ≤ 8 }
     ensures { result ≡ rank (at vector.now.levels) vector.now.axes }
@@ -96,7 +96,7 @@ fn block_at<F: Fn(u32) -> u64>(last: u32, place: u64, size: F) -> (u32, u64)
     (last, rest)
 }
 
-// The level vector of this rank and level sum, from the last axis down.
+// The level vector of this rank and level sum, from the last axis down. (The index is also the number of axes that are left, which the table is asked for.)
 fn levels_of(rows: &Rows, axes: u32, sum: u32, rank: u64) -> LevelVector
     requires { (1 ≤ axes) × (axes ≤ 8) × (sum ≤ 8) × (rank < vectors axes sum) }
     ensures { (result.axes ≡ axes) × (result.sum ≡ sum) × (result.levels ≡ eight (level_of axes sum rank)) }
@@ -123,6 +123,7 @@ pub fn low_bits(x: u64, bits: u32) -> u64
 }
 
 // The indices at a position among the points of a level vector: the digits of the position, axis 1 lowest, l_t bits for axis t.
+// (A zip with `iter_mut` was tried, and its proof did not close: past such a loop nothing is known of what it wrote.)
 fn indices_of(vector: &LevelVector, position: u64) -> [u32; 8]
     requires { vector.now.sum ≤ 8 }
     ensures { result ≡ eight (indices_of vector.now.axes (at vector.now.levels) position) }
