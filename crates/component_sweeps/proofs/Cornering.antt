@@ -11,7 +11,7 @@ use Rattle.naturals.proofs.Cases.{eq_or_not}
 use Rattle.naturals.proofs.Shifts.{one_shifted}
 use Rattle.numbering.specs.Point.{at}
 use Rattle.component_grids.specs.Component.{points_to, place_at}
-use Rattle.component_grids.proofs.Places.{Shifted, shift_down}
+use Rattle.component_grids.proofs.Places.{shift_down}
 use Rattle.component_boxes.specs.Order.{half_span}
 use Rattle.component_boxes.proofs.Falling.{points_before}
 use Rattle.component_boxes.proofs.WholeGrid.{half_span_zero, half_span_suc, half_span_inside}

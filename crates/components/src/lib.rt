@@ -25,6 +25,7 @@ fn check_levels(levels: &[u32]) -> Result<(), Refusal>
 }
 
 // Refused with 1, 2 or 19.
+#[tactic(auto, unfolding(crate::specs::Components::check_grid))]
 fn check_grid(levels: &[u32]) -> Result<(), Refusal>
     ensures { result ≡ check_grid levels.now }
 {

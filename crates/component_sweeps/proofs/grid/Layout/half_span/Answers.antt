@@ -1,4 +1,4 @@
-use Rattle.std.proofs.Common.{◌≡◌, ℕ, ◌*◌, ◌<◌, ◌≤◌, sym, ◌∙◌, length, take, get_or, rules, arith}
+use Rattle.std.proofs.Common.{◌≡◌, ◌<◌, sym, ◌∙◌, length, take, rules, arith}
 use Rattle.std.proofs.lemmas.List.{length_push, get_or-take}
 use Rattle.std.proofs.lemmas.Slice.Zip.{zip_turn}
 use lib.Pow.{pow_pos}
