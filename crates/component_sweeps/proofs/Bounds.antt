@@ -1,5 +1,6 @@
 -- How large the numbers of a turn are: a grid has at most 32,768 points and top levels of at most 8, so strides, places and reaches are small.
 -- Assumes nothing.
+use mathlib.Core.Path.{◌≡◌, ap, ◌∙◌}
 use Prim.Native.Nat.{ℕ, suc, ◌*◌, ◌^◌, ◌≤◌, ◌<◌}
 use native.Mathlib.Nat.{mul-le-mul, mul-le-mul_right}
 use native.Mathlib.Omega.{arith}
@@ -40,6 +41,9 @@ ground b t axis =
 
 pub known : (w : Sweep) → Ground (turn w)
 known w = ground w.on.of w.on.axis w.on.inside
+
+pub half_is : (w : Sweep) → w.half ≡ 2 ^ at w.on.of.levels w.on.axis
+half_is w = w.half_is ∙ ap (λ (k : ℕ). 2 ^ k) w.level_is
 
 pub unit_near : (box : GridBox) (t : ℕ) (b : Spread) → Covers box t b → b.unit ≤ 32768
 unit_near box t b so =

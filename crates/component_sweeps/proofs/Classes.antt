@@ -21,7 +21,7 @@ use Rattle.component_sweeps.specs.SweepSteps.{turn, Class, InClass}
 use Rattle.component_sweeps.proofs.Apart.{Apart, turned_none, turned_same, limited_next, turned_both}
 use Rattle.component_sweeps.proofs.Reaching.{OddTimes, odd_times, reach_odd, odd_near, odd_next, even_times, odd_first, odd_after, reach_grows}
 use Rattle.component_sweeps.proofs.Lines.{box_low, box_high, kinds_apart, band_can, band_turned}
-use Rattle.component_sweeps.proofs.Bounds.{known, times_most, stride_most, half_most, end_most}
+use Rattle.component_sweeps.proofs.Bounds.{known, half_is, times_most, stride_most, half_most, end_most}
 
 -- The places of that reach before x.
 abbrev pub Passed : ℕ → ℕ → ℕ → Type 0
@@ -59,13 +59,13 @@ module _ (w : Sweep) (q reach : ℕ) (xs : List ℤ) where
 
     low_is : low + 2 ^ g.levels t ≡ middle g t
     low_is =
-        omega (arith, w.place_is, w.half_is, box_low g (known w) t axis)
+        omega (arith, w.place_is, half_is w, box_low g (known w) t axis)
 
     high_is : high ≡ middle g t + 2 ^ g.levels t
-    high_is = omega (arith, w.place_is, w.half_is)
+    high_is = omega (arith, w.place_is, half_is w)
 
     pub half_fits : w.half ≤ w.place
-    half_fits = omega (arith, w.place_is, w.half_is, box_low g (known w) t axis)
+    half_fits = omega (arith, w.place_is, half_is w, box_low g (known w) t axis)
 
     pub reach_some : 1 ≤ reach
     reach_some = omega (arith, reach_is, pow_pos level)

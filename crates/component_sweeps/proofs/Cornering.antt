@@ -3,14 +3,15 @@
 -- Assumes nothing.
 use mathlib.Core.List.{List}
 use mathlib.Core.Path.{◌≡◌, refl, ap₂, sym, ◌∙◌}
-use Prim.Native.Nat.{ℕ, zero, suc, ◌+◌, ◌-◌, ◌*◌, ◌^◌, ◌≤◌, ◌<◌}
+use Prim.Native.Nat.{ℕ, zero, suc, ◌+◌, ◌-◌, ◌*◌, ◌%◌, ◌^◌, ◌≤◌, ◌<◌}
 use native.Mathlib.Numerals.{add-one}
 use native.Mathlib.Omega.{arith}
 use lib.Pow.{pow_pos}
 use Rattle.naturals.proofs.Cases.{eq_or_not}
+use Rattle.naturals.proofs.Shifts.{one_shifted}
 use Rattle.numbering.specs.Point.{at}
 use Rattle.component_grids.specs.Component.{points_to, place_at}
-use Rattle.component_grids.proofs.Places.{Shifted, shift_down}
+use Rattle.component_grids.proofs.Places.{shift_down}
 use Rattle.component_boxes.specs.Order.{half_span}
 use Rattle.component_boxes.proofs.Falling.{points_before}
 use Rattle.component_boxes.proofs.WholeGrid.{half_span_zero, half_span_suc, half_span_inside}
@@ -25,6 +26,9 @@ use Rattle.component_sweeps.proofs.Bounds.{ground}
 module _ (g : Layout) (ls : List ℕ) (within : (t : ℕ) → t < g.axes → at ls t ≤ at g.tops t) where
   pub level_low : (t : ℕ) → t < g.axes → at ls t ≤ 8
   level_low t axis = omega (arith, within t axis, g.low t)
+
+  pub shifted : (t : ℕ) → t < g.axes → {level : ℕ} → level ≡ at ls t → 1 * 2 ^ level % 2 ^ 64 ≡ 2 ^ at ls t
+  shifted t axis {level} is = rw is (one_shifted 64 (at ls t) (omega (arith, level_low t axis)))
 
   module _ (t span : ℕ) (is : span ≡ half_span t (tops_of g) (at ls)) (axis : t < g.axes) (half : ℕ) (half_is : half ≡ 2 ^ at ls t) where
     pub spanned_next : span + (half - 1) * at g.strides t ≡ half_span (t + 1) (tops_of g) (at ls)

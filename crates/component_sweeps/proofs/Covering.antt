@@ -1,7 +1,6 @@
 -- The band that the code makes has the box's points on the axes passed: each step of it is one of those of `Widths`, by the strides and sizes that the code reads.
 -- The points of an axis lie within those of the next stride, so no number outgrows the grid.
 -- Assumes nothing.
-use mathlib.Core.List.{List}
 use mathlib.Core.Path.{◌≡◌, ap, sym, ◌∙◌}
 use Prim.Native.Nat.{ℕ, suc, ◌+◌, ◌*◌, ◌≤◌, ◌<◌}
 use native.Mathlib.Nat.{mul_comm, mul_assoc, mul-pos, mul-le-mul_right}

@@ -4,8 +4,8 @@
 -- Assumes nothing.
 use mathlib.Core.List.{List}
 use mathlib.Core.Logic.{inl, inr}
-use mathlib.Core.Path.{◌≡◌, refl, ap, sym, ◌∙◌}
-use Prim.Native.Nat.{ℕ, suc, ◌+◌, ◌-◌, ◌*◌, ◌^◌, ◌≤◌, ◌<◌}
+use mathlib.Core.Path.{◌≡◌, ap, sym, ◌∙◌}
+use Prim.Native.Nat.{ℕ, ◌+◌, ◌-◌, ◌*◌, ◌^◌, ◌≤◌, ◌<◌}
 use native.Mathlib.Nat.{pow-suc}
 use native.Mathlib.Numerals.{add-one}
 use native.Mathlib.Omega.{arith}
@@ -24,7 +24,7 @@ use Rattle.component_sweeps.specs.SweepSteps.{turn, Class, InClass, Line, InLine
 use Rattle.component_sweeps.proofs.Apart.{Apart, turned_none, limited_next, turned_both}
 use Rattle.component_sweeps.proofs.Reaching.{reach_grows, reach_less, middle_only}
 use Rattle.component_sweeps.proofs.Lines.{box_low, kinds_apart, band_can, band_turned, band_still}
-use Rattle.component_sweeps.proofs.Bounds.{known, times_most, stride_most, half_most, end_most}
+use Rattle.component_sweeps.proofs.Bounds.{known, half_is, times_most, stride_most, half_most, end_most}
 
 -- A w.place that reaches less far.
 abbrev pub Finer : ℕ → ℕ → Type 0
@@ -49,13 +49,13 @@ module _ (w : Sweep) (q : ℕ) (xs : List ℤ) where
 
     pub half_fits : (w.half ≤ w.place) × (w.half ≤ 256) × (w.place ≤ 512)
     half_fits = (
-      omega (arith, w.half_is, w.place_is, box_low g (known w) t axis),
-      omega (arith, w.half_is, half_most g (known w) t axis),
+      omega (arith, half_is w, w.place_is, box_low g (known w) t axis),
+      omega (arith, half_is w, half_most g (known w) t axis),
       omega (arith, w.place_is, place_high g.tops g.centre t, end_most g (known w) t),
     )
 
     pub half_some : 1 ≤ w.half
-    half_some = omega (arith, w.half_is, pow_pos (g.levels t))
+    half_some = omega (arith, half_is w, pow_pos (g.levels t))
 
     pub own_most : w.reach ≤ w.place
     own_most =
@@ -91,7 +91,7 @@ module _ (w : Sweep) (q : ℕ) (xs : List ℤ) where
       r = 2 ^ level
 
       refining_most : r ≤ w.half
-      refining_most = omega (arith, w.half_is, pow_mono {i = level} {j = g.levels t} s.most)
+      refining_most = omega (arith, half_is w, pow_mono {i = level} {j = g.levels t} s.most)
 
       double : 2 ^ (level + 1) ≡ r + r
       double = rw (add-one level) (omega (arith, pow-suc 2 level))
@@ -140,10 +140,10 @@ module _ (w : Sweep) (q : ℕ) (xs : List ℤ) where
       -- The middle.
       module _ (all : g.levels t ≤ level) where
         whole : w.half ≤ r
-        whole = omega (arith, w.half_is, pow_mono {i = g.levels t} {j = level} all)
+        whole = omega (arith, half_is w, pow_mono {i = g.levels t} {j = level} all)
 
         h_is : w.place ≡ place_on g q t + (w.half - 1)
-        h_is = omega (arith, of.first.own, w.half_is, w.place_is, half_some)
+        h_is = omega (arith, of.first.own, half_is w, w.place_is, half_some)
 
         inside : w.place < middle g t + 2 ^ g.levels t
         inside = omega (arith, w.place_is, pow_pos (g.levels t))
@@ -152,7 +152,7 @@ module _ (w : Sweep) (q : ℕ) (xs : List ℤ) where
         far =
             omega (
               arith,
-              w.half_is,
+              half_is w,
               reach_multiple (g.levels t) (times_on g.axes g.tops g.levels g.centre t) w.place
                   (omega (arith, w.place_is, place_low g.tops g.centre t))
                   (w.place_is ∙ on_multiple g.axes g.tops g.levels g.centre (known w).fits t axis),
@@ -184,7 +184,7 @@ module _ (w : Sweep) (q : ℕ) (xs : List ℤ) where
                   middle_only (g.levels t) (times_on g.axes g.tops g.levels g.centre t) y (place_low g.tops p t)
                   (omega (arith, row.near.low t axis, on_multiple g.axes g.tops g.levels g.centre (known w).fits t axis))
                   (omega (arith, row.near.high t axis, on_multiple g.axes g.tops g.levels g.centre (known w).fits t axis))
-                  (omega (arith, w.half_is))
+                  (omega (arith, half_is w))
                   ∙ sym (on_multiple g.axes g.tops g.levels g.centre (known w).fits t axis)
                   ∙ sym w.place_is;
             }))

@@ -6,7 +6,7 @@ use Rattle.numbering.specs.Point.{at}
 use Rattle.numbering.specs.Parent.{twos}
 use Rattle.hierarchy.specs.Turns.{value_at, forward}
 use Rattle.shapes.specs.Shapes.{most_points}
-use Rattle.component_grids.specs.Component.{across, points_to, place_at, neighbour}
+use Rattle.component_grids.specs.Component.{points_to, place_at, neighbour}
 use Rattle.component_boxes.specs.Boxes.{Near, Fits}
 use Rattle.component_sweeps.specs.declared.Parents.{Parents}
 use Rattle.component_sweeps.specs.declared.axis.Spread.{Spread}

@@ -27,7 +27,7 @@ pub struct BoxAxis<'a> {
 }
 
 // An axis of a box as it is turned: how the box's lines are worked together; and of the axis how far two places that follow each other lie apart, where it ends, the place of
-// the box's middle point, and how far on either side the box and the middle point itself reach.
+// the box's middle point, the box's level, and how far on either side the box and the middle point itself reach.
 #[derive(Clone, Copy)]
 pub struct Sweep<'a> {
     pub on: BoxAxis<'a>,
@@ -35,12 +35,14 @@ pub struct Sweep<'a> {
     pub stride: usize,
     pub end: usize,
     pub place: usize,
+    pub level: u32,
     pub half: usize,
     pub reach: usize,
     ghost covers: { ∥ Covers on.of on.axis spread ∥₁ },
     ghost stride_is: { stride ≡ points_to (tops_of on.of.grid.now) on.axis },
     ghost end_is: { end ≡ 2 ^ suc (at on.of.grid.now.tops on.axis) },
     ghost place_is: { place ≡ place_at (tops_of on.of.grid.now) on.of.centre on.axis },
-    ghost half_is: { half ≡ 2 ^ at on.of.levels on.axis },
+    ghost level_is: { level ≡ at on.of.levels on.axis },
+    ghost half_is: { half ≡ 2 ^ level },
     ghost reach_is: { reach ≡ 2 ^ twos place },
 }

@@ -99,7 +99,7 @@ impl Sweep<'_> {
         requires { Line self.now q table.old }
         ensures { Turned (turn self.now) (InLine self.now q) table.old table.new }
     {
-        for level in 0..self.on.of.levels[self.on.axis] {
+        for level in 0..self.level {
             self.class(table, q, level);
         }
         if self.place == self.reach && self.place + self.reach == self.end {
@@ -140,8 +140,8 @@ impl Layout {
         ensures { result ≡ half_span self.now.axes (tops_of self.now) (at levels.now) }
     {
         let mut span = 0;
-        for t in 0..self.axes {
-            span += ((1 << levels[t]) - 1) * self.strides[t];
+        for (level, stride) in levels[..self.axes].iter().zip(&self.strides) {
+            span += ((1 << *level) - 1) * *stride;
         }
         span
     }
@@ -235,6 +235,7 @@ impl GridBox<'_> {
         let stride = self.grid.strides[axis];
         let end: usize = 2 << self.grid.tops[axis];
         let place = self.centre / stride % (end - 1) + 1;
+        let level = self.levels[axis];
         let on = BoxAxis { of: *self, axis };
         let sweep = Sweep {
             on,
@@ -242,7 +243,8 @@ impl GridBox<'_> {
             stride,
             end,
             place,
-            half: 1 << self.levels[axis],
+            level,
+            half: 1 << level,
             reach: 1 << place.trailing_zeros(),
         };
         sweep.rows(table, self.grid.axes, self.corner());

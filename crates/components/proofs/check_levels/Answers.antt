@@ -3,7 +3,6 @@
 use Rattle.std.proofs.Common.{◌≡◌, refl, ◌&&◌, rules, tests, sym, ◌∙◌, length}
 use Rattle.std.proofs.lemmas.Iterator.{YieldsList-from_slice}
 use Rattle.std.proofs.lemmas.Iterator.Search.{all_from_yields_List}
-use native.Mathlib.Omega.{arith}
 use lib.Dec.{leb}
 use Rattle.naturals.specs.Test.{all}
 use Rattle.integers.proofs.Tables.{all_list}

@@ -1,5 +1,6 @@
 -- `GridBox::sweep` meets its contract: the rows from the box's first position on are all its points, in whichever bands they are worked.
 -- Assumes nothing.
+use mathlib.Core.Path.{refl}
 use Rattle.component_sweeps.proofs.Sweeping.{stride_some, end_shifted, place_of, half_shifted, reach_shifted, rows_of}
 use Rattle.component_sweeps.proofs.grid.GridBox.sweep.Goals as goal
 
@@ -16,6 +17,7 @@ invariant_of-sweep c =
       stride_is = b.grid.now.laid _ on;
       end_is = end_is;
       place_is = place_of b _ on _ end_is;
+      level_is = refl;
       half_is = half_shifted b _ on;
       reach_is = reach_shifted b _ on _ end_is;
     }
