@@ -6,7 +6,6 @@ use lib.ListN.{length, drop, length-drop}
 use lib.Seq.{take_all}
 use Rattle.house_numbers.proofs.Gathering.{gathered_starts}
 use Rattle.house_numbers.proofs.CheckedNumbers.{none_there, here_fits, here_goes_on, byte_there, four_gathered, fifth_fits, fifth_refused, fifth_small}
-use Rattle.house_numbers.proofs.long_number.Goals.{After-refuses-2, After-from-fifth}
 use Rattle.house_numbers.proofs.long_number.Goals as goal
 
 pub loop-place-init : goal.loop-place-init
