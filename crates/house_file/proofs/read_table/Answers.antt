@@ -10,7 +10,6 @@ use Rattle.house_numbers.specs.Reading.{got}
 use Rattle.house_rates.specs.Held.{rates_of}
 use Rattle.house_rates.specs.Steps.{rates_over}
 use Rattle.house_file.specs.Files.{read_table, after_reading, filled_with}
-use Rattle.house_file.specs.Steps.{table_in}
 use Rattle.house_file.proofs.Accepting.{table_fitted, rates_rated}
 use Rattle.house_file.proofs.read_table.Goals.{In_ok-rates}
 use Rattle.house_file.proofs.read_table.Goals as goal

@@ -1,13 +1,11 @@
-use mathlib.Core.Path.{◌≡◌, sym, ◌∙◌}
-use Prim.Native.Nat.{◌+◌, ◌-◌, ◌<◌}
+use mathlib.Core.Path.{sym}
+use Prim.Native.Nat.{◌+◌, ◌-◌}
 use native.Mathlib.Omega.{arith}
 use borrow.Author.Tests.{leb-true, leb-false, lt-leb}
-use lib.ListN.{length, get_or, drop, length-drop}
+use lib.ListN.{length, drop, length-drop}
 use lib.Seq.{take_all}
-use Rattle.house_numbers.proofs.Gathering.{Gathered, gathered_starts}
+use Rattle.house_numbers.proofs.Gathering.{gathered_starts}
 use Rattle.house_numbers.proofs.CheckedNumbers.{none_there, here_fits, here_goes_on, byte_there, four_gathered, fifth_fits, fifth_refused, fifth_small}
-use Rattle.house_numbers.proofs.long_number.Given as given
-use Rattle.house_numbers.proofs.long_number.Goals.{After-refuses-2, After-from-fifth}
 use Rattle.house_numbers.proofs.long_number.Goals as goal
 
 pub loop-place-init : goal.loop-place-init
