@@ -25,7 +25,10 @@ fn check_coordinates(axes: u32, coordinates: &[u32]) -> Result<(), Refusal>
     if coordinates.len() != axes as usize {
         return Err(Refusal::ListLength);
     }
-    if let Some(t) = coordinates.iter().position(|&x| !axis_weights::is_coordinate(x)) {
+    if let Some(t) = coordinates
+        .iter()
+        .position(|&x| !axis_weights::is_coordinate(x))
+    {
         return Err(Refusal::Coordinate(t as u32 + 1));
     }
     Ok(())

@@ -8,6 +8,7 @@ use Prim.Native.Nat.{ℕ, zero, suc, ◌+◌, ◌-◌, ◌*◌, ◌^◌, ◌≤�
 use native.Mathlib.Nat.{mul_comm, mul-zero, mul-le-mul_right, suc-mul}
 use native.Mathlib.Omega.{arith}
 use lib.Dec.{leb}
+use Rattle.std.proofs.lemmas.Int.{ints}
 use lib.IntN.{ℤ, pos, nat_abs, ◌+ℤ◌, ◌*ℤ◌, *ℤ-zero}
 use lib.Pow.{pow_pos}
 use borrow.Author.Tests.{leb-true}
@@ -20,7 +21,6 @@ use Rattle.integers.specs.Floor.{floor, remainder}
 use Rattle.integers.specs.Half.{in_limit}
 use Rattle.integers.specs.Total.{total}
 use Rattle.integers.proofs.Floors.{floor_remainder}
-use Rattle.integers.proofs.Linear.{leaf, ◌⊕◌, equal}
 use Rattle.integers.proofs.Products.{times_times, plus_times}
 use Rattle.integers.proofs.Sizes.{sum_size}
 use Rattle.integers.proofs.Totals.{total_zero, total_suc, total_block}
@@ -77,6 +77,9 @@ next_counted d l low high few =
 
 -- ---- both parts of the sum
 
+regrouped : (a p b q : ℤ) → (a +ℤ p) +ℤ (b +ℤ q) ≡ (a +ℤ b) +ℤ (p +ℤ q)
+regrouped a p b q = omega (arith, ints)
+
 module _ (s : Shape) (xs : List ℤ) (x : ℕ → ℕ) where
   -- What point number p adds to the two sums.
   unfoldable pub high_term : ℕ → ℤ
@@ -115,11 +118,7 @@ module _ (s : Shape) (xs : List ℤ) (x : ℕ → ℕ) where
   whole_sum (suc m) =
       total_suc (weighted (value_at xs) (joint_at s x)) m
       ∙ ap₂ ◌+ℤ◌ (whole_sum m) (whole_term m)
-      ∙ (let a = leaf (total high_term m *ℤ pos unit) in
-      let b = leaf (high_term m *ℤ pos unit) in
-      let p = leaf (pos (sum_to low_term m)) in
-      let q = leaf (pos (low_term m)) in
-      equal ((a ⊕ p) ⊕ (b ⊕ q)) ((a ⊕ b) ⊕ (p ⊕ q)) (omega arith))
+      ∙ regrouped (total high_term m *ℤ pos unit) (pos (sum_to low_term m)) (high_term m *ℤ pos unit) (pos (low_term m))
       ∙ ap₂ (λ (z : ℤ) (k : ℕ). z +ℤ pos k)
       (sym (plus_times (total high_term m) (high_term m) unit) ∙ ap (λ (z : ℤ). z *ℤ pos unit) (sym (total_suc high_term m)))
       (sym (sum_to_suc low_term m))

@@ -1,4 +1,3 @@
-pub mod Linear
 pub mod Halves
 pub mod Sizes
 pub mod Steps

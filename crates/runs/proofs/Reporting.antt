@@ -21,10 +21,6 @@ use Rattle.runs.specs.Runs.{carried_out, handed_on, verdict_of, Ran, run}
 use Rattle.runs.specs.Calls.{turn_of, calls_of, number_in, place_in, report, report_of, run_calls}
 use Rattle.runs.proofs.Appending.{run_snoc, calls_append, Matched, matched_runs}
 
-pub back_turn_lem : (direction axis : ℕ) → (direction ≡ 0 → ⊥) → turn_of direction axis ≡ Back axis
-back_turn_lem zero axis ne = absurd (ne refl)
-back_turn_lem (suc k) axis ne = refl
-
 -- The first i calls.
 abbrev pub calls_to : List ℕ → List ℕ → ℕ → List Turn
 calls_to directions axes i = calls_of (take i directions) (take i axes)

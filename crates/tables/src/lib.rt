@@ -28,6 +28,7 @@ fn all_rates(table: &[i64]) -> bool
 }
 
 // All values are rates, else refused with 4 and the first place that holds none.
+#[tactic(auto, using(crate::proofs::Checking::rates_pass))]
 pub fn check_rates(table: &[i64]) -> Result<(), Refusal>
     ensures { result ≡ check_rates table.now }
 {

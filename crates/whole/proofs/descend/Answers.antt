@@ -7,9 +7,6 @@ use Rattle.whole.specs.Steps.{gone}
 use Rattle.whole.proofs.Descending.{former_inside, down_done, down_refused, down_ends}
 use Rattle.whole.proofs.descend.Goals as goal
 
-pub try_on-requires : goal.try_on-requires
-try_on-requires c = let inside = c.loop-k.invariant.0 in (inside.long, inside.contents)
-
 pub invariant_of-line : goal.invariant_of-line
 invariant_of-line c =
     let range = passed_in_range c.args.shape c.requires.shape in
