@@ -22,7 +22,7 @@ pub struct Coordinate {
 }
 
 impl Coordinate {
-    // The weight there of a point of this level and index on one axis.
+    // The weight there of a point of this level and index on one axis. (The level's bound is that of the shift.)
     pub fn weight(self, level: u32, index: u64) -> u64
         requires { (level ≤ 8) × (index < 2 ^ suc level) }
         ensures { result ≡ weight unit self.x level index }

@@ -29,7 +29,7 @@ pub fn cut_at(from: usize, to: usize, r: usize) -> usize
     from.max(r).min(to)
 }
 
-// How many points an axis of a level has.
+// How many points an axis of a level has. (The level's bound is that of the shift.)
 pub fn points_across(level: u32) -> u64
     requires { level ≤ 8 }
     ensures { result ≡ across level }

@@ -22,7 +22,7 @@ fn neighbour(side: Side, index: u32) -> u32
     }
 }
 
-// A neighbour at 0 or 1 is the border.
+// A neighbour at 0 or 1 is the border. (That a level is at most 8 stands where it is shifted by: a type for a level would be unpacked at each shift and definition.)
 pub fn is_border(level: u32, numerator: u32) -> bool
     requires { level ≤ 8 }
     ensures { result ≡ is_border level numerator }

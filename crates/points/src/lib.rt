@@ -8,14 +8,14 @@ ghost use Rattle.points.specs.Points.{eight, check_lists, point_in, point_from};
 use refusals::Refusal;
 use shapes::{CheckedShape, Shape};
 
-// A level and an index on each axis; places past the last axis are 0.
+// A level and an index on each axis; places past the last axis are 0. (Two arrays, as document 01 has it: levels alone are compared, counted and numbered.)
 #[derive(Clone, Copy)]
 pub struct Point {
     pub levels: [u32; 8],
     pub indices: [u32; 8],
 }
 
-// An odd index below 2^(l+1).
+// An odd index below 2^(l+1). (The level's bound is that of the shift.)
 fn is_index(l: u32, i: u32) -> bool
     requires { l ≤ 8 }
     ensures { result ≡ is_index l i }
