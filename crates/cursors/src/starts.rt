@@ -14,14 +14,14 @@ pub struct Starts {
 }
 
 impl Starts {
-    // The starts of a shape.
+    // The starts of a shape, each from the one before. (Asked of `Rows::start`, which adds them up from 0, a turn at (1, 3) takes 4 of 100 instructions more.)
     pub fn of(line: Line) -> Starts
         ensures { result.line ≡ line }
     {
         let rows = shapes::Rows::new();
         let mut places = [0u64; 10];
-        for s in 1..line.shape.level + 2 {
-            places[s as usize] = rows.start(line.shape.axes, s);
+        for s in 0..line.shape.level + 1 {
+            places[s as usize + 1] = places[s as usize] + (rows.vectors(line.shape.axes, s) << s);
         }
         Starts { line, places }
     }

@@ -34,12 +34,14 @@ fn next_point(shape: Shape, p: Point) -> Option<Point>
     requires { (1 ≤ shape.axes) × (shape.axes ≤ 8) × (shape.level ≤ 8) × PointIn shape.axes shape.level p.levels p.indices }
     ensures { result ≡ after shape (number_of shape (at p.levels) (at p.indices)) }
 {
-    let levels = p.levels;
     let mut indices = p.indices;
-    if !next_indices(shape.axes as usize, &levels, &mut indices) {
-        return Some(Point { levels, indices });
+    if !next_indices(shape.axes as usize, &p.levels, &mut indices) {
+        return Some(Point {
+            levels: p.levels,
+            indices,
+        });
     }
-    let mut vector = LevelVector::of(shape.axes, levels);
+    let mut vector = LevelVector::of(shape.axes, p.levels);
     vector.next();
     if shape.level < vector.sum {
         return None;
