@@ -151,9 +151,6 @@ module _ (b : Spread) (first : ℕ) (a : Parents) (xs : List ℤ) (can : CanRun 
 -- ---- a band
 
 module _ (b : Spread) (first : ℕ) (a : Parents) (xs : List ℤ) (can : CanBand b first a xs) where
-  pub band_starts : LoweredOn a (InBand first b.width 0 b.apart b.unit) xs xs
-  band_starts = lowered_none a xs (λ p h. omega (arith, h.below))
-
   module _ (l : ℕ) (less : l < b.lines) (ys : List ℤ) (s : LoweredOn a (InBand first b.width l b.apart b.unit) xs ys) where
     abbrev Next : ℕ → Type 0
     Next = Run b (first + l * b.apart)

@@ -57,9 +57,6 @@ module _ (w : Sweep) (j q : ℕ) (xs : List ℤ) where
         pub u_axis : u < g.axes
         u_axis = omega (arith, u_next, of.most)
 
-        pub u_few : u < 8
-        u_few = omega (arith, u_axis, (known w).few)
-
         -- It is the turned one, along which the lines run.
         module _ (same : u ≡ w.on.axis) where
           fewer : (p : ℕ) → Row g u q p → Row g j q p

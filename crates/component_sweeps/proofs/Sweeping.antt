@@ -44,9 +44,6 @@ module _ (box : GridBox) (axis : ℕ) (on : axis < box.grid.now.axes) where
   half_shifted = one_shifted 64 (at box.levels axis) (omega (arith, box.fits.within axis on, box.grid.now.low axis))
 
   module _ (end : ℕ) (end_is : end ≡ 2 ^ suc top) where
-    pub end_some : 2 ≤ end
-    end_some = omega (arith, pow-suc 2 top, pow_pos top)
-
     abbrev place : ℕ
     place = box.centre / at box.grid.now.strides axis % (end - 1) + 1
 

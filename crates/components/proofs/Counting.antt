@@ -1,17 +1,16 @@
 -- The running product of the count: after t axes it is the points of these, and at most 32,768. One axis more takes it to at most 511 times that, far from the
 -- width; and where it is above 32,768 so is the number of points, since every axis has a point at least.
 -- Assumes nothing.
-use mathlib.Core.Path.{◌≡◌, ap, sym, ◌∙◌}
+use mathlib.Core.Path.{◌≡◌, ap, sym}
 use mathlib.Core.List.{List}
-use Prim.Native.Nat.{ℕ, suc, ◌+◌, ◌*◌, ◌^◌, ◌≤◌, ◌<◌, min}
-use native.Mathlib.Nat.{mul-le-mul, mul-le-mul_left}
+use Prim.Native.Nat.{ℕ, suc, ◌+◌, ◌*◌, ◌^◌, ◌≤◌, ◌<◌}
+use native.Mathlib.Nat.{mul-le-mul}
 use native.Mathlib.Numerals.{add-one}
 use native.Mathlib.Omega.{arith}
 use lib.ListN.{length}
 use lib.Pow.{pow_mono}
-use Rattle.naturals.proofs.Cases.{le_or_lt}
 use Rattle.component_grids.specs.Component.{across, points_to}
-use Rattle.component_grids.proofs.Places.{across_is, across_pos, points_to_zero, points_to_suc}
+use Rattle.component_grids.proofs.Places.{across_is, points_to_zero, points_to_suc}
 use Rattle.shapes.specs.Shapes.{most_points}
 use Rattle.component_boxes.proofs.Falling.{points_before}
 use Rattle.components.specs.Components.{tops_in, grid_points}
