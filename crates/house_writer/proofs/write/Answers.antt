@@ -4,7 +4,7 @@ use mathlib.Core.Path.{sym, ◌∙◌}
 use Rattle.shapes.proofs.Checked.{in_range_passed}
 use Rattle.tables.proofs.Checking.{rated_opens, rated_passes}
 use Rattle.house_writer.proofs.Rates.{all_rates}
-use Rattle.house_writer.proofs.WholeFile.{write_refused, write_put}
+use Rattle.house_writer.proofs.WholeFile.{write_put}
 use Rattle.house_writer.proofs.write.Goals as goal
 
 pub invariant_of-put_file : goal.invariant_of-put_file
