@@ -8,7 +8,7 @@ ghost use Rattle.splits.specs.Splits.{cut};
 ghost use Rattle.component_grids.specs.Component.{across, points_to};
 ghost use Rattle.component_boxes.specs.Order.{widest};
 
-// The axis with most points left in a box, the smallest of several.
+// The axis with most points left in a box, the smallest of several. (Eight levels and a count, as a box and its grid hold them: a slice would be cut at each call.)
 pub fn widest_axis(levels: [u32; 8], axes: usize) -> usize
     requires { (1 ≤ axes) × (axes ≤ 8) }
     ensures { result ≡ widest (at levels) axes }

@@ -17,8 +17,8 @@ use Rattle.component_grids.specs.Component.{neighbour}
 use Rattle.component_sweeps.specs.Steps.{Limited, TurnedOn}
 
 -- All points of one set are in another.
-abbrev pub Within : (ℕ → Type 0) → (ℕ → Type 0) → Type 0
-Within part whole = (p : ℕ) → part p → whole p
+abbrev pub Contained : (ℕ → Type 0) → (ℕ → Type 0) → Type 0
+Contained part whole = (p : ℕ) → part p → whole p
 
 module _ (d : ℕ) (tops : ℕ → ℕ) (t : ℕ) where
   pub record Apart (first next : ℕ → Type 0) : Type 0 where
@@ -29,7 +29,7 @@ module _ (d : ℕ) (tops : ℕ → ℕ) (t : ℕ) where
   pub turned_none : {none : ℕ → Type 0} (xs : List ℤ) → ((p : ℕ) → none p → ⊥) → TurnedOn d tops t none xs xs
   turned_none xs empty = record { long = refl; on = λ p h. absurd (empty p h); off = λ p out. refl }
 
-  pub turned_same : {one other : ℕ → Type 0} {xs ys : List ℤ} → Within one other → Within other one → TurnedOn d tops t one xs ys → TurnedOn d tops t other xs ys
+  pub turned_same : {one other : ℕ → Type 0} {xs ys : List ℤ} → Contained one other → Contained other one → TurnedOn d tops t one xs ys → TurnedOn d tops t other xs ys
   turned_same to from s =
       record {
         long = s.long;
@@ -37,7 +37,7 @@ module _ (d : ℕ) (tops : ℕ → ℕ) (t : ℕ) where
         off = λ p out. s.off p (λ h. out (to p h));
       }
 
-  pub limited_part : {part whole : ℕ → Type 0} {xs : List ℤ} → Within part whole → Limited d tops t whole xs → Limited d tops t part xs
+  pub limited_part : {part whole : ℕ → Type 0} {xs : List ℤ} → Contained part whole → Limited d tops t whole xs → Limited d tops t part xs
   limited_part within l = record { long = l.long; before = l.before; after = λ p h. l.after p (within p h) }
 
   module _ {first next : ℕ → Type 0} (apart : Apart first next) {xs ys : List ℤ} (s : TurnedOn d tops t first xs ys) where
@@ -53,7 +53,7 @@ module _ (d : ℕ) (tops : ℕ → ℕ) (t : ℕ) where
     forward_kept p h =
         ap₂ (λ (v w : ℤ). v -ℤ half w) (s.off p (apart.points p h)) (ap₂ ◌+ℤ◌ (parent_kept p h Left) (parent_kept p h Right))
 
-    pub limited_next : {whole : ℕ → Type 0} → Within first whole → Within next whole → Limited d tops t whole xs → Limited d tops t next ys
+    pub limited_next : {whole : ℕ → Type 0} → Contained first whole → Contained next whole → Limited d tops t whole xs → Limited d tops t next ys
     limited_next {whole} one two l =
         record {
           long = s.long ∙ l.long;
@@ -68,7 +68,7 @@ module _ (d : ℕ) (tops : ℕ → ℕ) (t : ℕ) where
             (λ e. e)
             (λ e. ap in_limit (s.off p (λ h. false≢true (sym e ∙ ap in_limit (s.on p h) ∙ l.after p (one p h)))) ∙ l.before (suc p))
 
-    pub turned_both : {whole : ℕ → Type 0} {zs : List ℤ} → Within first whole → Within next whole → ((p : ℕ) → whole p → first p ⊎ next p) →
+    pub turned_both : {whole : ℕ → Type 0} {zs : List ℤ} → Contained first whole → Contained next whole → ((p : ℕ) → whole p → first p ⊎ next p) →
         TurnedOn d tops t next ys zs → TurnedOn d tops t whole xs zs
     turned_both one two either u =
         record {

@@ -18,7 +18,7 @@ use Rattle.hierarchy.proofs.Values.{value_zero, value_suc}
 use Rattle.component_sweeps.specs.declared.Parents.{Parents}
 use Rattle.component_sweeps.specs.declared.axis.Spread.{Spread}
 use Rattle.component_sweeps.specs.Steps.{behind, ahead, lowered, CanStep, CanLower, LoweredOn, InRun, InBand, Run, CanRun, CanBand}
-use Rattle.component_sweeps.proofs.Apart.{Within}
+use Rattle.component_sweeps.proofs.Apart.{Contained}
 
 -- A parent on one side, or none.
 pub none_or_some : {P : Type 0} (o : Option ℕ) → (o ≡ None → P) → ((far : ℕ) → o ≡ Some far → P) → P
@@ -47,7 +47,7 @@ module _ (a : Parents) where
       v = lowered xs p a
 
   -- A part of the set after another.
-  module _ {whole done next : ℕ → Type 0} {xs ys : List ℤ} (can : CanLower a whole xs) (one : Within done whole) (two : Within next whole)
+  module _ {whole done next : ℕ → Type 0} {xs ys : List ℤ} (can : CanLower a whole xs) (one : Contained done whole) (two : Contained next whole)
       (apart : (p : ℕ) → next p → done p → ⊥) (s : LoweredOn a done xs ys) where
     nothing : value_at ys 0 ≡ value_at xs 0
     nothing = value_zero ys ∙ sym (value_zero xs)
@@ -92,7 +92,7 @@ module _ (a : Parents) where
           after = λ p far here e there. can.after p far (two p here) e (two (p + far) there);
         }
 
-    pub lowered_both : {both : ℕ → Type 0} {zs : List ℤ} → Within done both → Within next both → ((p : ℕ) → both p → done p ⊎ next p) →
+    pub lowered_both : {both : ℕ → Type 0} {zs : List ℤ} → Contained done both → Contained next both → ((p : ℕ) → both p → done p ⊎ next p) →
         LoweredOn a next ys zs → LoweredOn a both xs zs
     lowered_both first then either u =
         record {
@@ -119,10 +119,10 @@ module _ (b : Spread) (first : ℕ) (a : Parents) (xs : List ℤ) (can : CanRun 
     abbrev Position : ℕ → Type 0
     Position p = p ≡ first + i * b.unit
 
-    shorter : {n m : ℕ} → n ≤ m → Within (InRun first n b.unit) (InRun first m b.unit)
+    shorter : {n m : ℕ} → n ≤ m → Contained (InRun first n b.unit) (InRun first m b.unit)
     shorter le p h = record { index = h.index; inside = omega (arith, h.inside); is = h.is }
 
-    following : {m : ℕ} → i < m → Within Position (InRun first m b.unit)
+    following : {m : ℕ} → i < m → Contained Position (InRun first m b.unit)
     following less p e = record { index = i; inside = less; is = e }
 
     no_more : (p : ℕ) → Position p → InRun first i b.unit p → ⊥
@@ -155,10 +155,10 @@ module _ (b : Spread) (first : ℕ) (a : Parents) (xs : List ℤ) (can : CanBand
     abbrev Next : ℕ → Type 0
     Next = Run b (first + l * b.apart)
 
-    on_line : {more : ℕ} → l < more → Within Next (InBand first b.width more b.apart b.unit)
+    on_line : {more : ℕ} → l < more → Contained Next (InBand first b.width more b.apart b.unit)
     on_line less p h = record { line = l; index = h.index; below = less; inside = h.inside; is = h.is }
 
-    fewer : {n m : ℕ} → n ≤ m → Within (InBand first b.width n b.apart b.unit) (InBand first b.width m b.apart b.unit)
+    fewer : {n m : ℕ} → n ≤ m → Contained (InBand first b.width n b.apart b.unit) (InBand first b.width m b.apart b.unit)
     fewer le p h = record { line = h.line; index = h.index; below = omega (arith, h.below); inside = h.inside; is = h.is }
 
     no_overlap : (p : ℕ) → Next p → InBand first b.width l b.apart b.unit p → ⊥

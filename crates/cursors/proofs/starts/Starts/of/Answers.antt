@@ -19,13 +19,13 @@ next : (c : After-vectors) → at c.loop-s.places c.loop-s.s + c.vectors.result 
 next c =
     let on = c.args.line in
     rw add-one
-    (turn on.axes (omega (arith, on.axis)) on.few c.loop-s.s _ c.vectors.result (omega (arith, on.top))
+    (turn on.shape.axes (omega (arith, on.axis)) on.few c.loop-s.s _ c.vectors.result (omega (arith, on.top))
     (c.loop-s.invariant.holds c.loop-s.s (omega arith) (omega arith)) c.vectors.ensures)
 
 pub overflow_add-places : goal.overflow_add-places
 overflow_add-places c =
     let on = c.args.line in
-    let small = start_small on.axes (omega (arith, on.axis)) on.few (c.loop-s.s + 1) (omega (arith, on.top)) in
+    let small = start_small on.shape.axes (omega (arith, on.axis)) on.few (c.loop-s.s + 1) (omega (arith, on.top)) in
     omega (arith, small, next (goal.at.overflow_add-places c).After-vectors)
 
 pub loop-s-preserved : goal.loop-s-preserved
