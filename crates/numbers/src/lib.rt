@@ -51,7 +51,7 @@ fn position_at(vector: &LevelVector, indices: &[u32; 8]) -> u64
 }
 
 // The number of the first point of a level vector whose sum is at most 8.
-pub fn first_of(vector: &LevelVector) -> u64
+fn first_of(vector: &LevelVector) -> u64
     requires { vector.now.sum ≤ 8 }
     ensures { result ≡ first_of vector.now.axes (at vector.now.levels) }
 {
