@@ -14,7 +14,7 @@ pub struct Starts {
 }
 
 impl Starts {
-    // The starts of a shape, each from the one before. (Asked of `Rows::start`, which adds them up from 0, a turn at (1, 3) takes 4 of 100 instructions more.)
+    // The starts of a shape, each from the one before. (Asked of `Rows::start`, which adds them up from 0, a turn at (1, 3) takes 7 of 100 instructions more.)
     pub fn of(line: Line) -> Starts
         ensures { result.line ≡ line }
     {
