@@ -1,7 +1,6 @@
 -- `estimates::estimate` meets its contract: the checks that refuse answer in their order, and where all pass the sum is the estimate.
 -- Assumes nothing.
 use mathlib.Core.Path.{sym, ◌∙◌}
-use lib.ListN.{length}
 use Rattle.estimates.proofs.Answering.{in_range, evaluable}
 use Rattle.estimates.proofs.estimate.Goals as goal
 
