@@ -15,7 +15,7 @@ use Rattle.shapes.specs.declared.Shape.{Shape}
 use Rattle.points.specs.declared.Point.{Point}
 use Rattle.states.specs.declared.State.{State}
 use Rattle.states.specs.After.{After, after, kept, Left, left_by}
-use Rattle.states.specs.States.{has, check_state}
+use Rattle.states.specs.States.{check_state}
 use Rattle.tables.specs.Tables.{check_table, check_rated, load, scaled_at, check_sampled, unload}
 use Rattle.grids.specs.Turned.{former_table}
 use Rattle.turns.specs.Turns.{is_accepted, check_turn, check_waits, forward_turn, back_turn}

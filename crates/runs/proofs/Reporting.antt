@@ -6,14 +6,13 @@ use Rattle.refusals.specs.Checks.{Verdict}
 use Rattle.refusals.specs.declared.Refusal.{Refusal}
 use mathlib.Core.Path.{◌≡◌, refl, ap, ap₂, sym, ◌∙◌}
 use mathlib.Core.List.{List, [], ◌∷◌, ◌++◌, map, append-nil, map-append}
-use Prim.Native.Nat.{ℕ, zero, suc, ◌+◌, ◌≤◌, ◌<◌}
+use Prim.Native.Nat.{ℕ, suc, ◌+◌, ◌≤◌, ◌<◌}
 use native.Mathlib.Numerals.{add-one}
 use native.Mathlib.Omega.{arith}
 use lib.IntN.{ℤ}
 use lib.ListN.{length, get_or, take, drop, set, length-append, length-map}
 use lib.Seq.{take-suc, take-length, drop-length, drop-cons, length-take-le, append_snoc, set_at}
 use Rattle.hierarchy.specs.declared.Turn.{Turn}
-use Rattle.hierarchy.specs.declared.Turn.TheVariants.{Back}
 use Rattle.states.specs.declared.State.{State}
 use Rattle.states.specs.After.{after}
 use Rattle.states.specs.States.{check_state}

@@ -8,7 +8,7 @@ use Rattle.refusals.specs.declared.Refusal.TheVariants.{Contents}
 use Rattle.integers.specs.Half.{content_at}
 use Rattle.shapes.specs.declared.Shape.{Shape}
 use Rattle.states.specs.declared.State.{State}
-use Rattle.states.specs.After.{after, kept, left}
+use Rattle.states.specs.After.{after, left}
 use Rattle.states.specs.States.{check_state}
 use Rattle.tables.specs.Tables.{check_table, check_rated, times, load, adopted, adopt, quotient, scaled_at, check_sampled, unload}
 

@@ -1,6 +1,6 @@
 -- `estimates::check_coordinates` meets its contract: the coordinates before the one found are inside and it is not, and where none is found all are.
 -- Assumes nothing.
-use Rattle.std.proofs.Common.{◌≡◌, List, ℕ, ◌<◌, length, sym, ◌∙◌, add-one, arith, rules, true, false, Option, MatchOption}
+use Rattle.std.proofs.Common.{◌≡◌, List, ℕ, ◌<◌, length, add-one, arith, rules, true, false, Option, MatchOption}
 use Rattle.std.specs.List.{AllWithin, HoldsAt}
 use Rattle.std.proofs.lemmas.Iterator.{IsFirst-from_position, YieldsList-from_slice}
 use borrow.Author.Tests.{tests, eq-eqb, ne_eqb, le-leb, lt-leb}
