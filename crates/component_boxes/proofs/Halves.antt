@@ -107,10 +107,6 @@ module _ (d : ℕ) (tops k : ℕ → ℕ) (c : ℕ) (fits : Fits d tops k c) (r 
   unfolding wide
   wide_is = refl
 
-  part_is : part ≡ 2 ^ (k r - 1)
-  unfolding part
-  part_is = refl
-
   away_is : away tops k r ≡ part * points_to tops r
   unfolding away part
   away_is = refl

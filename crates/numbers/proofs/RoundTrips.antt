@@ -1,8 +1,8 @@
 -- The two calls undo each other: the point of a point's number is that point, and the number of a number's point is that number. From the laws of the
 -- numbering, for what the calls answer.
 -- Assumes nothing.
-use Rattle.std.specs.Prelude.{Ok, Err}
-use mathlib.Core.Path.{◌≡◌, refl, ap, sym, ◌∙◌, fun_ext}
+use Rattle.std.specs.Prelude.{Ok}
+use mathlib.Core.Path.{◌≡◌, sym, ◌∙◌, fun_ext}
 use mathlib.Core.List.{List}
 use Prim.Native.Nat.{ℕ, ◌≤◌}
 use native.Mathlib.Omega.{arith}
@@ -11,9 +11,8 @@ use lib.ListN.{length, take, get_or-eq_default}
 use lib.Seq.{length-take-le, get_or-take}
 use borrow.Author.Tests.{lt-ltb, ltb-true, eq-eqb}
 use Rattle.naturals.proofs.Cases.{le_or_lt}
-use Rattle.refusals.specs.declared.Refusal.{Refusal}
 use Rattle.refusals.specs.declared.Refusal.TheVariants.{PointNumber}
-use Rattle.refusals.specs.Checks.{unless, ◌and_then◌, answer, Verdict}
+use Rattle.refusals.specs.Checks.{unless, ◌and_then◌}
 use Rattle.refusals.proofs.Passing.{first_passed, next_passed, test_passed, result_passed}
 use Rattle.numbering.specs.Point.{at}
 use Rattle.shapes.specs.declared.Shape.{Shape}

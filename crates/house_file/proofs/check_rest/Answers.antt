@@ -6,7 +6,7 @@ use borrow.Author.Rules.{rules}
 use Rattle.house_rates.specs.Rates.{read_rates}
 use Rattle.shapes.specs.Shapes.{points_of}
 use Rattle.house_file.specs.Steps.{check_places}
-use Rattle.house_file.proofs.Answering.{places_passed, placed, unplaced, table_checked}
+use Rattle.house_file.proofs.Answering.{placed, unplaced, table_checked}
 use Rattle.house_file.proofs.check_rest.Goals.{In_ok-checked}
 use Rattle.house_file.proofs.check_rest.Goals as goal
 
