@@ -8,7 +8,7 @@ ghost use Rattle.component_sweeps.specs.Steps.{tops_of, Covers};
 use crate::GridBox;
 
 // How the lines of a box are worked together: `lines` runs, each `apart` from the one before, of `width` positions, each a `unit` from the one before, have the box's
-// points on all axes below `from`, the turned one aside.
+// points on all axes below `from`, the turned one aside. (What it covers stands in `Covers`: a struct with facts of its own cannot be made of another by `..b`.)
 #[derive(Clone, Copy)]
 pub struct Spread {
     pub from: usize,

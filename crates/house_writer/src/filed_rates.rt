@@ -10,7 +10,7 @@ ghost use Rattle.house_file.specs.Written.{AllRates, written_rates};
 use house_rates::CheckedRates;
 use written_numbers::filed_of;
 
-// Rates that are written: those of a table, or those of a file that was checked.
+// Rates that are written: those of a table, or those of a file that was checked. (No `Iterator`: of one a proof knows what it has given, and here asks for what is left.)
 pub trait FiledRates: Copy {
     ghost rates: { Self → List ℤ };
 
