@@ -7,14 +7,14 @@ ghost use Rattle.axis_weights.specs.Steps.{cell_of};
 
 use surfaces::BITS;
 
-// A coordinate, from 0 to the unit.
+// Whether a number is a coordinate, from 0 to the unit. (A test and no `Option<Coordinate>`: a list of coordinates is checked whole, before the first is used.)
 pub fn is_coordinate(x: u32) -> bool
     ensures { result ≡ is_coordinate unit x }
 {
     x <= 1 << BITS
 }
 
-// A coordinate as the weights take it, in 64 bits.
+// One that passed, as the weights take it, in 64 bits.
 #[derive(Clone, Copy)]
 pub struct Coordinate {
     pub x: u64,

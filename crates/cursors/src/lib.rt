@@ -14,7 +14,7 @@ use neighbours::Subspace;
 pub use starts::Starts;
 
 impl Starts {
-    // Cursor j of a sum at the place that lies j before the one `past` after it.
+    // Cursor j of a sum at the place that lies j before the one `past` after it. (`past` is added and no flag; that the sum is one of the shape's is asked by all three.)
     fn back_from(&self, sum: u32, past: u32) -> [u64; 9]
         requires { (sum ≤ self.now.line.shape.level) × (past ≤ 1) }
         ensures { Filled (λ j. at self.now.places (sum + past - j)) 9 1 (suc sum) result }

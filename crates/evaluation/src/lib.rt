@@ -42,7 +42,7 @@ fn axis_hats(coordinate: Coordinate) -> [Hat; 9]
     array::from_fn(|level| Hat::at(coordinate, level as u32))
 }
 
-// Those of all axes.
+// Those of all axes. (By index: past a zip with `iter_mut` nothing is known of what it wrote.)
 fn tabulated(coordinates: &[u32]) -> [[Hat; 9]; 8]
     requires { Listed (length coordinates.now) coordinates.now }
     ensures { Tabulated (at coordinates.now) (length coordinates.now) result × (length result ≡ 8) }

@@ -12,7 +12,8 @@ use house_rates::CheckedRates;
 use refusals::Refusal;
 use shapes::{CheckedShape, Shape};
 
-// So many bytes of a file decide what is read into so many places, one more than an accepted file can have: 10 and for each place 5.
+// So many bytes of a file decide what is read into so many places, one more than an accepted file can have: 10 and for each place 5. (A macro, since a constant's value
+// calls no function.)
 #[macro_export]
 macro_rules! deciding_bytes {
     ($places:expr) => {

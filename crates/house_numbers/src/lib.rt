@@ -16,7 +16,7 @@ fn placed(group: u64, shift: u32) -> u64
     group << shift
 }
 
-// Whether a test refuses a number. One that was checked is not tested again: it was not refused.
+// A test that refuses a number. Bytes that were checked are known to pass it, so for them it is not made.
 fn refuses<const CHECKED: bool>(test: bool) -> bool
     requires { CHECKED ≡ true → test ≡ false }
     ensures { result ≡ test }

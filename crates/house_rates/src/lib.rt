@@ -36,7 +36,8 @@ fn few_ends(bytes: &[u8]) -> u8
 fn count_ends(bytes: &[u8]) -> usize
     ensures { result ≡ ends bytes.now }
 {
-    // A `for`: of a chain, a sum of `map` over `chunks`, the bound and the equation did not close, for std has no lemma that follows one over `chunks`.
+    // A `for`: of a chain, a sum of `map` over `chunks`, the bound and the equation did not close: which list
+    // `chunks` yields no lemma of std says (`sum_by_chunks` is of `map_chunks`).
     let mut count: usize = 0;
     for few in bytes.chunks(224) {
         count += usize::from(few_ends(few));
@@ -74,7 +75,7 @@ fn sound(bytes: &[u8], count: usize) -> bool
     }
 }
 
-// The rates of bytes that are a number each, into the first places.
+// The rates of bytes that are a number each, into the first places. (By index: past a zip with `iter_mut` nothing is known of what it wrote.)
 fn fill_short(bytes: &[u8], table: &mut [i64])
     requires { length bytes.now ≤ length table.old }
     ensures { table.new ≡ rates_over table.old (map rate_of bytes.now) }

@@ -37,7 +37,7 @@ const SMALLEST: i64 = i32::MIN as i64;
 
 const LARGEST: i64 = i32::MAX as i64;
 
-// A rate, the ends allowed.
+// A rate, the ends allowed. (By its ends, as the content limit is: a cast tried and thrown away would say less.)
 pub fn is_rate(v: i64) -> bool
     ensures { result ≡ is_rate v }
 {

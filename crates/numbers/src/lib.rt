@@ -145,7 +145,8 @@ pub struct Placed {
     pub position: u64,
 }
 
-// Where point number `number` of these axes and top level lies. (Two numbers and no `CheckedShape`: what works inside one sparse table counts its axes and levels.)
+// Where point number `number` of these axes and top level lies. (Two numbers and no `CheckedShape`: a face of a table with values on the border will be a sparse table
+// of fewer axes.)
 pub fn vector_at(axes: u32, level: u32, number: u64) -> Placed
     requires { (1 ≤ axes) × (axes ≤ 8) × (level ≤ 8) × (number < points axes level) }
     ensures { (result.vector.axes ≡ axes) × (result.vector.sum ≡ sum_at axes level number) × (result.vector.levels ≡ eight (level_at axes level number)) × (result.position ≡ within axes level number % 2 ^ sum_at axes level number) }

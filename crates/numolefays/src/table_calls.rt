@@ -64,7 +64,7 @@ pub extern "C" fn numolefays_rates_to_coefficients(
     answers::tell(verdict, place)
 }
 
-// Coefficients to rates.
+// Coefficients to rates. (C has a name for each way.)
 #[unsafe(no_mangle)]
 pub extern "C" fn numolefays_coefficients_to_rates(
     axes: u32,

@@ -32,18 +32,18 @@ pub fn is_border(level: u32, numerator: u32) -> bool
 
 // The level and the odd index of a parent. (A struct: a pair of two numbers would not say which is which.)
 #[derive(Clone, Copy)]
-pub struct Placed {
+pub struct Reduced {
     pub level: u32,
     pub index: u32,
 }
 
 // The parent at a numerator within the borders: each factor of two that it shares with the denominator 2^(l+1) is dropped.
-pub fn reduce(level: u32, numerator: u32) -> Placed
+pub fn reduce(level: u32, numerator: u32) -> Reduced
     requires { (level ≤ 8) × (numerator % 2 ≡ 0) × (0 < numerator) × (numerator < 2 ^ suc level) }
     ensures { (result.level ≡ parent_level level numerator) × (result.index ≡ parent_index numerator) }
 {
     let twos = numerator.trailing_zeros();
-    Placed {
+    Reduced {
         level: level - twos,
         index: numerator >> twos,
     }

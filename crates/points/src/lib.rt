@@ -32,11 +32,11 @@ fn is_point(level: u32, levels: &[u32], indices: &[u32]) -> bool
     ensures { result ≡ is_point (length levels.now) level (at levels.now) (at indices.now) }
 {
     let mut left = level;
-    for (t, l) in levels.iter().enumerate() {
+    for (l, i) in levels.iter().zip(indices) {
         if left < *l {
             return false;
         }
-        if !is_index(*l, indices[t]) {
+        if !is_index(*l, *i) {
             return false;
         }
         left -= *l;
@@ -45,17 +45,17 @@ fn is_point(level: u32, levels: &[u32], indices: &[u32]) -> bool
 }
 
 // Refused with 7 or 9.
-fn check_lists(shape: CheckedShape, levels: &[u32], indices: &[u32]) -> Result<(), Refusal>
-    ensures { result ≡ check_lists shape.shape levels.now indices.now }
+fn check_lists(checked: CheckedShape, levels: &[u32], indices: &[u32]) -> Result<(), Refusal>
+    ensures { result ≡ check_lists checked.shape levels.now indices.now }
 {
-    let axes = shape.shape.axes as usize;
+    let axes = checked.shape.axes as usize;
     if levels.len() != axes {
         return Err(Refusal::ListLength);
     }
     if indices.len() != axes {
         return Err(Refusal::ListLength);
     }
-    if is_point(shape.shape.level, levels, indices) {
+    if is_point(checked.shape.level, levels, indices) {
         Ok(())
     } else {
         Err(Refusal::NoPoint)
@@ -64,10 +64,10 @@ fn check_lists(shape: CheckedShape, levels: &[u32], indices: &[u32]) -> Result<(
 
 // A point of a checked shape that is handed in as two lists: by value.
 #[tactic(auto, unfolding(crate::specs::Points::point_in))]
-pub fn point_in(shape: CheckedShape, levels: &[u32], indices: &[u32]) -> Result<Point, Refusal>
-    ensures { result ≡ point_in shape.shape levels.now indices.now }
+pub fn point_in(checked: CheckedShape, levels: &[u32], indices: &[u32]) -> Result<Point, Refusal>
+    ensures { result ≡ point_in checked.shape levels.now indices.now }
 {
-    check_lists(shape, levels, indices)?;
+    check_lists(checked, levels, indices)?;
     Ok(Point {
         levels: padded(levels),
         indices: padded(indices),

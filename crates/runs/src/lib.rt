@@ -10,7 +10,7 @@ use hierarchy::Turn;
 use refusals::Refusal;
 use states::State;
 
-// A turn as a list of calls names it: direction 0 is forward, every other number is back.
+// A turn as a list of calls names it: direction 0 is forward, every other number is back. (C's numbers; a conversion of the type itself would carry them into its crate.)
 fn turn_of(direction: u8, axis: u32) -> Turn
     ensures { result ≡ turn_of direction axis }
 {
@@ -38,7 +38,7 @@ fn carry_out(state: State, table: &mut [i64], turn: Turn) -> Result<State, Refus
 pub fn run(
     state: State,
     table: &mut [i64],
-    directions: &[u8], // as C hands them in
+    directions: &[u8], // these four as C hands them in; number and place 0 stand for no refusal
     axes: &[u32],
     numbers: &mut [u32],
     places: &mut [u64],

@@ -28,7 +28,7 @@ const LIST: usize = 16;
 
 const TABLE: usize = 32;
 
-// Where the next number goes, that number so far, and all places.
+// Where the next number goes, that number so far, and all places. (The lengths of the lists stand among the numbers, as the list of calls gives them.)
 #[derive(Drop)]
 pub struct Desk {
     at: usize,
@@ -38,7 +38,7 @@ pub struct Desk {
     table: [i64; 2048],
 }
 
-// The low bits of a number.
+// The low bits of a number. (Not one function over both widths: std's cast that keeps the low bits is `as`, which a type parameter has not.)
 fn word(n: u64) -> u32 {
     (n & 0xffff_ffff) as u32
 }
@@ -155,7 +155,7 @@ fn call(
     let levels = part(l, l[LEVELS]);
     let indices = part(i, l[INDICES]);
     let axis = word(x);
-    // The letters are matched here alone, so an enum of calls would only list them twice.
+    // The capitals are matched here alone, and all other letters in `read`, so an enum of either would only list them twice.
     match letter {
         b'A' => return answered(out, tables::load(shape, table), set),
         b'B' => return answered(out, tables::adopt(shape, table), set),

@@ -47,10 +47,7 @@ impl Shape {
         ensures shape { IfOk result (λ checked. checked.shape ≡ self) }
     {
         let Shape { axes, level } = self;
-        if axes < 1 {
-            return Err(Refusal::Axes);
-        }
-        if 8 < axes {
+        if !(1..=8).contains(&axes) {
             return Err(Refusal::Axes);
         }
         if 8 < level {
@@ -63,10 +60,7 @@ impl Shape {
     pub fn check_axis(self, axis: u32) -> Result<(), Refusal>
         ensures { result ≡ check_axis self axis }
     {
-        if axis < 1 {
-            return Err(Refusal::Axis(axis));
-        }
-        if self.axes < axis {
+        if !(1..=self.axes).contains(&axis) {
             return Err(Refusal::Axis(axis));
         }
         Ok(())

@@ -25,7 +25,7 @@ pub record Stands (s : State) (places : ℕ) : Type 0 where
   pub long : places ≡ points_of s.shape
 
 module _ (s : State) where
-  few_bits : check_bits s ≡ Ok tt → s.forward < 2 ^ s.shape.axes
+  pub few_bits : check_bits s ≡ Ok tt → s.forward < 2 ^ s.shape.axes
   unfolding check_bits
   few_bits e = ltb-true s.forward (2 ^ s.shape.axes) (test_passed (ltb s.forward (2 ^ s.shape.axes)) StrayBit e)
 

@@ -1,7 +1,7 @@
 // The state of a table: its shape and the axes that are forward, one bit for each.
 #![tactic(auto)]
 
-ghost use Rattle.std.specs.Prelude.{◌≡◌, ◌≤◌, ◌<◌, IfOk};
+ghost use Rattle.std.specs.Prelude.{◌≡◌, ◌≤◌, ◌<◌, ◌^◌, IfOk};
 ghost use Rattle.refusals.specs.Checks.{verdict};
 ghost use Rattle.states.specs.States.{has, toggled, found_axis, check_bits, check_state};
 
@@ -15,11 +15,14 @@ pub struct State {
     pub forward: u8,
 }
 
-// A state that the check passes.
+// A state that the check passes: its shape is within the limits, and no bit is set above its axes.
 #[derive(Clone, Copy)]
 pub struct CheckedState {
     pub state: State,
+    ghost some: { 1 ≤ state.shape.axes },
     ghost few: { state.shape.axes ≤ 8 },
+    ghost top: { state.shape.level ≤ 8 },
+    ghost bits: { state.forward < 2 ^ state.shape.axes },
 }
 
 impl State {

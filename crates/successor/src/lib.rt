@@ -13,7 +13,8 @@ use refusals::Refusal;
 use shapes::Shape;
 use vectors::LevelVector;
 
-// The indices stepped to the next on the same levels, in place, axis 1 fastest. Answers whether they were the last: then all are 1 again.
+// The indices stepped to the next on the same levels, in place, axis 1 fastest. Answers whether they were the last: then all are 1 again. (Axes and two arrays, which
+// are parts of a point; by index, since past a zip with `iter_mut` nothing is known of what it wrote.)
 fn next_indices(axes: usize, levels: &[u32; 8], indices: &mut [u32; 8]) -> bool
     requires { (axes ≤ 8) × IsPoint axes 8 (at levels.now) (at indices.old) }
     ensures { StepsIndices axes levels.now indices.old result indices.new }

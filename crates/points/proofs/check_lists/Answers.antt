@@ -11,14 +11,14 @@ use Rattle.points.proofs.check_lists.Goals as goal
 pub returns-then-levels-axes : goal.returns-then-levels-axes
 unfolding check_lists
 returns-then-levels-axes c =
-    let shape = c.args.shape.shape in
+    let shape = c.args.checked.shape in
     let levels = c.args.levels.now in
     sym (simp (ne_eqb (length levels) shape.axes c.if-levels-axes.true))
 
 pub returns-then-indices-axes : goal.returns-then-indices-axes
 unfolding check_lists
 returns-then-indices-axes c =
-    let shape = c.args.shape.shape in
+    let shape = c.args.checked.shape in
     let levels = c.args.levels.now in
     let indices = c.args.indices.now in
     sym (simp (eq-eqb (length levels) shape.axes c.if-levels-axes.false, ne_eqb (length indices) shape.axes c.if-indices-axes.true))

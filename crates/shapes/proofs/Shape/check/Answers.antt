@@ -1,30 +1,37 @@
 -- `Shape::check` meets its contract: each return is decided by the tests on the way to it.
 -- Assumes nothing.
-use native.Mathlib.Omega.{arith}
+use Rattle.std.proofs.Common.{◌≡◌, refl, ◌&&◌, rules, tests, sym, arith}
+use lib.Dec.{leb}
 use borrow.Author.Tests.{le-leb, lt-leb}
 use Rattle.shapes.specs.Shapes.{check_shape}
+use Rattle.shapes.proofs.Shape.check.Goals.{After-contains}
 use Rattle.shapes.proofs.Shape.check.Goals as goal
 
-pub returns-then-axes-lt1-clause-verdict : goal.returns-then-axes-lt1-clause-verdict
-unfolding check_shape
-returns-then-axes-lt1-clause-verdict c = simp (lt-leb 1 c.args.self.axes (omega arith))
+-- the number of axes is tested
+few : (c : After-contains) → c.contains.result ≡ (leb 1 c.args.self.axes && leb c.args.self.axes 8)
+few c = search (rules, tests)
 
-pub returns-then-axes-gt8-clause-verdict : goal.returns-then-axes-gt8-clause-verdict
+pub returns-then-not-contains-clause-verdict : goal.returns-then-not-contains-clause-verdict
 unfolding check_shape
-returns-then-axes-gt8-clause-verdict c =
-    let shape = c.args.self in
-    simp (le-leb 1 shape.axes (omega arith), lt-leb shape.axes 8 (omega arith))
+returns-then-not-contains-clause-verdict c =
+    rw (sym (few (goal.at.returns-then-not-contains-clause-verdict c).After-contains), c.if-not-contains.true) refl
 
 pub returns-then-level-gt8-clause-verdict : goal.returns-then-level-gt8-clause-verdict
 unfolding check_shape
 returns-then-level-gt8-clause-verdict c =
-    let shape = c.args.self in
-    simp
-    (le-leb 1 shape.axes (omega arith), le-leb shape.axes 8 (omega arith), lt-leb shape.level 8 (omega arith))
+    rw (
+      sym (few (goal.at.returns-then-level-gt8-clause-verdict c).After-contains),
+      c.if-not-contains.false,
+      lt-leb c.args.self.level 8 (omega arith),
+    )
+    refl
 
 pub returns-clause-verdict : goal.returns-clause-verdict
 unfolding check_shape
 returns-clause-verdict c =
-    let shape = c.args.self in
-    simp
-    (le-leb 1 shape.axes (omega arith), le-leb shape.axes 8 (omega arith), le-leb shape.level 8 (omega arith))
+    rw (
+      sym (few (goal.at.returns-clause-verdict c).After-contains),
+      c.if-not-contains.false,
+      le-leb c.args.self.level 8 (omega arith),
+    )
+    refl

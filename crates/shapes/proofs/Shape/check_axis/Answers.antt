@@ -1,25 +1,19 @@
--- `Shape::check_axis` meets its contract: each test decides its return.
+-- `Shape::check_axis` meets its contract: the one test decides.
 -- Assumes nothing.
-use mathlib.Core.Path.{sym}
-use native.Mathlib.Omega.{arith}
-use borrow.Author.Tests.{le-leb, lt-leb}
+use Rattle.std.proofs.Common.{◌≡◌, refl, ◌&&◌, rules, tests, sym}
+use lib.Dec.{leb}
 use Rattle.shapes.specs.Shapes.{check_axis}
+use Rattle.shapes.proofs.Shape.check_axis.Goals.{After-contains}
 use Rattle.shapes.proofs.Shape.check_axis.Goals as goal
 
-pub returns-then-axis-lt1 : goal.returns-then-axis-lt1
-unfolding check_axis
-returns-then-axis-lt1 c = sym (simp (lt-leb 1 c.args.axis (omega arith)))
+-- the axis is tested
+tested : (c : After-contains) → c.contains.result ≡ (leb 1 c.args.axis && leb c.args.axis c.args.self.axes)
+tested c = search (rules, tests)
 
-pub returns-then-self-axis : goal.returns-then-self-axis
+pub returns-then-not-contains : goal.returns-then-not-contains
 unfolding check_axis
-returns-then-self-axis c =
-    let axis = c.args.axis in
-    let axes = c.args.self.axes in
-    sym (simp (le-leb 1 axis (omega arith), lt-leb axis axes (omega arith)))
+returns-then-not-contains c = rw (sym (tested (goal.at.returns-then-not-contains c).After-contains), c.if-not-contains.true) refl
 
 pub returns : goal.returns
 unfolding check_axis
-returns c =
-    let axis = c.args.axis in
-    let axes = c.args.self.axes in
-    sym (simp (le-leb 1 axis (omega arith), le-leb axis axes (omega arith)))
+returns c = rw (sym (tested (goal.at.returns c).After-contains), c.if-not-contains.false) refl
