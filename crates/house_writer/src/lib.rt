@@ -16,7 +16,7 @@ use refusals::Refusal;
 use shapes::Shape;
 use written_numbers::{put_number, size_of};
 
-// How many bytes rates take.
+// How many bytes rates take. (Its loop is that of `put_rates`: over a trait that is no `Iterator`, and there the place goes on too.)
 fn rates_size<R: FiledRates>(rates: R) -> usize
     requires { length (written_rates (R.rates rates)) < 2 ^ 64 }
     ensures { result ≡ length (written_rates (R.rates rates)) }

@@ -8,7 +8,8 @@ ghost use Rattle.points.specs.Points.{eight, check_lists, point_in, point_from};
 use refusals::Refusal;
 use shapes::{CheckedShape, Shape};
 
-// A level and an index on each axis; places past the last axis are 0. (Two arrays, as document 01 has it: levels alone are compared, counted and numbered.)
+// A level and an index on each axis; places past the last axis are 0. (Two arrays, as document 01 has it: levels alone are compared,
+// counted and numbered. No shape beside them, so that it is a point of one stands in clauses.)
 #[derive(Clone, Copy)]
 pub struct Point {
     pub levels: [u32; 8],
