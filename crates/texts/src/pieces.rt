@@ -1,4 +1,5 @@
 // Pieces of text: each is put at the start of a buffer, and how many characters were put is answered.
+// Not by `write!`: its contract promises `Ok` at no writer and the text at `Ok` alone, and of a `&mut [u8]` or a `Cursor` over one no text; tried at both, at a `fmt::InlineText`, and at a writer of our own that never fails.
 ghost use Rattle.std.specs.Prelude.{◌+◌, ◌≤◌, length};
 ghost use Rattle.texts.specs.Text.{decimal, signed, named};
 ghost use Rattle.buffers.specs.Put.{Put};
