@@ -3,7 +3,7 @@ ghost use Rattle.std.specs.Prelude.{◌*◌, ◌≤◌, length};
 ghost use Rattle.texts.specs.Text.{heading_of, point_line, point_lines, refused_line};
 ghost use Rattle.buffers.specs.Put.{Put};
 
-use crate::pieces::{put, put_decimal, put_named, put_signed};
+use crate::pieces::{put, put_named, put_number};
 use refusals::Refusal;
 use shapes::Shape;
 
@@ -25,9 +25,9 @@ pub fn put_point(point: u64, value: i64, out: &mut [u8]) -> usize
     ensures put { Put (point_line point value) out.old 0 out.new result }
     ensures most { result ≤ 43 }
 {
-    let mut end = put_decimal(point, out);
+    let mut end = put_number(point, out);
     end += put(b" ", &mut out[end..]);
-    end += put_signed(value, &mut out[end..]);
+    end += put_number(value, &mut out[end..]);
     end + put(b"\n", &mut out[end..])
 }
 
