@@ -1,10 +1,10 @@
--- The text of a table of rates, by what the count of points and rates to coefficients answer.
+-- The text of a table of rates, by what the count of points and rates to coefficients answer; and all that is promised of a text at the front.
 -- Assumes nothing.
 use Rattle.std.specs.Prelude.{Ok, Err}
-use mathlib.Core.Path.{◌≡◌, refl, ap}
+use mathlib.Core.Path.{◌≡◌, refl, sym, ap, ◌∙◌}
 use mathlib.Core.Bool.{false}
 use mathlib.Core.List.{List}
-use Prim.Native.Nat.{ℕ, ◌<◌}
+use Prim.Native.Nat.{ℕ, ◌≤◌, ◌<◌}
 use native.Mathlib.Omega.{arith}
 use lib.Dec.{eqb}
 use lib.IntN.{ℤ}
@@ -19,6 +19,9 @@ use Rattle.shapes.specs.Shapes.{check_shape, points_of, check_length, counted}
 use Rattle.states.specs.After.{Left, left}
 use Rattle.tables.specs.Tables.{check_table}
 use Rattle.whole.specs.Whole.{rates_to_coefficients}
+use Rattle.io.specs.Counts.{IsPrefixLen}
+use Rattle.buffers.specs.Put.{Put}
+use Rattle.buffers.proofs.Puts.{put_length, put_front}
 use Rattle.texts.specs.Text.{refused_line}
 use Rattle.reports.specs.Report.{table_text}
 use Rattle.reports.specs.Steps.{turned_text, left_text, rates_text}
@@ -71,3 +74,11 @@ short_refused s xs e few =
 pub prefix_text : (s : Shape) (count : ℕ) (xs : List ℤ) → counted s ≡ Ok count → left_text s (rates_to_coefficients s (take count xs)) ≡ rates_text s xs
 unfolding rates_text
 prefix_text s count xs e = ap (λ (k : ℕ). left_text s (rates_to_coefficients s (take k xs))) (counted_points s count e)
+
+-- All that is promised of a text at the front of a buffer with room for it.
+pub put_whole : {text old new : List ℕ} {r : ℕ} → Put text old 0 new r → length text ≤ length old
+    → Put text old 0 new r × ((take r new ≡ text) × IsPrefixLen r new)
+put_whole {text} {old} {new} {r} p fits =
+    let front : take r new ≡ text = put_front p fits in
+    let n : r ≡ length text = omega (arith, p.after) in
+    (p, (front, (omega (arith, put_length p), n ∙ sym (ap length front))))

@@ -13,7 +13,7 @@ use Rattle.refusals.specs.Refusals.{number_of}
 use Rattle.texts.specs.Text.{heading_of, point_line, point_lines, refused_line}
 use Rattle.buffers.specs.Put.{Put}
 use Rattle.texts.proofs.Decimals.{decimal_length, signed_length}
-use Rattle.buffers.proofs.Puts.{put_then, put_as, put_nothing}
+use Rattle.buffers.proofs.Puts.{behind, past, put_behind, put_as, put_nothing}
 
 -- One line more.
 lines_snoc : (vs : List ℤ) (v : ℤ) (p : ℕ) → point_lines p (vs ++ (v ∷ [])) ≡ point_lines p vs ++ point_line (p + length vs) v
@@ -47,13 +47,14 @@ module _ {table : List ℤ} {old : List ℕ} where
   unfolding point_lines
   listed_starts = record { within = omega arith; listed = put_nothing old 0; most = omega arith }
 
-  pub listed_steps : {mid new : List ℕ} {m end p : ℕ} → Listed table old mid m p → p < length table → Put (point_line p (get_or table p (pos 0))) mid m new end
-      → end ≤ 43 * (p + 1) → Listed table old new end (p + 1)
-  listed_steps {mid} {new} {m} {end} {p} h lt put most =
+  pub listed_steps : {mid new : List ℕ} {m r p : ℕ} → Listed table old mid m p → p < length table → m ≤ length mid
+      → Put (point_line p (get_or table p (pos 0))) (behind mid m) 0 new r → m + r ≤ 43 * (p + 1)
+      → Listed table old (take m mid ++ (new ++ past mid m)) (m + r) (p + 1)
+  listed_steps {mid} {new} {m} {r} {p} h lt within put most =
       let z : 0 + length (take p table) ≡ p = omega (arith, length-take-le p table h.within) in
       let e : point_lines 0 (take p table) ++ point_line p (get_or table p (pos 0)) ≡ point_lines 0 (take (p + 1) table) =
       sym (rw (add-one, take-suc table p (pos 0) lt) (lines_snoc (take p table) (get_or table p (pos 0)) 0 ∙ ap (λ (k : ℕ). point_lines 0 (take p table) ++ point_line k (get_or table p (pos 0))) z)) in
-      record { within = omega arith; listed = put_as e (put_then h.listed put); most = most }
+      record { within = omega arith; listed = put_as e (put_behind h.listed within put); most = most }
 
   pub listed_ends : {new : List ℕ} {end p : ℕ} → Listed table old new end p → length table ≤ p → Put (point_lines 0 table) old 0 new end
   listed_ends {new} {end} {p} h le = put_as (ap (point_lines 0) (take_all p table le)) h.listed

@@ -1,7 +1,7 @@
 -- `reports::refused` meets its contract: the line has room.
 -- Assumes nothing.
 use native.Mathlib.Omega.{arith}
-use Rattle.texts.proofs.Puts.{put_whole}
+use Rattle.reports.proofs.Texts.{put_whole}
 use Rattle.texts.proofs.Listing.{refused_length}
 use Rattle.reports.proofs.refused.Goals as goal
 

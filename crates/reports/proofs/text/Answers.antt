@@ -2,7 +2,7 @@
 -- Assumes nothing.
 use native.Mathlib.Omega.{arith}
 use Rattle.buffers.proofs.Puts.{put_as}
-use Rattle.texts.proofs.Puts.{put_whole}
+use Rattle.reports.proofs.Texts.{put_whole}
 use Rattle.reports.proofs.Accepted.{held_report, refused_report, report_length}
 use Rattle.reports.proofs.text.Goals as goal
 

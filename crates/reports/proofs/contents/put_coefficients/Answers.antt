@@ -6,8 +6,7 @@ use Prim.Native.Nat.{ℕ}
 use native.Mathlib.Omega.{arith}
 use Rattle.texts.specs.Text.{heading_of, point_lines}
 use Rattle.reports.specs.Report.{table_text}
-use Rattle.buffers.proofs.Puts.{put_then, put_as}
-use Rattle.texts.proofs.Puts.{put_behind}
+use Rattle.buffers.proofs.Puts.{put_behind, put_as}
 use Rattle.reports.proofs.Texts.{counted_points, refused_text, passed_text}
 use Rattle.reports.proofs.contents.put_coefficients.Goals as goal
 
@@ -24,4 +23,4 @@ returns-in-Ok c =
     put_as
     (ap (λ (n : ℕ). heading_of a.shape.axes a.shape.level n ++ point_lines 0 xs) (counted_points a.shape a.count c.requires.0)
     ∙ passed_text a.shape xs _ c.in-Ok.ensures)
-    (put_then c.put_heading-end.ensures.put (put_behind (omega arith) c.put_points.ensures.put))
+    (put_behind c.put_heading-end.ensures.put (omega arith) c.put_points.ensures.put)

@@ -8,9 +8,8 @@ use mir.Syntax.{w64}
 use mir.ValLaws.{to_z-of_z}
 use Rattle.std.specs.Fmt as printed
 use Rattle.texts.specs.Text.{space, line_feed, point_line}
-use Rattle.buffers.proofs.Puts.{put_then, put_as, put_length}
+use Rattle.buffers.proofs.Puts.{put_behind, put_as, put_length}
 use Rattle.texts.proofs.Decimals.{printed_decimal, printed_signed}
-use Rattle.texts.proofs.Puts.{put_behind}
 use Rattle.texts.proofs.lines.put_point.Goals as goal
 
 pub returns-clause-put : goal.returns-clause-put
@@ -18,9 +17,9 @@ unfolding point_line
 returns-clause-put c =
     let a = c.args in
     let first = c.put_number-end.ensures.put in
-    let second = put_then first (put_behind (omega arith) c.put-end.ensures) in
-    let third = put_then second (put_behind (omega (arith, put_length second)) c.put_number-end-2.ensures.put) in
-    let last = put_then third (put_behind (omega (arith, put_length third)) c.put.ensures) in
+    let second = put_behind first (omega arith) c.put-end.ensures in
+    let third = put_behind second (omega (arith, put_length second)) c.put_number-end-2.ensures.put in
+    let last = put_behind third (omega (arith, put_length third)) c.put.ensures in
     put_as
     (ap₂ (λ (p v : List ℕ). p ++ space ++ v ++ line_feed) (printed_decimal a.point c.ranges.point.fits) (ap printed.signed_decimal (to_z-of_z w64 a.value c.ranges.value) ∙ printed_signed a.value (omega (arith, c.ranges.value))))
     last

@@ -7,7 +7,6 @@ use mir.Syntax.{w64}
 use mir.ValLaws.{to_z-of_z}
 use Rattle.texts.specs.Text.{point_line}
 use Rattle.buffers.proofs.Puts.{put_as}
-use Rattle.texts.proofs.Puts.{put_behind}
 use Rattle.texts.proofs.Listing.{listed_starts, listed_steps, listed_ends}
 use Rattle.texts.proofs.lines.put_points.Goals as goal
 
@@ -22,7 +21,8 @@ loop-p-preserved c =
     listed_steps
     c.loop-p.invariant
     (omega arith)
-    (put_as (ap (point_line p) (to_z-of_z w64 (get_or table p (pos 0)) (search rules))) (put_behind (omega arith) line.put))
+    (omega arith)
+    (put_as (ap (point_line p) (to_z-of_z w64 (get_or table p (pos 0)) (search rules))) line.put)
     (omega arith)
 
 pub returns-clause-put : goal.returns-clause-put
