@@ -4,6 +4,7 @@
 use mathlib.Core.Path.{◌≡◌, ap}
 use Prim.Native.Nat.{ℕ, suc, ◌+◌, ◌*◌, ◌%◌, ◌^◌, ◌≤◌, ◌<◌}
 use native.Mathlib.Omega.{arith}
+use lib.ListN.{length, take}
 use lib.Pow.{pow_pos, pow_mono}
 use Rattle.naturals.specs.Sum.{sum_to}
 use Rattle.naturals.proofs.Sums.{sum_to_mono}
@@ -14,6 +15,7 @@ use Rattle.numbering.proofs.Numbering.{points_is}
 use Rattle.numbering.proofs.Subspaces.{block_below}
 use Rattle.shapes.proofs.Totals.{start_small}
 use Rattle.vectors.specs.Steps.{VectorIn}
+use Rattle.vectors.proofs.Summing.{sum_of_first}
 use Rattle.vectors.specs.declared.LevelVector.{LevelVector}
 use Rattle.neighbours.specs.declared.subspaces.Line.{Line}
 use Rattle.neighbours.specs.declared.subspaces.Subspace.{Subspace}
@@ -53,8 +55,12 @@ module _ (line : Line) (v : LevelVector) (start : ℕ) (same : v.axes ≡ line.s
   vector : VectorIn line.shape.axes v.sum v.levels
   vector = rw same at v.vector
 
-  pub before_small : sum_to (at v.levels) line.place ≤ 8
-  before_small = omega (arith, vector.total, line.top, sum_to_mono (at v.levels) line.place line.shape.axes (omega (arith, line.axis)))
+  -- The levels before the axis, cut off for their sum.
+  pub before_is : let before = take line.place v.levels in sum_to (at before) (length before) ≡ sum_to (at v.levels) line.place
+  before_is = sum_of_first v.levels line.place (omega (arith, vector.long, line.few, line.axis))
+
+  pub before_small : let before = take line.place v.levels in sum_to (at before) (length before) ≤ 8
+  before_small = omega (arith, before_is, vector.total, line.top, sum_to_mono (at v.levels) line.place line.shape.axes (omega (arith, line.axis)))
 
   -- The end is small, since the level vector lies within the table.
   pub end_small : start + 1 * 2 ^ v.sum % 2 ^ 64 < 2 ^ 33

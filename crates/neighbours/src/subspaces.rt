@@ -7,7 +7,7 @@ ghost use Rattle.numbering.specs.Number.{first_of};
 use shapes::Shape;
 use vectors::LevelVector;
 
-// A shape within the limits and the place of one of its axes, from 0: a turn works on the lines along that axis.
+// An axis of a shape within the limits: the shape, and the place of the axis in it, from 0. The lines along that axis are what a turn works on.
 #[derive(Clone, Copy)]
 pub struct Line {
     pub shape: Shape,
@@ -47,7 +47,7 @@ impl Subspace {
             vector: *vector,
             start,
             end: start + (1 << vector.sum),
-            low: vectors::level_sum(place, &vector.levels),
+            low: vectors::level_sum(&vector.levels[..place]),
             own: vector.levels[place],
         }
     }

@@ -19,8 +19,15 @@ sum_first xs zero h = sym (sum_to_zero (at xs))
 sum_first xs (suc d) h =
     rw add-one at (sum_by_more (λ x. x) xs d 0 h) ∙ omega (arith, sum_first xs d (omega arith), sum_to_suc (at xs) d)
 
+pub sum_is : (xs : List ℕ) → sum xs ≡ sum_to (at xs) (length xs)
+sum_is xs = sym (ap sum (take-length xs)) ∙ sum_first xs (length xs) (omega arith)
+
+-- The sum of the first levels, as a cut slice has them.
+pub sum_of_first : (xs : List ℕ) (d : ℕ) → d ≤ length xs → sum_to (at (take d xs)) (length (take d xs)) ≡ sum_to (at xs) d
+sum_of_first xs d h = sym (sum_is (take d xs)) ∙ sum_first xs d h
+
 pub sum_of_eight : (xs : List ℕ) → length xs ≡ 8 → sum xs ≡ sum_to (at xs) 8
-sum_of_eight xs long = rw (← long) (sym (ap sum (take-length xs)) ∙ sum_first xs (length xs) (omega arith))
+sum_of_eight xs long = rw (← long) (sum_is xs)
 
 pub eight_small : (xs : List ℕ) → length xs ≡ 8 → ((t : ℕ) → at xs t < 4294967296) → sum xs < 2 ^ 64
 eight_small xs long small = omega (arith, sum_of_eight xs long, sum_bound (at xs) 4294967296 8 small)

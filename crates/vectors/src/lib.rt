@@ -1,7 +1,7 @@
 // Level vectors (document 01: level lists), eight levels: their sum, their order, and the next and the one before, in place.
 #![tactic(auto)]
 
-ghost use Rattle.std.specs.Prelude.{ℕ, ◌≡◌, ◌≤◌, ◌<◌};
+ghost use Rattle.std.specs.Prelude.{ℕ, ◌≡◌, ◌^◌, ◌≤◌, ◌<◌, length};
 ghost use Rattle.naturals.specs.Sum.{sum_to};
 ghost use Rattle.std.specs.declared.cmp.Ordering.TheVariants.{Equal};
 ghost use Rattle.numbering.specs.Point.{at};
@@ -11,17 +11,17 @@ ghost use Rattle.vectors.specs.Steps.{VectorIn, NextVector, PreviousVector};
 
 use std::cmp::Ordering;
 
-// The sum of the first levels.
-pub fn level_sum(axes: usize, levels: &[u32; 8]) -> u32
-    requires { (axes ≤ 8) × (sum_to (at levels.now) axes ≤ 8) }
-    ensures { result ≡ sum_to (at levels.now) axes }
+// The sum of these levels.
+pub fn level_sum(levels: &[u32]) -> u32
+    requires { sum_to (at levels.now) (length levels.now) < 2 ^ 32 }
+    ensures { result ≡ sum_to (at levels.now) (length levels.now) }
 {
-    levels[..axes].iter().sum()
+    levels.iter().sum()
 }
 
 // ---- their order
 
-// The sum of eight levels, whatever they are.
+// The sum of eight levels. (In 64 bits, where `level_sum` counts in 32: any eight numbers may be compared.)
 fn total(levels: [u32; 8]) -> u64
     ensures { result ≡ sum_to (at levels) 8 }
 {
@@ -29,6 +29,7 @@ fn total(levels: [u32; 8]) -> u64
 }
 
 // Two level vectors in document 01's order: the smaller level sum first, then the smaller level on the last axis at which they differ.
+// (`then_with` and the `cmp` of the levels' iterators were proved, and took half as long again, and twice as long where the sums are equal.)
 pub fn compare_levels(a: [u32; 8], b: [u32; 8]) -> Ordering
     ensures { result ≡ order_of_levels 8 (at a) (at b) Equal }
 {
@@ -47,8 +48,8 @@ pub fn compare_levels(a: [u32; 8], b: [u32; 8]) -> Ordering
 
 // ---- a level vector with its sum
 
-// A level vector of these axes, those past them zero, with its sum. It is stepped in place: a copy of eight levels right after one of them is written waits for
-// the write.
+// A level vector of these axes, those past them zero, with its sum. (Stepped in place: a copy of the levels right after a write to one would wait for it.)
+// No bound of the sum is in the type, since past the last of sum 8 `next` gives sum 9.
 #[derive(Clone, Copy)]
 pub struct LevelVector {
     pub axes: u32,
@@ -73,13 +74,14 @@ impl LevelVector {
     }
 
     // The one of these levels.
+    #[tactic(auto, using(crate::proofs::Summing::sum_of_first))]
     pub fn of(axes: u32, levels: [u32; 8]) -> LevelVector
         requires { (1 ≤ axes) × (axes ≤ 8) × (sum_to (at levels) axes ≤ 8) × ((t : ℕ) → axes ≤ t → at levels t ≡ 0) }
         ensures { (result.axes ≡ axes) × (result.levels ≡ levels) }
     {
         LevelVector {
             axes,
-            sum: level_sum(axes as usize, &levels),
+            sum: level_sum(&levels[..axes as usize]),
             levels,
         }
     }
