@@ -1,7 +1,6 @@
 -- What a function of the boundary leaves: the number that it answers, the place that it writes, and what its outputs and buffers hold.
 -- Assumes nothing.
-use Rattle.refusals.specs.Checks.{Verdict}
-use Rattle.std.specs.Prelude.{ℕ, Ok, Err}
+use Rattle.std.specs.Prelude.{ℕ, Result, Ok, Err}
 use Rattle.refusals.specs.declared.Refusal.{Refusal}
 use Rattle.refusals.specs.Refusals.{number_of, place_of}
 
@@ -20,7 +19,7 @@ success = told 0 0
 abbrev pub refusal : Refusal → Told
 refusal r = told (number_of r) (place_of r)
 
-abbrev pub told_of : Verdict → Told
+abbrev pub told_of : {A : Type 0} → Result A Refusal → Told
 told_of (Ok _) = success
 told_of (Err r) = refusal r
 

@@ -2,7 +2,7 @@
 #![tactic(auto)]
 
 ghost use Rattle.std.specs.Prelude.{◌≡◌};
-ghost use Rattle.answers.specs.Returned.{told, success, refusal, told_of, returned};
+ghost use Rattle.answers.specs.Returned.{told, told_of, returned};
 ghost use Rattle.answers.specs.Answers.{shape_of, state_of, side_of, of_value, of_point, of_located, of_answer};
 
 use numbering::Side;
@@ -35,29 +35,20 @@ pub fn side_of(side: u32) -> Side
     if side == 0 { Side::Left } else { Side::Right }
 }
 
-// The call succeeded.
-pub fn succeed(place: &mut u64) -> u32
-    ensures { told result place.new ≡ success }
+// How the call went: 0 and 0, or the refusal's number and place. The outputs of an answer are written beside it, where there is a value.
+// (Not by a closure that is handed in: of one that is dropped uncalled no contract can say that its outputs stay.)
+pub fn tell<T: Copy>(answer: Result<T, Refusal>, place: &mut u64) -> u32
+    ensures { told result place.new ≡ told_of answer }
 {
-    *place = 0;
-    0
-}
-
-// Refused: the place goes out, and the number is answered.
-pub fn refuse(r: Refusal, place: &mut u64) -> u32
-    ensures { told result place.new ≡ refusal r }
-{
-    *place = r.place();
-    r.number()
-}
-
-// A verdict has no output.
-pub fn tell(verdict: Result<(), Refusal>, place: &mut u64) -> u32
-    ensures { told result place.new ≡ told_of verdict }
-{
-    match verdict {
-        Err(r) => refuse(r, place),
-        Ok(()) => succeed(place),
+    match answer {
+        Err(r) => {
+            *place = r.place();
+            r.number()
+        }
+        Ok(_) => {
+            *place = 0;
+            0
+        }
     }
 }
 
@@ -65,13 +56,20 @@ pub fn tell(verdict: Result<(), Refusal>, place: &mut u64) -> u32
 pub fn hand<T: Copy>(answer: Result<T, Refusal>, out: &mut T, place: &mut u64) -> u32
     ensures { returned result place.new out.new ≡ of_value out.old answer }
 {
-    match answer {
-        Err(r) => refuse(r, place),
-        Ok(value) => {
-            *out = value;
-            succeed(place)
-        }
+    if let Ok(value) = &answer {
+        *out = *value;
     }
+    tell(answer, place)
+}
+
+// A point into two arrays. (By two variables: the borrow check does not cover a field that is an array, stored straight.)
+fn put_point(point: Point, levels: &mut [u32; 8], indices: &mut [u32; 8])
+    ensures { (levels.new ≡ point.levels) × (indices.new ≡ point.indices) }
+{
+    let point_levels = point.levels;
+    let point_indices = point.indices;
+    *levels = point_levels;
+    *indices = point_indices;
 }
 
 // A point goes out into two arrays.
@@ -83,19 +81,14 @@ pub fn hand_point(
 ) -> u32
     ensures { returned result place.new (levels.new, indices.new) ≡ of_point (levels.old, indices.old) answer }
 {
-    match answer {
-        Err(r) => refuse(r, place),
-        Ok(point) => {
-            let point_levels = point.levels;
-            let point_indices = point.indices;
-            *levels = point_levels;
-            *indices = point_indices;
-            succeed(place)
-        }
+    if let Ok(point) = answer {
+        put_point(point, levels, indices);
     }
+    tell(answer, place)
 }
 
 // A point goes out into two arrays, and `none` is 0. Where there is none, at the end or the border, the arrays stay, and `none` is 1.
+// (C has numbers for yes and no.)
 pub fn hand_located(
     answer: Result<Option<Point>, Refusal>,
     levels: &mut [u32; 8],
@@ -105,17 +98,14 @@ pub fn hand_located(
 ) -> u32
     ensures { returned result place.new (levels.new, indices.new, none.new) ≡ of_located (levels.old, indices.old, none.old) answer }
 {
-    match answer {
-        Ok(None) => {
-            *none = 1;
-            succeed(place)
-        }
-        Ok(Some(point)) => {
+    if let Ok(located) = answer {
+        *none = 1;
+        if let Some(point) = located {
             *none = 0;
-            hand_point(Ok(point), levels, indices, place)
+            put_point(point, levels, indices);
         }
-        Err(r) => refuse(r, place),
     }
+    tell(answer, place)
 }
 
 // The output of an answered state is its set of forward axes: the caller holds the shape.

@@ -8,14 +8,13 @@ ghost use Rattle.splits.specs.Splits.{cut};
 ghost use Rattle.component_grids.specs.Component.{across, points_to};
 ghost use Rattle.component_boxes.specs.Order.{widest};
 
-// The axis with most points left in a box, the smallest of several. (Eight levels and a count, as a box and its grid hold them: a slice would be cut at each call.)
-pub fn widest_axis(levels: [u32; 8], axes: usize) -> usize
-    requires { (1 ≤ axes) × (axes ≤ 8) }
-    ensures { result ≡ widest (at levels) axes }
+// The axis with most points left among axes of these levels, the smallest of several.
+pub fn widest_axis(levels: &[u32]) -> usize
+    ensures { result ≡ widest (at levels.now) (length levels.now) }
 {
     let mut most = 0;
-    for t in 1..axes {
-        if levels[most] < levels[t] {
+    for (t, level) in levels.iter().enumerate() {
+        if levels[most] < *level {
             most = t;
         }
     }

@@ -11,15 +11,14 @@ use Rattle.hierarchy.specs.Work.{Item, all_worked}
 use Rattle.hierarchy.proofs.Values.{values_of_value}
 use Rattle.component_grids.specs.Component.{across, points_to}
 use Rattle.component_boxes.specs.Order.{widest, middle_of, half_of, order_in}
-use Rattle.component_boxes.proofs.Widest.{widest_most}
-use Rattle.component_boxes.proofs.Falling.{single_point, middle_fewer, half_fewer, in_none}
+use Rattle.component_boxes.proofs.Widest.{widest_lt, widest_most}
+use Rattle.component_boxes.proofs.Falling.{single_point, level_left, middle_fewer, half_fewer, in_none}
 use Rattle.component_sweeps.specs.declared.grid.Layout.{Layout}
 use Rattle.component_sweeps.specs.Steps.{tops_of}
 use Rattle.component_order.specs.declared.Piece.{Piece}
 use Rattle.component_order.specs.declared.Parts.{Parts}
 use Rattle.component_order.specs.InOrder.{worked_in}
 use Rattle.component_order.specs.Steps.{Mixed, MixedOn, worked_on, IsPiece, PartsOf}
-use Rattle.component_order.proofs.Cutting.{axis, some}
 use Rattle.component_order.proofs.Mixing.{middle_mixed, left_mixed, right_mixed, rest_mixed, all_four}
 
 -- A box with more than one point has an axis with more than one.
@@ -70,12 +69,15 @@ module _ (p : Piece) (xs : List ℤ) (mixed : MixedOn p xs) (more : 1 < across (
   abbrev c : ℕ
   c = p.of.centre
 
+  some : 0 < k (widest k g.axes)
+  some = level_left g.axes (tops_of g) (k (widest k g.axes)) more
+
   -- Fewer points are left.
   middle_less : points_to (middle_of k (widest k g.axes)) g.axes < points_to k g.axes
-  middle_less = middle_fewer k g.axes (widest k g.axes) (axis p.of more _ refl) (some p.of more _ refl)
+  middle_less = middle_fewer k g.axes (widest k g.axes) (widest_lt k g.axes g.some) some
 
   half_less : points_to (half_of k (widest k g.axes)) g.axes < points_to k g.axes
-  half_less = half_fewer k g.axes (widest k g.axes) (axis p.of more _ refl) (some p.of more _ refl)
+  half_less = half_fewer k g.axes (widest k g.axes) (widest_lt k g.axes g.some) some
 
   pub first_falls : points_to (at parts.first.of.levels) parts.first.of.grid.now.axes < points_to k g.axes
   first_falls = rw (points_as split.first) middle_less

@@ -4,7 +4,7 @@ use mathlib.Core.Path.{◌≡◌, ap, sym, ◌∙◌, fun_ext}
 use mathlib.Core.List.{List}
 use Prim.Native.Nat.{ℕ, ◌+◌, ◌-◌, ◌*◌, ◌%◌, ◌^◌, ◌≤◌, ◌<◌}
 use native.Mathlib.Omega.{arith}
-use lib.ListN.{length, set}
+use lib.ListN.{length, take, set}
 use lib.Seq.{get_or-set_same, get_or-set_other}
 use Rattle.naturals.proofs.Cases.{eq_or_not}
 use Rattle.naturals.proofs.Shifts.{one_shifted}
@@ -16,6 +16,7 @@ use Rattle.component_boxes.specs.Order.{widest, middle_of, half_of, away}
 use Rattle.component_boxes.specs.Boxes.{Fits}
 use Rattle.component_boxes.proofs.Halves.{left_shift, right_shift, middle_fits, left_fits, right_fits}
 use Rattle.component_boxes.proofs.Widest.{widest_lt}
+use Rattle.component_boxes.proofs.Seeking.{widest_taken}
 use Rattle.component_boxes.proofs.Falling.{level_left}
 use Rattle.component_sweeps.specs.declared.grid.Layout.{Layout}
 use Rattle.component_sweeps.specs.declared.grid.GridBox.{GridBox}
@@ -30,7 +31,7 @@ at_set ls r v inside =
     (λ same. rw same (get_or-set_same ls r v 0 inside ∙ sym (update_same (at ls) r v)))
     (λ other. get_or-set_other ls r t v 0 other ∙ sym (update_other (at ls) r v t other)))
 
-module _ (b : GridBox) (more : 1 < across (at b.levels (widest (at b.levels) b.grid.now.axes))) (r : ℕ) (is : r ≡ widest (at b.levels) b.grid.now.axes) where
+module _ (b : GridBox) (more : 1 < across (at b.levels (widest (at b.levels) b.grid.now.axes))) (r : ℕ) (found : r ≡ widest (at (take b.grid.now.axes b.levels)) (length (take b.grid.now.axes b.levels))) where
   abbrev g : Layout
   g = b.grid.now
 
@@ -39,6 +40,9 @@ module _ (b : GridBox) (more : 1 < across (at b.levels (widest (at b.levels) b.g
 
   abbrev c : ℕ
   c = b.centre
+
+  pub is : r ≡ widest (at ls) g.axes
+  is = found ∙ widest_taken ls g.axes
 
   more_here : 1 < across (at ls r)
   more_here = rw is more

@@ -49,21 +49,23 @@ impl<'a> Piece<'a> {
         }
     }
 
+    // The piece's parts: its middle has level 0 on the widest axis, and its halves a level less there and middle points of their own.
+    // (Each box is written in full: of a struct with facts of its own `..` makes none.)
     fn split(&self) -> Parts<'a>
         requires { 1 < across (at self.now.of.levels (widest (at self.now.of.levels) self.now.of.grid.now.axes)) }
         ensures { PartsOf self.now result }
     {
-        let r = component_boxes::widest_axis(self.of.levels, self.of.grid.axes);
+        let r = component_boxes::widest_axis(&self.of.levels[..self.of.grid.axes]);
         let level = self.of.levels[r] - 1;
-        let mut middle = self.of.levels;
-        middle[r] = 0;
+        let mut single = self.of.levels;
+        single[r] = 0;
         let mut half = self.of.levels;
         half[r] = level;
         let away = (1 << level) * self.of.grid.strides[r];
         let cut = component_boxes::cut_at(self.from, self.to, r);
         let middle = GridBox {
             grid: self.of.grid,
-            levels: middle,
+            levels: single,
             centre: self.of.centre,
         };
         let left = GridBox {

@@ -7,8 +7,9 @@ ghost use Rattle.component_sweeps.specs.Steps.{tops_of, Covers};
 
 use crate::GridBox;
 
-// How the lines of a box are worked together: `lines` runs, each `apart` from the one before, of `width` positions, each a `unit` from the one before, have the box's
-// points on all axes below `from`, the turned one aside. (What it covers stands in `Covers`: a struct with facts of its own cannot be made of another by `..b`.)
+// How the lines of a box are worked together: `lines` runs, each `apart` from the one before, of `width` positions, each a `unit` from
+// the one before, have the box's points on all axes below `from`, the turned one aside. (What it covers stands in `Covers`: a struct with
+// facts of its own cannot be made of another by `..b`.)
 #[derive(Clone, Copy)]
 pub struct Spread {
     pub from: usize,
@@ -26,17 +27,23 @@ pub struct BoxAxis<'a> {
     ghost inside: { axis < of.grid.now.axes },
 }
 
-// An axis of a box as it is turned: how the box's lines are worked together; and of the axis how far two places that follow each other lie apart, where it ends, the place of
-// the box's middle point, the box's level, and how far on either side the box and the middle point itself reach.
+// An axis of a box as it is turned.
 #[derive(Clone, Copy)]
 pub struct Sweep<'a> {
     pub on: BoxAxis<'a>,
+    // How the box's lines are worked together.
     pub spread: Spread,
+    // How far two places that follow each other lie apart.
     pub stride: usize,
+    // Where the axis ends.
     pub end: usize,
+    // The place of the box's middle point.
     pub place: usize,
+    // The box's level, and how far the box reaches on either side of the middle point. (Both: places are gone through by level, and three
+    // expressions start from that reach, which would each shift it anew.)
     pub level: u32,
     pub half: usize,
+    // How far the middle point itself reaches.
     pub reach: usize,
     ghost covers: { ∥ Covers on.of on.axis spread ∥₁ },
     ghost stride_is: { stride ≡ points_to (tops_of on.of.grid.now) on.axis },

@@ -5,8 +5,9 @@ ghost use Rattle.shapes.specs.Shapes.{most_points};
 ghost use Rattle.component_grids.specs.Component.{points_to};
 ghost use Rattle.component_boxes.specs.Boxes.{Fits};
 
-// How a component grid of at most 32,768 points is laid out: its axes, the top level of each, and how many positions two points that follow each other on it lie apart. (Two arrays and not one of pairs: the levels
-// of the whole grid's box are its tops, and half a box's span is over the levels of any box and the strides.)
+// How a component grid of at most 32,768 points is laid out: its axes, the top level of each, and how many positions two points that
+// follow each other on it lie apart. (Two arrays and not one of pairs: the levels of the whole grid's box are its tops, and half a box's
+// span is over the levels of any box and the strides.)
 #[derive(Clone, Copy)]
 pub struct Layout {
     pub axes: usize,

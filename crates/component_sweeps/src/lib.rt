@@ -94,7 +94,8 @@ impl Sweep<'_> {
         }
     }
 
-    // The lines of the band that starts at position q, the finest places first: a place's parents are coarser, and have not moved yet. A middle with no parents stays.
+    // The lines of the band that starts at position q, the finest places first: a place's parents are coarser, and have not moved yet.
+    // A middle with no parents stays.
     fn line(&self, table: &mut [i64], q: usize)
         requires { Line self.now q table.old }
         ensures { Turned (turn self.now) (InLine self.now q) table.old table.new }
@@ -148,8 +149,9 @@ impl Layout {
 }
 
 impl BoxAxis<'_> {
-    // A band with the next axis too, where there is one that can be added. The turned axis and one where the box has a single point add nothing. The points of another one make
-    // the run, or widen it where they go on with its unit; or else they make the lines, or add to them in the same way.
+    // A band with the next axis too, where there is one that can be added. The turned axis and one where the box has a single point add
+    // nothing. The points of another one make the run, or widen it where they go on with its unit; or else they make the lines, or add to
+    // them in the same way.
     fn add_axis(&self, b: Spread) -> Option<Spread>
         requires { Covers self.now.of self.now.axis b }
         ensures { IfSome result (λ more. Covers self.now.of self.now.axis more × (more.from ≡ b.from + 1)) }

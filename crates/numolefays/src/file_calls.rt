@@ -17,14 +17,12 @@ pub extern "C" fn numolefays_read_house_file(
 ) -> u32
     ensures { returned result place.new (axes.new, level.new, table.new) ≡ of_reading (axes.old, level.old) (read_file bytes.now table.old) }
 {
-    match house_file::read(bytes, table) {
-        Err(r) => answers::refuse(r, place),
-        Ok(shape) => {
-            *axes = shape.axes;
-            *level = shape.level;
-            answers::succeed(place)
-        }
+    let answer = house_file::read(bytes, table);
+    if let Ok(shape) = answer {
+        *axes = shape.axes;
+        *level = shape.level;
     }
+    answers::tell(answer, place)
 }
 
 // The shape that a file names and its number of points, from the first two numbers alone.
@@ -39,15 +37,13 @@ pub extern "C" fn numolefays_house_file_shape(
 ) -> u32
     ensures { returned result place.new (axes.new, level.new, points.new) ≡ of_named (axes.old, level.old, points.old) (shape_of_file bytes.now) }
 {
-    match house_file::shape_of(bytes) {
-        Err(r) => answers::refuse(r, place),
-        Ok(named) => {
-            *axes = named.shape.axes;
-            *level = named.shape.level;
-            *points = named.points();
-            answers::succeed(place)
-        }
+    let answer = house_file::shape_of(bytes);
+    if let Ok(named) = answer {
+        *axes = named.shape.axes;
+        *level = named.shape.level;
+        *points = named.points();
     }
+    answers::tell(answer, place)
 }
 
 // The file of a shape and its rates into the first bytes of `out`, and its length.

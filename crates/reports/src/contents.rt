@@ -1,9 +1,9 @@
 // The text of a table of rates: its coefficients, or why it is refused.
-ghost use Rattle.std.specs.Prelude.{◌≡◌, ◌+◌, ◌*◌, ◌≤◌, length};
+ghost use Rattle.std.specs.Prelude.{◌≡◌};
 ghost use Rattle.shapes.specs.Shapes.{counted};
 ghost use Rattle.whole.specs.Whole.{rates_to_coefficients};
 ghost use Rattle.buffers.specs.Put.{Put};
-ghost use Rattle.reports.specs.Steps.{left_text, rates_text};
+ghost use Rattle.reports.specs.Steps.{RoomFor, left_text, rates_text};
 
 use refusals::Refusal;
 use shapes::Shape;
@@ -11,7 +11,7 @@ use texts::lines::{put_heading, put_points, put_refused};
 
 // The rates become coefficients, and these are listed.
 fn put_coefficients(shape: Shape, count: u64, table: &mut [i64], out: &mut [u8]) -> usize
-    requires { (counted shape ≡ Ok count) × (81 + 43 * length table.old ≤ length out.old) }
+    requires { (counted shape ≡ Ok count) × RoomFor table.old out.old }
     ensures { Put (left_text shape (rates_to_coefficients shape table.old)) out.old 0 out.new result }
 {
     match whole::rates_to_coefficients(shape, table) {
@@ -25,7 +25,7 @@ fn put_coefficients(shape: Shape, count: u64, table: &mut [i64], out: &mut [u8])
 
 // The rates stand in the first places of the table, as many as there are points.
 fn put_counted(shape: Shape, count: u64, table: &mut [i64], out: &mut [u8]) -> usize
-    requires { (counted shape ≡ Ok count) × (81 + 43 * length table.old ≤ length out.old) }
+    requires { (counted shape ≡ Ok count) × RoomFor table.old out.old }
     ensures { Put (rates_text shape table.old) out.old 0 out.new result }
 {
     let Some(rates) = table.get_mut(..count as usize) else {
@@ -34,8 +34,9 @@ fn put_counted(shape: Shape, count: u64, table: &mut [i64], out: &mut [u8]) -> u
     put_coefficients(shape, count, rates, out)
 }
 
+// The text of the rates in the first places of the table, or of why the shape or the table is refused.
 pub fn put_table(shape: Shape, table: &mut [i64], out: &mut [u8]) -> usize
-    requires { 81 + 43 * length table.old ≤ length out.old }
+    requires { RoomFor table.old out.old }
     ensures { Put (rates_text shape table.old) out.old 0 out.new result }
 {
     match shape.count() {

@@ -24,12 +24,13 @@ pub trait Turning: Direction {
         ensures turned { table.new ≡ whole_turn Self.ahead line.shape line.place table.old }
         ensures odds { result ≡ odd_sums line.shape line.place (if Self.ahead then table.old else table.new) (points_of line.shape) };
 
-    // The turn that undoes it.
+    // The turn that undoes it. (The other direction's `sweep`, but a trait that names the other type would not know that its `ahead` is the opposite.)
     fn undo(line: Line, table: &mut [i64])
         requires { TableOf line.shape (2 ^ 55) table.old }
         ensures { table.new ≡ whole_turn (not Self.ahead) line.shape line.place table.old };
 
-    // The state that it leaves; refused where the axis is turned already. (One function for both would be handed the bit and the refusal, all that it does besides one call.)
+    // The state that it leaves; refused where the axis is turned already. (One function for both would be handed the bit and the refusal,
+    // all that it does besides one call.)
     fn mark(state: State, axis: u32) -> Result<State, Refusal>
         requires { (1 ≤ axis) × (axis ≤ 8) }
         ensures { result ≡ marked_as Self.ahead state axis };

@@ -2,7 +2,7 @@
 -- Assumes nothing.
 use Rattle.std.proofs.Common.{◌≡◌, refl, ap, ◌∙◌, ℕ, ◌+◌, ◌-◌, length, arith}
 use Rattle.splits.specs.Splits.{cut}
-use Rattle.component_order.proofs.Cutting.{small, some, low, away_left, away_right, middle_in, left_in, right_in, middle_is, half_is, away_widest}
+use Rattle.component_order.proofs.Cutting.{is, small, some, low, away_left, away_right, middle_in, left_in, right_in, middle_is, half_is, away_widest}
 use Rattle.component_order.proofs.Piece.split.Goals as goal
 
 pub offset_bounds-self-r : goal.offset_bounds-self-r
@@ -14,11 +14,11 @@ bounds-self-r c = small c.args.self.now.of c.requires _ c.widest_axis-r.ensures
 pub overflow_sub-level : goal.overflow_sub-level
 overflow_sub-level c = some c.args.self.now.of c.requires _ c.widest_axis-r.ensures
 
-pub offset_bounds-middle-r : goal.offset_bounds-middle-r
-offset_bounds-middle-r c = omega (arith, small c.args.self.now.of c.requires _ c.widest_axis-r.ensures)
+pub offset_bounds-single-r : goal.offset_bounds-single-r
+offset_bounds-single-r c = omega (arith, small c.args.self.now.of c.requires _ c.widest_axis-r.ensures)
 
-pub bounds-middle-r : goal.bounds-middle-r
-bounds-middle-r c = small c.args.self.now.of c.requires _ c.widest_axis-r.ensures
+pub bounds-single-r : goal.bounds-single-r
+bounds-single-r c = small c.args.self.now.of c.requires _ c.widest_axis-r.ensures
 
 pub offset_bounds-half-r : goal.offset_bounds-half-r
 offset_bounds-half-r c = omega (arith, small c.args.self.now.of c.requires _ c.widest_axis-r.ensures)
@@ -61,7 +61,7 @@ returns c =
     let middle = middle_is b c.requires _ same long in
     let half = half_is b c.requires _ same long in
     let away = away_widest b c.requires _ same in
-    let cut_is = c.cut_at-cut.ensures ∙ ap (cut c.args.self.now.from c.args.self.now.to) same in
+    let cut_is = c.cut_at-cut.ensures ∙ ap (cut c.args.self.now.from c.args.self.now.to) (is b c.requires _ same) in
     record {
       first = record { grid = refl; levels = middle; centre = refl; from = refl; to = cut_is };
       left = record { grid = refl; levels = half; centre = ap (λ (x : ℕ). b.centre - x) away; from = refl; to = refl };
