@@ -36,7 +36,7 @@ pub fn side_of(side: u32) -> Side
 }
 
 // How the call went: 0 and 0, or the refusal's number and place. The outputs of an answer are written beside it, where there is a value.
-// (Not by a closure that is handed in: of one that is dropped uncalled no contract can say that its outputs stay.)
+// (Not by a closure that is handed in: of one that is dropped uncalled the caller does not learn that the outputs stay.)
 pub fn tell<T: Copy>(answer: Result<T, Refusal>, place: &mut u64) -> u32
     ensures { told result place.new ≡ told_of answer }
 {

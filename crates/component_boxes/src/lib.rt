@@ -1,5 +1,5 @@
-// Boxes of a component grid and the order in which they are worked through: how many points an axis has, which axis is the widest, and where a split cuts the axes
-// that are still to do.
+// Boxes of a component grid and the order in which they are worked through: how many points an axis has, which axis is the widest, and
+// where a split cuts the axes that are still to do.
 #![tactic(auto)]
 
 ghost use Rattle.std.specs.Prelude.{ℕ, ◌≡◌, ◌≤◌, length, min};
