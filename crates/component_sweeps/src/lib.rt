@@ -135,7 +135,8 @@ impl Sweep<'_> {
 }
 
 impl Layout {
-    // How many positions the middle point of a box of these levels comes after the box's first position.
+    // How many positions the middle point of a box of these levels comes after the box's first position. (A `for` shows of each turn that
+    // the span fits; std's `sum` asks it of the whole beforehand.)
     pub fn half_span(&self, levels: &[u32; 8]) -> usize
         requires { (t : ℕ) → t < self.now.axes → at levels.now t ≤ at self.now.tops t }
         ensures { result ≡ half_span self.now.axes (tops_of self.now) (at levels.now) }

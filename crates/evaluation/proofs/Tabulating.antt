@@ -1,7 +1,7 @@
 -- What tables of hats give: hats of coordinates are bounded, and so are the first d of them.
 -- Assumes nothing.
 use mathlib.Core.List.{List, []}
-use mathlib.Core.Path.{◌≡◌, ap, sym, subst}
+use mathlib.Core.Path.{ap, sym, subst}
 use Prim.Native.Nat.{ℕ, ◌≤◌}
 use lib.ListN.{take}
 use Rattle.std.proofs.lemmas.List.{get_or-take}

@@ -25,6 +25,7 @@ fn refuses<const CHECKED: bool>(test: bool) -> bool
 }
 
 // The filed number at the front of some bytes, which were checked or not, byte by byte. Its first four groups fit whatever they are, the fifth where it is below 16.
+// (By index: a group's place is also its shift.)
 fn long_number<const CHECKED: bool>(bytes: &[u8]) -> Result<(u32, &[u8]), Refusal>
     requires { CHECKED ≡ true → Reads (read_number bytes.now) }
     ensures { read_in result ≡ read_number bytes.now }

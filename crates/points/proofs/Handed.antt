@@ -1,7 +1,7 @@
 -- A point that was handed in and passed: by value it is a point of the shape, and has the levels and indices of the two lists.
 -- Assumes nothing.
 use Rattle.std.specs.Prelude.{Ok, Err}
-use mathlib.Core.Path.{◌≡◌, ap, sym, ◌∙◌}
+use mathlib.Core.Path.{◌≡◌}
 use mathlib.Core.List.{List}
 use Prim.Native.Nat.{ℕ}
 use Rattle.numbering.specs.Point.{at}

@@ -95,7 +95,7 @@ impl Rows {
         u64::from(self.entries[(axes - 1) as usize][sum as usize])
     }
 
-    // How many points of these axes have a level sum below this one.
+    // How many points of these axes have a level sum below this one. (A `for` shows of each turn that the total fits; std's `sum` asks it of the whole beforehand.)
     pub fn start(&self, axes: u32, sum: u32) -> u64
         requires { (1 ≤ axes) × (axes ≤ 8) × (sum ≤ 9) }
         ensures { result ≡ start axes sum }

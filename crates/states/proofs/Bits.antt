@@ -9,7 +9,7 @@ use native.Mathlib.Numerals.{one-add}
 use native.Mathlib.Omega.{arith}
 use lib.Bits.{bit_and, bit_xor, and_mask, and_high, xor_add_and}
 use lib.Dec.{eqb}
-use lib.Pow.{pow_pos, pow-add, mod-pow-add, pow_mono, shr-shr, ones_split, ones_lt, high}
+use lib.Pow.{pow_pos, pow-add, mod-pow-add, shr-shr, ones_split, ones_lt, high}
 use borrow.Author.Tests.{eq-eqb, ne_eqb, eqb-true, eqb-false}
 use Rattle.naturals.proofs.Cases.{eq_or_not, le_or_lt, true_or_false}
 use Rattle.states.specs.declared.State.{State}

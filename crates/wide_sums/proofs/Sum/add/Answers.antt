@@ -9,7 +9,6 @@ use Rattle.integers.proofs.Sizes.{sum_size}
 use Rattle.surfaces.specs.Weights.{unit}
 use Rattle.surfaces.proofs.Unit.{unit_is}
 use Rattle.wide_sums.proofs.Parts.{fits_below, high_size, high_product, high_product_fits, high_sum_fits, low_value, low_size}
-use Rattle.wide_sums.proofs.Sum.add.Goals.{Start}
 use Rattle.wide_sums.proofs.Sum.add.Goals as goal
 
 pub overflow_cast-self-2 : goal.overflow_cast-self-2
