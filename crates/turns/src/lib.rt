@@ -24,7 +24,8 @@ pub trait Turning: Direction {
         ensures turned { table.new ≡ whole_turn Self.ahead line.shape line.place table.old }
         ensures odds { result ≡ odd_sums line.shape line.place (if Self.ahead then table.old else table.new) (points_of line.shape) };
 
-    // The turn that undoes it. (The other direction's `sweep`, but a trait that names the other type would not know that its `ahead` is the opposite.)
+    // The turn that undoes it. (The other direction's `sweep`: a trait that names the other type would need a law that its `ahead` is the opposite, and a second
+    // trait for that type to be of.)
     fn undo(line: Line, table: &mut [i64])
         requires { TableOf line.shape (2 ^ 55) table.old }
         ensures { table.new ≡ whole_turn (not Self.ahead) line.shape line.place table.old };
