@@ -1,6 +1,7 @@
 -- The running total of the count of points: one more turn adds the points of one level sum, and neither that many nor the total comes near the
 -- width, since the largest total of each row of shapes is below 2^32, by one test that antt computes, and the totals grow with the level sum.
 -- Assumes nothing.
+use Rattle.std.specs.Prelude.{Ok}
 use mathlib.Core.Path.{◌≡◌, refl}
 use mathlib.Core.Bool.{Bool, true}
 use Prim.Native.Nat.{ℕ, suc, ◌+◌, ◌-◌, ◌*◌, ◌^◌, ◌%◌, ◌≤◌, ◌<◌}
@@ -14,7 +15,10 @@ use Rattle.naturals.specs.Test.{all}
 use Rattle.naturals.proofs.Sums.{sum_to_zero, sum_to_suc, sum_to_mono, term_le}
 use Rattle.naturals.proofs.Tests.{all_at}
 use Rattle.numbering.specs.Binomial.{choose}
-use Rattle.numbering.specs.Count.{vectors, shell, start}
+use Rattle.numbering.specs.Count.{vectors, shell, start, points}
+use Rattle.shapes.specs.declared.Shape.{Shape}
+use Rattle.shapes.specs.Shapes.{check_shape, points_of}
+use Rattle.shapes.proofs.Checked.{passed_in_range}
 
 pub start_zero : (d : ℕ) → start d 0 ≡ 0
 unfolding start
@@ -59,3 +63,9 @@ module _ (d : ℕ) (low : 1 ≤ d) (high : d ≤ 8) where
   -- A turn of the loop.
   pub turn : (j total count : ℕ) → j ≤ 8 → total ≡ start d j → count ≡ vectors d j → total + count * 2 ^ j % 2 ^ 64 ≡ start d (suc j)
   turn j total count le sum new = rw new (omega (arith, shifted j le, start_suc d j))
+
+-- The points of a shape that the check passes.
+pub points_small : (s : Shape) → check_shape s ≡ Ok tt → points_of s < 4294967296
+unfolding points_of points
+points_small s passed =
+    let range = passed_in_range s passed in start_small s.axes range.low range.high (suc s.level) (omega (arith, range.top))
