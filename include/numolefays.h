@@ -196,6 +196,17 @@ uint32_t numolefays_estimate(uint32_t axes, uint32_t level, uint8_t forward, con
                              size_t table_length, const uint32_t *coordinates, size_t coordinates_length,
                              int64_t *estimate, uint64_t *place);
 
+/*
+ * The same estimate, and how far it can be off: the exact value of the surface differs from it by at most
+ * *margin, in the same unit. *reached is S, the sum of the sizes of the coefficients of the points whose weight
+ * there is above 0 on each axis, and *margin is 1/2 + (d - 1) x S / 1,048,576, rounded up. Refused as
+ * numolefays_estimate is.
+ */
+uint32_t numolefays_estimate_with_margin(uint32_t axes, uint32_t level, uint8_t forward, const int64_t *table,
+                                         size_t table_length, const uint32_t *coordinates,
+                                         size_t coordinates_length, int64_t *estimate, uint64_t *reached,
+                                         uint64_t *margin, uint64_t *place);
+
 /* ---- component grids [18] ---- */
 
 /*

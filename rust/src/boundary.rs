@@ -142,6 +142,19 @@ mod raw {
             estimate: *mut i64,
             place: *mut u64,
         ) -> u32;
+        pub fn numolefays_estimate_with_margin(
+            axes: u32,
+            level: u32,
+            forward: u8,
+            table: *const i64,
+            len: usize,
+            coordinates: *const u32,
+            coordinates_len: usize,
+            estimate: *mut i64,
+            reached: *mut u64,
+            margin: *mut u64,
+            place: *mut u64,
+        ) -> u32;
         pub fn numolefays_component_coefficients(
             levels: *const u32,
             levels_len: usize,
@@ -376,6 +389,36 @@ pub fn estimate(
             coordinates.as_ptr(),
             coordinates.len(),
             estimate,
+            place,
+        )
+    }
+}
+
+/// The surface at these coordinates, with the sum of the sizes of the coefficients reached there and the margin. Section 11.
+/// Refused with 1, 2, 14, 3, 17, 7, 8, 10.
+pub fn estimate_with_margin(
+    axes: u32,
+    level: u32,
+    forward: u8,
+    table: &[i64],
+    coordinates: &[u32],
+    estimate: &mut i64,
+    reached: &mut u64,
+    margin: &mut u64,
+    place: &mut u64,
+) -> u32 {
+    unsafe {
+        raw::numolefays_estimate_with_margin(
+            axes,
+            level,
+            forward,
+            table.as_ptr(),
+            table.len(),
+            coordinates.as_ptr(),
+            coordinates.len(),
+            estimate,
+            reached,
+            margin,
             place,
         )
     }

@@ -44,7 +44,7 @@ pub use house_file::{
 pub use point::{Point, Side};
 pub use refusal::Refusal;
 pub use shape::Shape;
-pub use state::State;
+pub use state::{Estimated, State};
 pub use turn::Turn;
 
 /// The most axes and the highest top level that a shape may have.

@@ -113,4 +113,34 @@ impl State {
         );
         Refusal::checked(number, place).map(|()| estimate)
     }
+
+    /// The same estimate, and how far it can be off from the surface's exact value. Section 11. Refused as the estimate is.
+    pub fn estimate_with_margin(self, table: &[i64], coordinates: &[u32]) -> Result<Estimated, Refusal> {
+        let mut place = 0;
+        let mut answer = Estimated { estimate: 0, reached: 0, margin: 0 };
+        let number = boundary::estimate_with_margin(
+            self.shape.axes,
+            self.shape.level,
+            self.bits,
+            table,
+            coordinates,
+            &mut answer.estimate,
+            &mut answer.reached,
+            &mut answer.margin,
+            &mut place,
+        );
+        Refusal::checked(number, place).map(|()| answer)
+    }
+}
+
+/// An estimate with its margin. docs/MANUAL.md, section 11.
+#[derive(Clone, Copy, Debug, PartialEq, Eq, Hash)]
+pub struct Estimated {
+    /// The surface at the coordinates, in units of 1/2^d of a rate, to the nearest whole number.
+    pub estimate: i64,
+    /// S: the sum of the sizes of the coefficients of the points whose weight there is above 0 on each axis.
+    pub reached: u64,
+    /// The exact value differs from the estimate by at most this, in the same units: 1/2 + (d − 1) × S / 1,048,576,
+    /// rounded up.
+    pub margin: u64,
 }
