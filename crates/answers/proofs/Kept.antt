@@ -27,9 +27,10 @@ use Rattle.house_numbers.specs.Reading.{Read, got, refused}
 use Rattle.house_file.specs.Files.{Contents, filled_with, read_contents, read_file}
 use Rattle.house_file.specs.Written.{written_file}
 use Rattle.house_writer.specs.Writing.{kept_out, check_room, filled_out, put_file, write_file}
+use Rattle.estimates.specs.declared.Estimated.{Estimated}
 use Rattle.house_writer.specs.Rewriting.{form_of, written_again, rewrite_file}
 use Rattle.answers.specs.Returned.{Returned}
-use Rattle.answers.specs.Answers.{of_value, of_point, of_located, of_answer, of_after, of_left, of_report, of_reading, of_named, of_writing}
+use Rattle.answers.specs.Answers.{of_value, of_point, of_located, of_estimated, of_answer, of_after, of_left, of_report, of_reading, of_named, of_writing}
 
 -- The function answered a number other than 0, and the outputs are these.
 abbrev pub Keeps : {A : Type 0} → A → Returned A → Type 0
@@ -45,6 +46,10 @@ value_keeps held (Err r) e = refl
 pub adopt_keeps : (held : ℕ) (a : Result State Refusal) → Keeps held (of_answer held a)
 adopt_keeps held (Ok s) e = absurd (e refl)
 adopt_keeps held (Err r) e = refl
+
+pub estimate_with_margin_keeps : (held : ℤ × ℕ × ℕ) (a : Result Estimated Refusal) → Keeps held (of_estimated held a)
+estimate_with_margin_keeps held (Ok x) e = absurd (e refl)
+estimate_with_margin_keeps held (Err r) e = refl
 
 -- The successor and the parent.
 pub located_keeps : (held : List ℕ × List ℕ × ℕ) (a : Result (Option Point) Refusal) → Keeps held (of_located held a)

@@ -10,6 +10,7 @@ use Rattle.points.specs.declared.Point.{Point}
 use Rattle.states.specs.declared.State.{State}
 use Rattle.states.specs.After.{After, Left}
 use Rattle.runs.specs.Calls.{Report}
+use Rattle.estimates.specs.declared.Estimated.{Estimated}
 use Rattle.house_file.specs.Files.{AfterReading}
 use Rattle.house_writer.specs.Writing.{AfterWriting}
 use Rattle.answers.specs.Returned.{Returned, told_of, leaving, done, refused}
@@ -41,6 +42,11 @@ abbrev pub of_located : List ℕ × List ℕ × ℕ → Result (Option Point) Re
 of_located held (Ok (Some p)) = done (p.levels, p.indices, 0)
 of_located held (Ok None) = done (held.0, held.1, 1)
 of_located held (Err r) = refused held r
+
+-- An estimate, S and the margin.
+abbrev pub of_estimated : ℤ × ℕ × ℕ → Result Estimated Refusal → Returned (ℤ × ℕ × ℕ)
+of_estimated held (Ok e) = done (e.estimate, e.reached, e.margin)
+of_estimated held (Err r) = refused held r
 
 -- The forward axes of a state. Its shape is the one that was handed in.
 abbrev pub of_answer : ℕ → Result State Refusal → Returned ℕ

@@ -3,8 +3,9 @@
 
 ghost use Rattle.std.specs.Prelude.{◌≡◌};
 ghost use Rattle.answers.specs.Returned.{told, told_of, returned};
-ghost use Rattle.answers.specs.Answers.{shape_of, state_of, side_of, of_value, of_point, of_located, of_answer};
+ghost use Rattle.answers.specs.Answers.{shape_of, state_of, side_of, of_value, of_point, of_located, of_estimated, of_answer};
 
+use estimates::Estimated;
 use numbering::Side;
 use points::Point;
 use refusals::Refusal;
@@ -104,6 +105,24 @@ pub fn hand_located(
             *none = 0;
             put_point(point, levels, indices);
         }
+    }
+    tell(answer, place)
+}
+
+// An estimate goes out with S and its margin.
+pub fn hand_estimated(
+    answer: Result<Estimated, Refusal>,
+    estimate: &mut i64,
+    reached: &mut u64,
+    margin: &mut u64,
+    place: &mut u64,
+) -> u32
+    ensures { returned result place.new (estimate.new, reached.new, margin.new) ≡ of_estimated (estimate.old, reached.old, margin.old) answer }
+{
+    if let Ok(found) = answer {
+        *estimate = found.estimate;
+        *reached = found.reached;
+        *margin = found.margin;
     }
     tell(answer, place)
 }

@@ -1,9 +1,8 @@
--- What the estimate answers, by the first check that refuses, and what passed checks tell: all that the sum asks. Each case is the definition with its tests
--- decided.
+-- What the checks of an estimate tell where they pass: all that the sum asks. And where they pass, the estimate is the answer.
 -- Assumes nothing.
-use Rattle.std.specs.Prelude.{Ok, Err}
+use Rattle.std.specs.Prelude.{Ok}
 use mathlib.Core.Path.{◌≡◌}
-use mathlib.Core.Bool.{true, false}
+use mathlib.Core.Bool.{true}
 use mathlib.Core.List.{List}
 use Prim.Native.Nat.{ℕ, suc, ◌≤◌, ◌<◌}
 use native.Mathlib.Omega.{arith}
@@ -14,9 +13,8 @@ use borrow.Author.Tests.{leb-true, eqb-true}
 use Rattle.naturals.specs.Test.{all}
 use Rattle.naturals.proofs.Tests.{all_at}
 use Rattle.naturals.proofs.FirstFailing.{none_first}
-use Rattle.refusals.specs.declared.Refusal.{Refusal}
 use Rattle.refusals.specs.declared.Refusal.TheVariants.{ListLength, Coordinate, Contents}
-use Rattle.refusals.specs.Checks.{unless}
+use Rattle.refusals.specs.Checks.{unless, ◌and_then◌, Verdict}
 use Rattle.refusals.proofs.Passing.{first_passed, next_passed, test_passed}
 use Rattle.integers.specs.Half.{content_at}
 use Rattle.numbering.specs.Point.{at}
@@ -35,55 +33,71 @@ each_inside : (d : ℕ) (cs : List ℕ) → d ≤ first_outside unit d cs → (t
 unfolding first_outside inside_at is_coordinate
 each_inside d cs le t h = leb-true (at cs t) unit (none_first (inside_at unit cs) d le t h)
 
-module _ (s : State) (xs : List ℤ) (cs : List ℕ) where
-  module _ (e : check_state s (length xs) ≡ Ok tt) where
-    stands : Stands s (length xs)
-    stands = state_passed s (length xs) e
+module _ (s : State) (xs : List ℤ) (cs : List ℕ) (passed : check_estimate unit s xs cs ≡ Ok tt) where
+  abbrev d : ℕ
+  d = s.shape.axes
 
-    pub in_range : InRange s.shape
-    in_range = stands.range
+  -- The four checks in a row.
+  abbrev first : Verdict
+  first = check_state s (length xs)
 
-    pub half_turned : (r : Refusal) → check_forward s ≡ Err r → estimate s xs cs ≡ Err r
-    unfolding estimate_in_unit check_estimate
-    half_turned r f = rw (e, f)
+  abbrev second : Verdict
+  second = check_forward s
 
-    module _ (f : check_forward s ≡ Ok tt) where
-      pub outside : (r : Refusal) → check_coordinates unit s.shape.axes cs ≡ Err r → estimate s xs cs ≡ Err r
-      unfolding estimate_in_unit check_estimate
-      outside r g = rw (e, f, g)
+  abbrev third : Verdict
+  third = check_coordinates unit d cs
 
-      module _ (g : check_coordinates unit s.shape.axes cs ≡ Ok tt) where
-        pub past_limit : all (content_at xs) (length xs) ≡ false → estimate s xs cs ≡ Err Contents
-        unfolding estimate_in_unit check_estimate
-        past_limit h = rw (e, f, g, h)
+  abbrev fourth : Verdict
+  fourth = unless (all (content_at xs) (length xs)) Contents
 
-        listed : Listed s.shape.axes cs
-        unfolding check_coordinates
-        listed =
-            let d = s.shape.axes in
-            let lengths = unless (eqb (length cs) d) ListLength in
-            let places = unless (leb d (first_outside unit d cs)) (Coordinate (suc (first_outside unit d cs))) in
-            record {
-              few = in_range.high;
-              long = eqb-true (length cs) d (test_passed (eqb (length cs) d) ListLength (first_passed lengths places g));
-              coordinates =
-                  each_inside d cs
-                  (leb-true d (first_outside unit d cs)
-                  (test_passed (leb d (first_outside unit d cs)) (Coordinate (suc (first_outside unit d cs))) (next_passed lengths places g)));
-            }
+  in_a_row : first and_then second and_then third and_then fourth ≡ Ok tt
+  unfolding check_estimate
+  in_a_row = passed
 
-        module _ (h : all (content_at xs) (length xs) ≡ true) where
-          pub evaluable : Evaluable s.shape xs cs
-          unfolding content_at value_at
-          evaluable =
-              record {
-                some = in_range.low;
-                low = in_range.top;
-                long = stands.long;
-                contents = λ p lt. all_at (content_at xs) (length xs) h p (omega (arith, stands));
-                listed = listed;
-              }
+  after_first : second and_then third and_then fourth ≡ Ok tt
+  after_first = next_passed first (second and_then third and_then fourth) in_a_row
 
-          pub estimated : estimate s xs cs ≡ Ok (estimate_at s.shape (value_at xs) (at cs))
-          unfolding estimate_in_unit check_estimate
-          estimated = rw (e, f, g, h)
+  after_second : third and_then fourth ≡ Ok tt
+  after_second = next_passed second (third and_then fourth) after_first
+
+  stands : Stands s (length xs)
+  stands = state_passed s (length xs) (first_passed first (second and_then third and_then fourth) in_a_row)
+
+  pub in_range : InRange s.shape
+  in_range = stands.range
+
+  listed : Listed d cs
+  unfolding check_coordinates
+  listed =
+      let lengths = unless (eqb (length cs) d) ListLength in
+      let places = unless (leb d (first_outside unit d cs)) (Coordinate (suc (first_outside unit d cs))) in
+      let both : lengths and_then places ≡ Ok tt = first_passed third fourth after_second in
+      record {
+        few = in_range.high;
+        long = eqb-true (length cs) d (test_passed (eqb (length cs) d) ListLength (first_passed lengths places both));
+        coordinates =
+            each_inside d cs
+            (leb-true d (first_outside unit d cs)
+            (test_passed (leb d (first_outside unit d cs)) (Coordinate (suc (first_outside unit d cs))) (next_passed lengths places both)));
+      }
+
+  contents : all (content_at xs) (length xs) ≡ true
+  contents = test_passed (all (content_at xs) (length xs)) Contents (next_passed third fourth after_second)
+
+  pub evaluable : Evaluable s.shape xs cs
+  unfolding content_at value_at
+  evaluable =
+      record {
+        some = in_range.low;
+        low = in_range.top;
+        long = stands.long;
+        contents = λ p lt. all_at (content_at xs) (length xs) contents p (omega (arith, stands));
+        listed = listed;
+      }
+
+-- The checks pass where each does, and then the estimate is the answer.
+pub estimated : (s : State) (xs : List ℤ) (cs : List ℕ) → check_state s (length xs) ≡ Ok tt → check_forward s ≡ Ok tt →
+    check_coordinates unit s.shape.axes cs ≡ Ok tt → all (content_at xs) (length xs) ≡ true →
+    estimate s xs cs ≡ Ok (estimate_at s.shape (value_at xs) (at cs))
+unfolding estimate_in_unit check_estimate
+estimated s xs cs e f g h = rw (e, f, g, h)

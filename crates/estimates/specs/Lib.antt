@@ -1,3 +1,4 @@
 pub mod Estimates
 pub mod Negated
 pub mod Finer
+pub mod Margin

@@ -1,9 +1,10 @@
-// Estimates between the samples, from a table that is forward on every axis.
+// Estimates between the samples, from a table that is forward on every axis, and how far they can be off.
 #![tactic(auto)]
 
 ghost use Rattle.std.specs.Prelude.{◌≡◌, ◌≤◌};
 ghost use Rattle.surfaces.specs.Weights.{unit};
-ghost use Rattle.estimates.specs.Estimates.{check_forward, check_coordinates, estimate};
+ghost use Rattle.estimates.specs.Estimates.{check_forward, check_coordinates, check_estimate, estimate};
+ghost use Rattle.estimates.specs.Margin.{estimate_with_margin};
 
 use refusals::Refusal;
 use states::{CheckedState, State};
@@ -34,17 +35,51 @@ fn check_coordinates(axes: u32, coordinates: &[u32]) -> Result<(), Refusal>
     Ok(())
 }
 
-// The estimate at these coordinates. The table is only read.
-#[tactic(auto, unfolding(crate::specs::Estimates::estimate_in_unit, crate::specs::Estimates::check_estimate))]
-pub fn estimate(state: State, table: &[i64], coordinates: &[u32]) -> Result<i64, Refusal>
-    ensures { result ≡ estimate state table.now coordinates.now }
+// The checks of an estimate, in their order.
+#[tactic(auto, unfolding(crate::specs::Estimates::check_estimate))]
+fn check(state: State, table: &[i64], coordinates: &[u32]) -> Result<(), Refusal>
+    ensures { result ≡ check_estimate unit state table.now coordinates.now }
 {
     let checked = state.check(table.len())?;
     check_forward(checked)?;
-    let shape = state.shape;
-    check_coordinates(shape.axes, coordinates)?;
+    check_coordinates(state.shape.axes, coordinates)?;
     if !integers::all_in_limit(table) {
         return Err(Refusal::Contents);
     }
-    Ok(evaluation::evaluate(shape, table, coordinates))
+    Ok(())
+}
+
+// The estimate at these coordinates. The table is only read.
+#[tactic(auto, unfolding(crate::specs::Estimates::estimate_in_unit))]
+pub fn estimate(state: State, table: &[i64], coordinates: &[u32]) -> Result<i64, Refusal>
+    ensures { result ≡ estimate state table.now coordinates.now }
+{
+    check(state, table, coordinates)?;
+    Ok(evaluation::evaluate(state.shape, table, coordinates).estimate)
+}
+
+// An estimate, S, and how far at most the exact value is from the estimate.
+#[derive(Clone, Copy)]
+pub struct Estimated {
+    pub estimate: i64,
+    pub reached: u64,
+    pub margin: u64,
+}
+
+// The same estimate with its margin.
+#[tactic(auto, unfolding(crate::specs::Margin::estimate_with_margin))]
+pub fn estimate_with_margin(
+    state: State,
+    table: &[i64],
+    coordinates: &[u32],
+) -> Result<Estimated, Refusal>
+    ensures { result ≡ estimate_with_margin state table.now coordinates.now }
+{
+    check(state, table, coordinates)?;
+    let found = evaluation::evaluate(state.shape, table, coordinates);
+    Ok(Estimated {
+        estimate: found.estimate,
+        reached: found.reached,
+        margin: margins::margin(state.shape.axes, found.reached),
+    })
 }

@@ -1,6 +1,7 @@
 pub mod Blocks
 pub mod Reading
 pub mod Walking
+pub mod Reaching
 pub mod Stepping
 pub mod Tabulating
 pub mod Taking

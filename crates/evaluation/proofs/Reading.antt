@@ -1,4 +1,4 @@
--- What the hats give for a level vector is the point taken there, and its joint weight: axis by axis.
+-- What the hats give for a level vector is the point taken there, its joint weight, and whether it is reached: axis by axis.
 -- Assumes nothing.
 use mathlib.Core.List.{List}
 use mathlib.Core.Path.{◌≡◌, ap}
@@ -7,9 +7,11 @@ use native.Mathlib.Omega.{arith}
 use Rattle.naturals.specs.Sum.{sum_to}
 use Rattle.naturals.proofs.Sums.{sum_to_cong, term_le}
 use Rattle.surfaces.specs.Weights.{unit, joint}
+use Rattle.surfaces.specs.Margin.{is_reached}
 use Rattle.surfaces.proofs.Joint.{joint_cong}
+use Rattle.surfaces.proofs.Reached.{reached_cong}
 use Rattle.evaluation.specs.declared.Hat.{Hat}
-use Rattle.evaluation.specs.Steps.{Tabulated, weight_at, joint_of, step_of, position_of}
+use Rattle.evaluation.specs.Steps.{Tabulated, weight_at, joint_of, reached_of, step_of, position_of}
 use Rattle.evaluation.proofs.Blocks.{weights_of, taken_index, taken_step, taken_at}
 
 module _ (x l : ℕ → ℕ) (d : ℕ) (hats : List (List Hat)) (table : Tabulated x d hats) (low : sum_to l d ≤ 8) where
@@ -30,3 +32,6 @@ module _ (x l : ℕ → ℕ) (d : ℕ) (hats : List (List Hat)) (table : Tabulat
 
   pub joint_taken : joint_of hats l d ≡ joint unit (weights_of x l (taken_index x l)) d
   joint_taken = joint_cong unit (weight_at hats l) (weights_of x l (taken_index x l)) d weight_taken
+
+  pub reached_taken : reached_of hats l d ≡ is_reached d (weights_of x l (taken_index x l))
+  reached_taken = reached_cong (weight_at hats l) (weights_of x l (taken_index x l)) d weight_taken

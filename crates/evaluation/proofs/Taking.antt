@@ -1,7 +1,9 @@
--- The walk over the axes that takes one point of a level vector: after t axes it has the position that their cells give, their joint weight, and the sum of
--- their levels. True since each axis adds its cell, shifted by the levels before it, and multiplies by its weight. No shift loses a bit, since a
+-- The walk over the axes that takes one point of a level vector: after t axes it has the position that their cells give, their joint weight, whether their
+-- weights are all above zero, and the sum of their levels. True since each axis adds its cell, shifted by the levels before it, multiplies by its weight, and
+-- looks whether that is above zero. No shift loses a bit, since a
 -- cell is below 2^level, and no product overflows, since weights and joint weights are at most the unit.
 -- Assumes nothing.
+use mathlib.Core.Bool.{Bool, true, ◌&&◌}
 use mathlib.Core.List.{List}
 use mathlib.Core.Path.{◌≡◌, refl, ap, ap₂, sym, ◌∙◌}
 use Prim.Native.Nat.{ℕ, zero, suc, ◌+◌, ◌*◌, ◌/◌, ◌%◌, ◌^◌, ◌≤◌, ◌<◌}
@@ -9,6 +11,7 @@ use native.Mathlib.Nat.{mul_comm, mul-le-mul}
 use native.Mathlib.Numerals.{add-one}
 use native.Mathlib.Omega.{arith}
 use lib.Arith.{digits_lt}
+use lib.Dec.{ltb}
 use lib.Pow.{pow_pos, pow_mono, shl_exact}
 use Rattle.naturals.specs.Sum.{sum_to}
 use Rattle.naturals.proofs.Sums.{sum_to_zero, sum_to_suc, sum_to_mono}
@@ -16,8 +19,9 @@ use Rattle.numbering.proofs.Position.{pow_sum}
 use Rattle.surfaces.specs.Weights.{unit}
 use Rattle.surfaces.proofs.Unit.{unit_bits, unit_is}
 use Rattle.surfaces.proofs.Joint.{joint_zero, joint_suc, joint_le}
+use Rattle.surfaces.proofs.Reached.{reached_zero, reached_suc}
 use Rattle.evaluation.specs.declared.Hat.{Hat}
-use Rattle.evaluation.specs.Steps.{cell_at, weight_at, joint_of, step_of, position_of, Bounded}
+use Rattle.evaluation.specs.Steps.{cell_at, weight_at, joint_of, reached_of, step_of, position_of, Bounded}
 
 pub position_zero : (hats : List (List Hat)) (l : ℕ → ℕ) → position_of hats l 0 ≡ 0
 unfolding position_of
@@ -51,23 +55,25 @@ module _ {d : ℕ} {hats : List (List Hat)} (bounded : Bounded d hats) (l : ℕ 
         digits_lt (cell_lt k h) (position_lt k (omega arith)),
       )
 
-pub record Taken (hats : List (List Hat)) (l : ℕ → ℕ) (d t position joint sum : ℕ) : Type 0 where
+pub record Taken (hats : List (List Hat)) (l : ℕ → ℕ) (d t position joint : ℕ) (reached : Bool) (sum : ℕ) : Type 0 where
   pub axis : t ≤ d
   pub total : sum ≡ sum_to l t
   pub packed : position ≡ position_of hats l t
   pub weighed : joint ≡ joint_of hats l t
+  pub reaches : reached ≡ reached_of hats l t
 
-pub taken_starts : (hats : List (List Hat)) (l : ℕ → ℕ) (d : ℕ) → Taken hats l d 0 0 (2 ^ unit_bits) 0
+pub taken_starts : (hats : List (List Hat)) (l : ℕ → ℕ) (d : ℕ) → Taken hats l d 0 0 (2 ^ unit_bits) true 0
 taken_starts hats l d =
     record {
       axis = omega arith;
       total = sym (sum_to_zero l);
       packed = sym (position_zero hats l);
       weighed = sym (joint_zero unit (weight_at hats l) ∙ unit_is);
+      reaches = sym (reached_zero (weight_at hats l));
     }
 
-module _ {d : ℕ} {hats : List (List Hat)} {l : ℕ → ℕ} {t position joint sum : ℕ} (bounded : Bounded d hats) (few : sum_to l d ≤ 8)
-    (state : Taken hats l d t position joint sum) (h : t < d) where
+module _ {d : ℕ} {hats : List (List Hat)} {l : ℕ → ℕ} {t position joint sum : ℕ} {reached : Bool} (bounded : Bounded d hats) (few : sum_to l d ≤ 8)
+    (state : Taken hats l d t position joint reached sum) (h : t < d) where
   pub level_small : l t ≤ 8
   level_small = level_le bounded l few t h
 
@@ -99,11 +105,12 @@ module _ {d : ℕ} {hats : List (List Hat)} {l : ℕ → ℕ} {t position joint 
 
   -- One axis more.
   pub taken_steps :
-      Taken hats l d (t + 1) (position + cell_at hats l t * 2 ^ sum % 2 ^ 64) (joint * weight_at hats l t / unit) (sum + l t)
+      Taken hats l d (t + 1) (position + cell_at hats l t * 2 ^ sum % 2 ^ 64) (joint * weight_at hats l t / unit) (reached && ltb 0 (weight_at hats l t)) (sum + l t)
   taken_steps =
       record {
         axis = omega arith;
         total = rw add-one (omega (arith, sum_to_suc l t));
         packed = rw add-one turned;
         weighed = rw (add-one, joint_suc unit (weight_at hats l) t, ← state.weighed) refl;
+        reaches = rw (add-one, reached_suc (weight_at hats l) t, ← state.reaches) refl;
       }

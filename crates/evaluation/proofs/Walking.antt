@@ -192,7 +192,7 @@ module _ {s : Shape} {xs : List ℤ} {x : ℕ → ℕ} {high : ℤ} {low first :
       )))
 
   module _ (h : first < points_of s) (inside : (t : ℕ) → t < s.axes → x t ≤ unit) where
-    levels_low : sum_to (at vector.levels) s.axes ≤ s.level
+    pub levels_low : sum_to (at vector.levels) s.axes ≤ s.level
     levels_low = omega (arith, (vector_in w).total, sum_low h)
 
     -- The point taken is one of the table's.
@@ -212,7 +212,7 @@ module _ {s : Shape} {xs : List ℤ} {x : ℕ → ℕ} {high : ℤ} {low first :
         ap (λ (a : ℕ). joint_at s x (a + j)) (sym w.here)
         ∙ block_zero s x (at vector.levels) (vector_in w).rest levels_low inside j (rw (vector_in w).total lt) ne
 
-    taken_in : taken_at x (at vector.levels) s.axes < 2 ^ vector.sum
+    pub taken_in : taken_at x (at vector.levels) s.axes < 2 ^ vector.sum
     taken_in = rw (sym (vector_in w).total) (taken_below x (at vector.levels) s.axes)
 
     high_step : total (high_term s xs x) (first + 2 ^ vector.sum) ≡ high +ℤ high_term s xs x (first + taken_at x (at vector.levels) s.axes)

@@ -1,6 +1,6 @@
 -- What the steps of an estimate ask and give: one point for each level vector, and its weight from a table of axis weights.
 -- Assumes nothing.
-use Rattle.std.specs.Prelude.{true, List, [], ◌≡◌, ℕ, suc, ◌*◌, ◌^◌, ◌≤◌, ◌<◌, ℤ, length, get_or}
+use Rattle.std.specs.Prelude.{Bool, true, List, [], ◌≡◌, ℕ, suc, ◌*◌, ◌^◌, ◌≤◌, ◌<◌, ℤ, length, get_or}
 use Rattle.naturals.specs.Sum.{sum_to}
 use Rattle.integers.specs.Half.{in_limit}
 use Rattle.numbering.specs.Point.{at}
@@ -8,7 +8,10 @@ use Rattle.hierarchy.specs.Turns.{value_at}
 use Rattle.shapes.specs.declared.Shape.{Shape}
 use Rattle.shapes.specs.Shapes.{points_of}
 use Rattle.surfaces.specs.Weights.{unit, weight, joint}
+use Rattle.surfaces.specs.Surface.{estimate_at}
+use Rattle.surfaces.specs.Margin.{is_reached, reached_at}
 use Rattle.axis_weights.specs.Steps.{cell_of, index_of_cell}
+use Rattle.evaluation.specs.declared.Evaluated.{Evaluated}
 use Rattle.evaluation.specs.declared.Hat.{Hat}
 
 -- The hat of axis t and level l.
@@ -37,9 +40,12 @@ cell_at hats l t = (hat_of hats t (l t)).cell
 abbrev pub weight_at : List (List Hat) → (ℕ → ℕ) → ℕ → ℕ
 weight_at hats l t = (hat_of hats t (l t)).weight
 
--- Joint weight and position of the point of a level vector that they give, over the first k axes.
+-- Of the point of a level vector that they give, over the first k axes: its joint weight, whether its weight is above zero on each of them, and its position.
 abbrev pub joint_of : List (List Hat) → (ℕ → ℕ) → ℕ → ℕ
 joint_of hats l k = joint unit (weight_at hats l) k
+
+abbrev pub reached_of : List (List Hat) → (ℕ → ℕ) → ℕ → Bool
+reached_of hats l k = is_reached k (weight_at hats l)
 
 unfoldable pub step_of : List (List Hat) → (ℕ → ℕ) → ℕ → ℕ
 step_of hats l t = cell_at hats l t * 2 ^ sum_to l t
@@ -66,3 +72,7 @@ pub record Evaluable (s : Shape) (xs : List ℤ) (cs : List ℕ) : Type 0 where
   pub long : length xs ≡ points_of s
   pub contents : (p : ℕ) → p < points_of s → in_limit (value_at xs (suc p)) ≡ true
   pub listed : Listed s.axes cs
+
+-- What the steps come to: the estimate of the coefficients c at the coordinates x, and S.
+abbrev pub evaluated_at : Shape → (ℕ → ℤ) → (ℕ → ℕ) → Evaluated
+evaluated_at s c x = record { estimate = estimate_at s c x; reached = reached_at s c x }

@@ -1,12 +1,11 @@
-// The sum behind an estimate: one point for each level vector, the weights of an axis once for each level.
+// The sums behind an estimate and its margin: one point for each level vector, the weights of an axis once for each level.
 #![tactic(auto)]
 
-ghost use Rattle.std.specs.Prelude.{◌≡◌, ◌≤◌, length};
+ghost use Rattle.std.specs.Prelude.{◌≡◌, ◌^◌, ◌≤◌, length, nat_abs, if◌then◌else◌};
 ghost use Rattle.naturals.specs.Sum.{sum_to};
 ghost use Rattle.numbering.specs.Point.{at};
 ghost use Rattle.hierarchy.specs.Turns.{value_at};
-ghost use Rattle.surfaces.specs.Surface.{estimate_at};
-ghost use Rattle.evaluation.specs.Steps.{hat_at, AxisHats, Tabulated, joint_of, position_of, Bounded, Listed, Evaluable};
+ghost use Rattle.evaluation.specs.Steps.{hat_at, AxisHats, Tabulated, joint_of, reached_of, position_of, Bounded, Listed, Evaluable, evaluated_at};
 
 use axis_weights::Coordinate;
 use shapes::Shape;
@@ -54,44 +53,77 @@ fn tabulated(coordinates: &[u32]) -> [[Hat; 9]; 8]
     hats
 }
 
-// The one point of a level vector that can have a joint weight above 0: its position among the points of the vector, and its joint weight.
+// The one point of a level vector that can have a weight above 0 on each axis: its position among the points of the vector, its joint weight, and whether it
+// has, so that it is reached.
 #[derive(Clone, Copy)]
 struct Term {
     position: u64,
     joint: u64,
+    reached: bool,
 }
 
+impl Term {
+    // What a coefficient adds to S: its size if its point is reached.
+    fn size(self, c: i64) -> u64
+        ensures { result ≡ if self.reached then nat_abs c else 0 }
+    {
+        if self.reached { c.unsigned_abs() } else { 0 }
+    }
+}
+
+#[inline(always)]
 fn taken(hats: &[[Hat; 9]], levels: &[u32; 8]) -> Term
     requires { Bounded (length hats.now) hats.now × (sum_to (at levels.now) (length hats.now) ≤ 8) }
-    ensures { (result.position ≡ position_of hats.now (at levels.now) (length hats.now)) × (result.joint ≡ joint_of hats.now (at levels.now) (length hats.now)) }
+    ensures { (result.position ≡ position_of hats.now (at levels.now) (length hats.now)) × (result.joint ≡ joint_of hats.now (at levels.now) (length hats.now)) × (result.reached ≡ reached_of hats.now (at levels.now) (length hats.now)) }
 {
     let mut position: u64 = 0;
     let mut joint: u64 = 1 << BITS;
+    let mut reached = true;
     let mut sum: u32 = 0;
     for (axis, level) in hats.iter().zip(levels) {
         let hat = axis[*level as usize];
         position += hat.cell << sum;
         joint = (joint * hat.weight) >> BITS;
+        reached &= hat.weight > 0;
         sum += *level;
     }
-    Term { position, joint }
+    Term {
+        position,
+        joint,
+        reached,
+    }
 }
 
-// The estimate at these coordinates.
-pub fn evaluate(shape: Shape, table: &[i64], coordinates: &[u32]) -> i64
+// An estimate, and S: the sum of the absolute coefficients of the points that are reached.
+#[derive(Clone, Copy)]
+pub struct Evaluated {
+    pub estimate: i64,
+    pub reached: u64,
+}
+
+// Those at these coordinates. (Inlined, so that an estimate alone does not add up S.)
+#[inline(always)]
+pub fn evaluate(shape: Shape, table: &[i64], coordinates: &[u32]) -> Evaluated
     requires { Evaluable shape table.now coordinates.now }
-    ensures { result ≡ estimate_at shape (value_at table.now) (at coordinates.now) }
+    ensures value { result ≡ evaluated_at shape (value_at table.now) (at coordinates.now) }
+    ensures room { result.reached ≤ 2 ^ 61 }
 {
     let tabulated = tabulated(coordinates);
     let hats = &tabulated[..shape.axes as usize];
     let mut sum = Sum::new();
+    let mut reached: u64 = 0;
     let mut rest = table;
     let mut vector = LevelVector::first(shape.axes);
     while !rest.is_empty() {
         let term = taken(hats, &vector.levels);
-        sum.add(rest[term.position as usize], term.joint);
+        let c = rest[term.position as usize];
+        sum.add(c, term.joint);
+        reached += term.size(c);
         rest = rest.split_at(1 << vector.sum).1;
         vector.next();
     }
-    sum.joined()
+    Evaluated {
+        estimate: sum.joined(),
+        reached,
+    }
 }

@@ -2,7 +2,7 @@
 -- Assumes nothing.
 use mathlib.Core.Path.{◌≡◌, refl, ap, ap₂, sym, ◌∙◌}
 use Prim.Native.Nat.{ℕ, zero, suc, ◌+◌, ◌*◌, ◌<◌}
-use native.Mathlib.Nat.{mul-add, mul_assoc, mul-one, zero-mul, eq_of_mul-eq-mul_right}
+use native.Mathlib.Nat.{mul-add, mul_assoc, mul_comm, mul-one, zero-mul, eq_of_mul-eq-mul_right}
 use native.Mathlib.Omega.{arith}
 use Rattle.std.proofs.lemmas.Int.{ints}
 use lib.IntN.{ℤ, pos, negsuc, neg_ℤ, nat_abs, ◌+ℤ◌, ◌-ℤ◌, ◌*ℤ◌, neg_ℤ-+ℤ, neg_ℤ-neg_ℤ, *ℤ-zero, +ℤ_invr}
@@ -29,6 +29,10 @@ pub times_times : (z : ℤ) (a b : ℕ) → z *ℤ pos (a * b) ≡ z *ℤ pos a 
 times_times (pos n) a b = ap pos (sym (mul_assoc n a b))
 times_times (negsuc n) a b =
     ap (λ (x : ℕ). neg_ℤ (pos x)) (sym (mul_assoc (suc n) a b)) ∙ sym (neg_times (pos (suc n * a)) b)
+
+-- Two factors may change places.
+pub times_swap : (z : ℤ) (a b : ℕ) → z *ℤ pos a *ℤ pos b ≡ z *ℤ pos b *ℤ pos a
+times_swap z a b = sym (times_times z a b) ∙ ap (λ (x : ℕ). z *ℤ pos x) (mul_comm a b) ∙ times_times z b a
 
 pub plus_times : (x y : ℤ) (n : ℕ) → (x +ℤ y) *ℤ pos n ≡ x *ℤ pos n +ℤ y *ℤ pos n
 plus_times x y zero = rw (*ℤ-zero (x +ℤ y), *ℤ-zero x, *ℤ-zero y)

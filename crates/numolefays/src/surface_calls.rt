@@ -1,8 +1,9 @@
 // The surface between the samples.
 ghost use Rattle.std.specs.Prelude.{◌≡◌};
 ghost use Rattle.estimates.specs.Estimates as surface;
+ghost use Rattle.estimates.specs.Margin as surface_margin;
 ghost use Rattle.answers.specs.Returned.{returned};
-ghost use Rattle.answers.specs.Answers.{state_of, of_value};
+ghost use Rattle.answers.specs.Answers.{state_of, of_value, of_estimated};
 
 // The estimate at a list of coordinates.
 #[unsafe(no_mangle)]
@@ -19,4 +20,27 @@ pub extern "C" fn numolefays_estimate(
 {
     let answer = estimates::estimate(answers::state_of(axes, level, forward), table, coordinates);
     answers::hand(answer, estimate, place)
+}
+
+// The same estimate, S and its margin.
+#[unsafe(no_mangle)]
+pub extern "C" fn numolefays_estimate_with_margin(
+    axes: u32,
+    level: u32,
+    forward: u8,
+    table: &[i64],
+    coordinates: &[u32],
+    estimate: &mut i64,
+    reached: &mut u64,
+    margin: &mut u64,
+    place: &mut u64,
+) -> u32
+    ensures { returned result place.new (estimate.new, reached.new, margin.new) ≡ of_estimated (estimate.old, reached.old, margin.old) (surface_margin.estimate_with_margin (state_of axes level forward) table.now coordinates.now) }
+{
+    let answer = estimates::estimate_with_margin(
+        answers::state_of(axes, level, forward),
+        table,
+        coordinates,
+    );
+    answers::hand_estimated(answer, estimate, reached, margin, place)
 }

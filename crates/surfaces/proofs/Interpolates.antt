@@ -4,7 +4,7 @@
 use mathlib.Core.Path.{◌≡◌, refl, ap, ap₂, sym, ◌∙◌}
 use mathlib.Core.Bool.{Bool, true, false}
 use Prim.Native.Nat.{ℕ, zero, suc, ◌+◌, ◌*◌, ◌^◌, ◌≤◌, ◌<◌}
-use native.Mathlib.Nat.{pow-zero, pow-suc, one-le-pow, mul_comm}
+use native.Mathlib.Nat.{pow-zero, pow-suc, one-le-pow}
 use native.Mathlib.Omega.{arith}
 use lib.IntN.{ℤ, pos, ◌*ℤ◌}
 use lib.Pow.{pow_pos}
@@ -13,7 +13,7 @@ use Rattle.std.specs.Prelude.{if◌then◌else◌}
 use Rattle.naturals.specs.Test.{all}
 use Rattle.naturals.proofs.Cases.{eq_or_not}
 use Rattle.integers.specs.Half.{is_even}
-use Rattle.integers.proofs.Products.{times_times, times_cancel}
+use Rattle.integers.proofs.Products.{times_times, times_swap, times_cancel}
 use Rattle.hierarchy.specs.Turns.{sum_on, forward}
 use Rattle.hierarchy.specs.Sets.{table_of, every_axis, no_axis}
 use Rattle.hierarchy.specs.Work.{put}
@@ -55,9 +55,6 @@ double_pow u (suc d) =
 -- Rate times 2^d, times the unit to the d.
 double_times : (z : ℤ) (u d : ℕ) → z *ℤ pos ((u + u) ^ d) ≡ z *ℤ pos (2 ^ d) *ℤ pos (u ^ d)
 double_times z u d = ap (λ (x : ℕ). z *ℤ pos x) (double_pow u d) ∙ times_times z (2 ^ d) (u ^ d)
-
-times_swap : (z : ℤ) (a b : ℕ) → z *ℤ pos a *ℤ pos b ≡ z *ℤ pos b *ℤ pos a
-times_swap z a b = sym (times_times z a b) ∙ ap (λ (x : ℕ). z *ℤ pos x) (mul_comm a b) ∙ times_times z b a
 
 -- In a unit of so many factors of two.
 module _ (u bits : ℕ) (binary : u ≡ 2 ^ bits) where

@@ -1,10 +1,11 @@
--- The joint weight, axis by axis. As a share of the unit it is at most the product of the axis weights, since each division is rounded down. It reads the
--- axis weights alone, is above 0 only where each of them is, and is at most the unit where each of them is, since the product of two numbers of at most
--- the unit is at most the unit squared.
+-- The joint weight, axis by axis. As a share of the unit it is at most the product of the axis weights, since each division is rounded down, and it falls short
+-- of it by at most 1 for each axis but the first, since a division loses less than 1, what was lost before is scaled by a weight of at most the unit, and
+-- the first division loses nothing. It reads the axis weights alone, is above 0 only where each of them is, and is at most the unit where each of them is,
+-- since the product of two numbers of at most the unit is at most the unit squared.
 -- Assumes nothing.
 use mathlib.Core.Path.{◌≡◌, refl, ap, ap₂, sym, ◌∙◌}
-use Prim.Native.Nat.{ℕ, zero, suc, ◌*◌, ◌/◌, ◌^◌, ◌≤◌, ◌<◌}
-use native.Mathlib.Nat.{zero-mul, mul-zero, mul-le-mul, mul-le-mul_right, mul_comm, mul-div_cancel, pos_of_div-pos, div-add-mod', div-le_of_le-mul, pow-zero, pow-suc}
+use Prim.Native.Nat.{ℕ, zero, suc, ◌+◌, ◌-◌, ◌*◌, ◌/◌, ◌^◌, ◌≤◌, ◌<◌}
+use native.Mathlib.Nat.{zero-mul, mul-zero, mul-le-mul, mul-le-mul_left, mul-le-mul_right, mul_comm, mul-div_cancel, pos_of_div-pos, div-add-mod', mod-lt, div-le_of_le-mul, pow-zero, pow-suc}
 use native.Mathlib.Omega.{arith}
 use Rattle.naturals.specs.Sum.{prod_to}
 use Rattle.naturals.proofs.Cases.{eq_or_not}
@@ -44,6 +45,29 @@ module _ (unit : ℕ) (w : ℕ → ℕ) where
   pub joint_one : 0 < unit → joint unit w 1 ≡ w 0
   joint_one some =
       joint_suc 0 ∙ ap (λ (j : ℕ). j / unit) (ap (λ (j : ℕ). j * w 0) joint_zero ∙ mul_comm unit (w 0)) ∙ mul-div_cancel (w 0) some
+
+  -- It falls short of the product by at most 1 for each axis but the first, again times the unit to the number of axes.
+  module _ (some : 0 < unit) where
+    joint_over_more : (k : ℕ) → ((t : ℕ) → t < suc k → w t ≤ unit) →
+        prod_to w (suc k) * unit ≤ joint unit w (suc k) * unit ^ suc k + k * unit ^ suc k
+    joint_over_more zero each =
+        rw (joint_one some, prod_to_suc w 0, prod_to_zero w, pow-suc unit 0, pow-zero unit) (omega arith)
+    joint_over_more (suc k) each =
+        rw (joint_suc (suc k), pow-suc unit (suc k), prod_to_suc w (suc k))
+        (divided_over (joint unit w (suc k)) (w (suc k)) (unit ^ suc k) (prod_to w (suc k)) unit k some
+        (each (suc k) (omega arith))
+        (joint_over_more k (λ t h. each t (omega arith))))
+      where
+        divided_over : (j v e p u k : ℕ) → 0 < u → v ≤ u → p * u ≤ j * e + k * e → p * v * u ≤ j * v / u * (e * u) + suc k * (e * u)
+        divided_over j v e p u k more few before =
+            let up : j * v ≤ j * v / u * u + u = omega (arith, div-add-mod' (j * v) u, mod-lt (j * v) more) in
+            omega (arith, mul-le-mul_right v before, mul-le-mul_right e up, mul-le-mul_left (k * e) few)
+
+    pub joint_over : (k : ℕ) → ((t : ℕ) → t < k → w t ≤ unit) → prod_to w k * unit ≤ joint unit w k * unit ^ k + (k - 1) * unit ^ k
+    joint_over zero each = rw (joint_zero, pow-zero unit, prod_to_zero w) (omega arith)
+    joint_over (suc k) each =
+        let before : suc k - 1 ≡ k = omega arith in
+        rw before (joint_over_more k each)
 
   -- A joint weight above 0 has every axis weight above 0.
   pub joint_above : (k : ℕ) → 0 < joint unit w k → (t : ℕ) → t < k → 0 < w t

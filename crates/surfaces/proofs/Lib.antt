@@ -9,3 +9,5 @@ pub mod Rounding
 pub mod Interpolates
 pub mod Finer
 pub mod Border
+pub mod Reached
+pub mod Margin

@@ -1,13 +1,10 @@
--- `estimates::estimate` meets its contract: the checks that refuse answer in their order, and where all pass the sum is the estimate.
+-- `estimates::estimate` meets its contract: past the checks the sum may be asked, and it is the estimate.
 -- Assumes nothing.
-use mathlib.Core.Path.{sym, ◌∙◌}
+use mathlib.Core.Path.{sym}
 use Rattle.estimates.proofs.Answering.{evaluable}
 use Rattle.estimates.proofs.estimate.Goals as goal
 
 pub evaluate-requires : goal.evaluate-requires
 evaluate-requires c =
     let a = c.args in
-    evaluable a.state a.table.now a.coordinates.now
-    (sym c.in_ok-checked.ensures.verdict)
-    (rw c.in_ok-checked.ensures.state at (sym c.in_ok-check_forward.ensures)) (sym c.in_ok-check_coordinates.ensures)
-    (sym c.all_in_limit.ensures ∙ c.if-not-all_in_limit.false)
+    evaluable a.state a.table.now a.coordinates.now (sym c.in_ok-check.ensures)

@@ -1,12 +1,14 @@
-use Rattle.std.proofs.Common.{◌≡◌, ℕ, ◌+◌, ◌-◌, ◌^◌, ◌<◌, List, length, get_or, take, drop, ℤ, pos, refl, sym, ap, ap₂, ◌∙◌, arith, pow_pos, drop-drop, w64, length-take-le}
+use Rattle.std.proofs.Common.{◌≡◌, ℕ, ◌+◌, ◌-◌, ◌^◌, ◌≤◌, ◌<◌, List, length, get_or, take, drop, ℤ, pos, refl, sym, ap, ap₂, ◌∙◌, arith, pow_pos, drop-drop, w64, length-take-le}
 use Rattle.std.proofs.lemmas.List.{get_or-drop}
 use Rattle.std.proofs.lemmas.Bool.{eqb-true, eqb-false}
 use mir.ValLaws.{to_z-of_z}
 use Rattle.integers.specs.Half.{in_limit}
 use Rattle.numbering.specs.Point.{at}
-use Rattle.evaluation.specs.Steps.{Tabulated, position_of, joint_of}
+use Rattle.shapes.specs.Shapes.{points_of}
+use Rattle.evaluation.specs.Steps.{Tabulated, position_of, joint_of, reached_of}
 use Rattle.evaluation.proofs.Walking.{walked_starts, high_room, low_room, walked_ends}
-use Rattle.evaluation.proofs.Stepping.{sum_small, levels_small, vector_size, vector_within, place_read, place_small, weight_in_lem, value_in, value_fits, stepped}
+use Rattle.evaluation.proofs.Reaching.{summed_starts, total_room, summed_ends}
+use Rattle.evaluation.proofs.Stepping.{size_in, summed, sum_small, levels_small, vector_size, vector_within, place_read, place_small, weight_in_lem, value_in, value_fits, stepped}
 use Rattle.evaluation.proofs.Tabulating.{tabulated_bounded, tabulated_front}
 use Rattle.evaluation.proofs.evaluate.Goals.{After-tabulated-tabulated, In-loop-hats, After-taken-term}
 use Rattle.evaluation.proofs.evaluate.Goals as goal
@@ -16,7 +18,7 @@ loop-hats-init c =
     let a = c.args in
     let none : length a.table.now - length a.table.now ≡ 0 = omega arith in
     rw (none, c.new-sum.ensures.high, c.new-sum.ensures.low)
-    (walked_starts a.shape a.table.now (at a.coordinates.now) c.first-vector.result c.first-vector.ensures, omega arith, refl)
+    (walked_starts a.shape a.table.now (at a.coordinates.now) c.first-vector.result c.first-vector.ensures, omega arith, refl, summed_starts a.shape a.table.now (at a.coordinates.now) c.first-vector.result)
 
 -- ---- the table of hats
 
@@ -49,7 +51,9 @@ taken-term-requires c =
 found : (c : After-taken-term) → length (take c.args.shape.axes c.tabulated-tabulated.result) ≡ c.args.shape.axes →
     let hats = take c.args.shape.axes c.tabulated-tabulated.result in
     let axes = c.args.shape.axes in
-    (c.taken-term.result.position ≡ position_of hats (at c.loop-hats.vector.levels) axes) × (c.taken-term.result.joint ≡ joint_of hats (at c.loop-hats.vector.levels) axes)
+    (c.taken-term.result.position ≡ position_of hats (at c.loop-hats.vector.levels) axes)
+    × (c.taken-term.result.joint ≡ joint_of hats (at c.loop-hats.vector.levels) axes)
+    × (c.taken-term.result.reached ≡ reached_of hats (at c.loop-hats.vector.levels) axes)
 found c long = rw long at c.taken-term.ensures
 
 -- The value read, as the table has it.
@@ -132,11 +136,26 @@ loop-hats-preserved c =
       stepped c.requires inv.0 here hats term c.next.new.self c.next.ensures (rw (is, value) at c.add.ensures.high) (rw (is, value) at c.add.ensures.low),
       omega (arith, c.split_at.ensures.back_len, inv.1),
       c.split_at.ensures.back ∙ ap₂ (λ (n : ℕ) (l : List ℤ). drop n l) size inv.2 ∙ drop-drop step before xs,
+      summed c.requires inv.0 here hats term c.next.new.self inv.3 c.next.ensures (ap (λ (k : ℕ). c.loop-hats.reached + k) (rw (is, value) at c.size-reached.ensures)),
     )
+
+pub overflow_add-reached : goal.overflow_add-reached
+unfolding first
+overflow_add-reached c =
+    let seen = goal.at.overflow_add-reached c in
+    let inv = c.loop-hats.invariant in
+    let here = more seen.In-loop-hats in
+    let hats = hats_at seen.After-tabulated-tabulated in
+    let term = found seen.After-taken-term (hats_long seen.After-tabulated-tabulated) in
+    let value = to_z-of_z w64 (get_or c.args.table.now (first seen.In-loop-hats + c.taken-term.result.position) (pos 0)) (value_fits c.requires inv.0 here hats term) in
+    record { fits = omega (arith, total_room inv.0 inv.3, rw (read seen.After-taken-term, value) at c.size-reached.ensures, size_in c.requires inv.0 here hats term) }
 
 pub returns : goal.returns
 returns c =
-    to_z-of_z w64 c.joined.result (record { sfits = c.joined.type_inv })
-    ∙ c.joined.ensures
-    ∙ walked_ends c.loop-hats.invariant.0
-    (omega (arith, c.requires.long, eqb-true (length c.loop-hats.rest.now) 0 (sym c.is_empty.ensures ∙ c.loop-hats-test.false)))
+    let end : points_of c.args.shape ≤ length c.args.table.now - length c.loop-hats.rest.now = omega (arith, c.requires.long, eqb-true (length c.loop-hats.rest.now) 0 (sym c.is_empty.ensures ∙ c.loop-hats-test.false)) in
+    let estimate = to_z-of_z w64 c.joined.result (record { sfits = c.joined.type_inv }) ∙ c.joined.ensures ∙ walked_ends c.loop-hats.invariant.0 end in
+    let reached = summed_ends c.loop-hats.invariant.0 c.loop-hats.invariant.3 end in
+    record {
+      value = rw (estimate, reached) refl;
+      room = total_room c.loop-hats.invariant.0 c.loop-hats.invariant.3;
+    }

@@ -64,4 +64,4 @@ loop-axis-preserved c =
     let next = taken_steps c.requires.0 c.requires.1 l.invariant here.0 in
     let weight = weight_at c.args.hats.now (at c.args.levels.now) (length l.yielded) in
     rw (length_push l.yielded (c.in-Some.axis, c.in-Some.level), here.1, here.2)
-    (record { axis = next.axis; total = next.total; packed = next.packed; weighed = shifted (l.joint * weight) ∙ next.weighed })
+    (record { axis = next.axis; total = next.total; packed = next.packed; weighed = shifted (l.joint * weight) ∙ next.weighed; reaches = next.reaches })

@@ -1,0 +1,89 @@
+-- S along the walk: after each level vector it is the sum over all points before the next vector's first, since of the points of a vector only the one
+-- taken can be reached. With at most 12,870 vectors and coefficients of at most 2^47 it stays below 2^61.
+-- Assumes nothing.
+use mathlib.Core.Bool.{true, false}
+use mathlib.Core.List.{List}
+use mathlib.Core.Path.{◌≡◌, ap, sym, ◌∙◌}
+use Prim.Native.Nat.{ℕ, suc, ◌+◌, ◌*◌, ◌^◌, ◌≤◌, ◌<◌}
+use native.Mathlib.Nat.{mul-le-mul_right, suc-mul}
+use native.Mathlib.Omega.{arith}
+use lib.IntN.{ℤ}
+use Rattle.naturals.specs.Sum.{sum_to}
+use Rattle.naturals.proofs.Cases.{true_or_false}
+use Rattle.naturals.proofs.Sums.{sum_to_zero, sum_block}
+use Rattle.integers.specs.Half.{in_limit}
+use Rattle.integers.proofs.Sizes.{limit_size}
+use Rattle.numbering.specs.Point.{at}
+use Rattle.hierarchy.specs.Turns.{value_at}
+use Rattle.shapes.specs.declared.Shape.{Shape}
+use Rattle.shapes.specs.Shapes.{points_of}
+use Rattle.surfaces.specs.Weights.{unit}
+use Rattle.surfaces.specs.Surface.{weight_on}
+use Rattle.surfaces.specs.Margin.{is_reached, size_reached, reached, reached_in, reached_at}
+use Rattle.vectors.specs.declared.LevelVector.{LevelVector}
+use Rattle.vectors.specs.Steps.{vectors_before, NextVector}
+use Rattle.evaluation.proofs.Blocks.{taken_at, block_unreached}
+use Rattle.evaluation.proofs.Walking.{Walked, vector_in, levels_low, taken_in}
+
+module _ (s : Shape) (xs : List ℤ) (x : ℕ → ℕ) where
+  -- What point number p adds to S.
+  abbrev pub size_at : ℕ → ℕ
+  size_at = size_reached s.axes (weight_on s x) (value_at xs)
+
+  size_unreached : (p : ℕ) → is_reached s.axes (weight_on s x p) ≡ false → size_at p ≡ 0
+  unfolding size_reached
+  size_unreached p e = rw e
+
+  pub size_small : (p : ℕ) → in_limit (value_at xs (suc p)) ≡ true → size_at p ≤ 2 ^ 47
+  unfolding size_reached
+  size_small p limited =
+      true_or_false (is_reached s.axes (weight_on s x p))
+      (λ e. rw e (limit_size (value_at xs (suc p)) limited))
+      (λ e. rw e (omega arith))
+
+pub record Summed (s : Shape) (xs : List ℤ) (x : ℕ → ℕ) (total first : ℕ) (vector : LevelVector) : Type 0 where
+  pub sum : total ≡ sum_to (size_at s xs x) first
+  pub small : total ≤ vectors_before s.axes (at vector.levels) * 2 ^ 47
+
+pub summed_starts : (s : Shape) (xs : List ℤ) (x : ℕ → ℕ) (vector : LevelVector) → Summed s xs x 0 0 vector
+summed_starts s xs x vector = record { sum = sym (sum_to_zero (size_at s xs x)); small = omega arith }
+
+module _ {s : Shape} {xs : List ℤ} {x : ℕ → ℕ} {high : ℤ} {low first total : ℕ} {vector : LevelVector} (w : Walked s xs x high low first vector)
+    (r : Summed s xs x total first vector) where
+  pub total_room : total ≤ 2 ^ 61
+  total_room = omega (arith, r.small, mul-le-mul_right (2 ^ 47) w.few)
+
+  module _ (h : first < points_of s) (inside : (t : ℕ) → t < s.axes → x t ≤ unit) where
+    others_none : (j : ℕ) → j < 2 ^ vector.sum → (j ≡ taken_at x (at vector.levels) s.axes → ⊥) → size_at s xs x (first + j) ≡ 0
+    others_none j lt ne =
+        size_unreached s xs x (first + j)
+        (ap (λ (a : ℕ). is_reached s.axes (weight_on s x (a + j))) (sym w.here)
+        ∙ block_unreached s x (at vector.levels) (vector_in w).rest (levels_low w h inside) inside j (rw (vector_in w).total lt) ne)
+
+    -- One vector more.
+    pub summed_steps : (vector' : LevelVector) → NextVector s.axes vector.sum vector.levels vector'.sum vector'.levels →
+        in_limit (value_at xs (suc (first + taken_at x (at vector.levels) s.axes))) ≡ true →
+        Summed s xs x (total + size_at s xs x (first + taken_at x (at vector.levels) s.axes)) (first + 2 ^ vector.sum) vector'
+    summed_steps vector' next limited =
+        let p : ℕ = first + taken_at x (at vector.levels) s.axes in
+        record {
+          sum =
+              ap (λ (k : ℕ). k + size_at s xs x p) r.sum
+              ∙ sym (sum_block (size_at s xs x) first (2 ^ vector.sum) (taken_at x (at vector.levels) s.axes) (taken_in w h inside) others_none);
+          small =
+              omega (
+                arith,
+                r.small,
+                suc-mul (vectors_before s.axes (at vector.levels)) (2 ^ 47),
+                size_small s xs x p limited,
+                ap (λ (k : ℕ). k * 2 ^ 47) next.count,
+              );
+        }
+
+-- Past the last point it is S.
+pub summed_ends : {s : Shape} {xs : List ℤ} {x : ℕ → ℕ} {high : ℤ} {low first total : ℕ} {vector : LevelVector} → Walked s xs x high low first vector →
+    Summed s xs x total first vector → points_of s ≤ first → total ≡ reached_at s (value_at xs) x
+unfolding reached_in reached
+summed_ends {s} {xs} {x} {first = first} w r h =
+    let all_points : first ≡ points_of s = omega (arith, w.within) in
+    r.sum ∙ ap (sum_to (size_at s xs x)) all_points
