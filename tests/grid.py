@@ -5,6 +5,7 @@ from decimal import ROUND_HALF_UP, Context, Inexact
 from fractions import Fraction
 from functools import lru_cache
 from itertools import product
+from math import prod
 
 LIMIT = 2 ** 47
 LEAST, MOST = -2 ** 31, 2 ** 31 - 1
@@ -134,6 +135,19 @@ def joint(point, at, unit=UNIT):
         if weight == 0:
             break
     return weight
+
+
+def product_of(point, at):
+    """The product of the weights on the axes, none of them rounded: above zero only where each is."""
+    return prod(max(0, UNIT - abs(x * c.denominator - c.numerator * UNIT)) for c, x in zip(point, at))
+
+
+def margin(d, n, table, at):
+    """The exact value of the surface, the sum of the coefficients reached, without their signs, and how far an estimate can be off: the first and the last are
+    fractions."""
+    products = [product_of(p, at) for p in points(d, n)]
+    total = sum(abs(c) for c, w in zip(table, products) if w > 0)
+    return Fraction(sum(c * w for c, w in zip(table, products)), UNIT ** d), total, Fraction(1, 2) + Fraction((d - 1) * total, UNIT)
 
 
 EXACT = Context(prec=99, traps=[Inexact])

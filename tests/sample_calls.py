@@ -6,8 +6,9 @@ import sys
 from bisect import bisect_right
 from fractions import Fraction
 from functools import lru_cache
+from math import ceil
 
-from grid import LEAST, LIMIT, MOST, OLD_UNIT, UNIT, back, estimate, forward, joint, key, points, position, rates_of, size, table_of_set, vectors
+from grid import LEAST, LIMIT, MOST, OLD_UNIT, UNIT, back, estimate, forward, joint, key, margin, points, position, rates_of, size, table_of_set, vectors
 
 PAST = LIMIT + 1
 # what a division leaves: nothing, a half, and one to either side of both
@@ -238,13 +239,24 @@ class Sheet:
             answer = self.answered()
         self.call("T", " ".join("%d %d" % r for r in reported) + " " + said(answer))
 
-    def estimate(self):
+    def estimate_alone(self):
         bad = no_state(self.d, self.n, self.bits, self.table)
         bad = bad or next(((17, t) for t in range(1, self.d + 1) if not self.bits >> t - 1 & 1), None)
         bad = bad or ((7, 0) if len(self.l) != self.d else None)
         bad = bad or next(((8, t) for t, x in enumerate(self.l, 1) if x > UNIT), None)
         bad = bad or ((10, 0) if any(abs(v) > LIMIT for v in self.table) else None)
-        self.call("E", said(bad or estimate(self.d, self.n, self.table, self.l)))
+        answer = bad or estimate(self.d, self.n, self.table, self.l)
+        self.call("E", said(answer))
+        return answer
+
+    def estimate(self):
+        """Alone, and with its margin."""
+        answer = self.estimate_alone()
+        if not isinstance(answer, tuple):
+            exact, total, off = margin(self.d, self.n, self.table, self.l)
+            assert abs(answer - exact) <= off
+            answer = "%d %d %d" % (answer, total, ceil(off))
+        self.call("M", said(answer))
 
 
 # ---- the worked values
@@ -271,11 +283,11 @@ def worked(sheet):
         assert sheet.table == rates
     for sign, x, value in [(1, 262144, 10), (1, 131072, 5), (1, 0, 0), (1, 1, 0), (-1, 1, 0), (1, 1048576, 0), (1, 1048577, "refused 8 1")]:
         sheet.state(1, 1, 1, [x], (), [6 * sign, 7 * sign, 11 * sign])
-        sheet.estimate()
+        sheet.estimate_alone()
         printed(str(value))
     for coefficient, value in [(1, 1), (-1, -1), (3, 2), (-3, -2), (5, 3), (-5, -3)]:
         sheet.state(1, 0, 1, [262144], (), [coefficient])
-        sheet.estimate()
+        sheet.estimate_alone()
         printed(str(value))
     # an old coordinate times 16: on one axis the old estimate, on more it may differ
     for d, n, coefficients, at, old, new in [
@@ -284,8 +296,16 @@ def worked(sheet):
             table = [sign * c for c in coefficients]
             assert estimate(d, n, table, at, OLD_UNIT) == sign * old
             sheet.state(d, n, 2 ** d - 1, [16 * x for x in at], (), table)
-            sheet.estimate()
+            sheet.estimate_alone()
             printed(str(sign * new))
+    # a weight of 2 on each axis and a joint weight of 0; half a unit off, on one axis; almost all of the margin off, on two
+    for d, coefficient, at, value, exact_value in [
+            (2, LIMIT, [1, 1], "0 140737488355328 134217729", 512), (1, 1, [262144], "1 1 1", Fraction(1, 2)),
+            (2, LIMIT, [1, 262143], "0 140737488355328 134217729", 134217216)]:
+        assert margin(d, 0, [coefficient], at)[0] == exact_value
+        sheet.state(d, 0, 2 ** d - 1, at, (), [coefficient])
+        sheet.estimate()
+        printed(value)
     for coefficient, answer in [(3, "refused 10 0"), (4, "d")]:
         sheet.state(1, 0, 0, (), (), [coefficient])
         sheet.to_rates()

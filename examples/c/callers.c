@@ -107,17 +107,17 @@ static void ask(const struct kept *k, uint32_t x, uint32_t y)
 {
     const uint32_t coordinates[AXES] = {x, y};
     int64_t estimate = 0;
-    uint64_t place;
-    uint32_t number = numolefays_estimate(k->axes, k->level, k->forward, k->table, POINTS, coordinates, AXES, &estimate, &place);
+    uint64_t reached, margin = 0, place;
+    uint32_t number = numolefays_estimate_with_margin(k->axes, k->level, k->forward, k->table, POINTS, coordinates, AXES, &estimate, &reached, &margin, &place);
 
     printf("estimate at %u %u", (unsigned)x, (unsigned)y);
     if (number == NUMOLEFAYS_SUCCESS)
-        printf(": %" PRId64 ", in units of 1/4\n", estimate);
+        printf(": %" PRId64 ", at most %" PRIu64 " off, in units of 1/4\n", estimate, margin);
     else
         tell("", number, &place);
 }
 
-/* The analyst: estimates from fully turned tables only. */
+/* The analyst: estimates from fully turned tables only, each with its margin. */
 static void analyst(const struct kept *half, const struct kept *whole)
 {
     struct kept k = *whole;

@@ -1,9 +1,9 @@
--- S along the walk: after each level vector it is the sum over all points before the next vector's first, since of the points of a vector only the one
--- taken can be reached. With at most 12,870 vectors and coefficients of at most 2^47 it stays below 2^61.
+-- S along the walk, where it is asked for: after each level vector it is the sum over all points before the next vector's first, since of the points of a
+-- vector only the one taken can be reached. With at most 12,870 vectors and coefficients of at most 2^47 it stays below 2^61, and fits 64 bits.
 -- Assumes nothing.
-use mathlib.Core.Bool.{true, false}
+use mathlib.Core.Bool.{Bool, true, false}
 use mathlib.Core.List.{List}
-use mathlib.Core.Path.{◌≡◌, ap, sym, ◌∙◌}
+use mathlib.Core.Path.{◌≡◌, refl, ap, sym, ◌∙◌}
 use Prim.Native.Nat.{ℕ, suc, ◌+◌, ◌*◌, ◌^◌, ◌≤◌, ◌<◌}
 use native.Mathlib.Nat.{mul-le-mul_right, suc-mul}
 use native.Mathlib.Omega.{arith}
@@ -22,6 +22,7 @@ use Rattle.surfaces.specs.Surface.{weight_on}
 use Rattle.surfaces.specs.Margin.{is_reached, size_reached, reached, reached_in, reached_at}
 use Rattle.vectors.specs.declared.LevelVector.{LevelVector}
 use Rattle.vectors.specs.Steps.{vectors_before, NextVector}
+use Rattle.evaluation.specs.Steps.{if_asked}
 use Rattle.evaluation.proofs.Blocks.{taken_at, block_unreached}
 use Rattle.evaluation.proofs.Walking.{Walked, vector_in, levels_low, taken_in}
 
@@ -41,16 +42,26 @@ module _ (s : Shape) (xs : List ℤ) (x : ℕ → ℕ) where
       (λ e. rw e (limit_size (value_at xs (suc p)) limited))
       (λ e. rw e (omega arith))
 
-pub record Summed (s : Shape) (xs : List ℤ) (x : ℕ → ℕ) (total first : ℕ) (vector : LevelVector) : Type 0 where
-  pub sum : total ≡ sum_to (size_at s xs x) first
+-- Two sums that are asked for, or neither.
+asked_plus : (asked : Bool) (i j : ℕ) → if_asked asked i + if_asked asked j ≡ if_asked asked (i + j)
+asked_plus true i j = refl
+asked_plus false i j = refl
+
+pub asked_small : (asked : Bool) (i j : ℕ) → i ≤ j → if_asked asked i ≤ j
+asked_small true i j h = h
+asked_small false i j h = omega arith
+
+pub record Summed (asked : Bool) (s : Shape) (xs : List ℤ) (x : ℕ → ℕ) (total first : ℕ) (vector : LevelVector) : Type 0 where
+  pub sum : total ≡ if_asked asked (sum_to (size_at s xs x) first)
   pub small : total ≤ vectors_before s.axes (at vector.levels) * 2 ^ 47
 
-pub summed_starts : (s : Shape) (xs : List ℤ) (x : ℕ → ℕ) (vector : LevelVector) → Summed s xs x 0 0 vector
-summed_starts s xs x vector = record { sum = sym (sum_to_zero (size_at s xs x)); small = omega arith }
+pub summed_starts : (asked : Bool) (s : Shape) (xs : List ℤ) (x : ℕ → ℕ) (vector : LevelVector) → Summed asked s xs x 0 0 vector
+summed_starts true s xs x vector = record { sum = sym (sum_to_zero (size_at s xs x)); small = omega arith }
+summed_starts false s xs x vector = record { sum = refl; small = omega arith }
 
-module _ {s : Shape} {xs : List ℤ} {x : ℕ → ℕ} {high : ℤ} {low first total : ℕ} {vector : LevelVector} (w : Walked s xs x high low first vector)
-    (r : Summed s xs x total first vector) where
-  pub total_room : total ≤ 2 ^ 61
+module _ {asked : Bool} {s : Shape} {xs : List ℤ} {x : ℕ → ℕ} {high : ℤ} {low first total : ℕ} {vector : LevelVector}
+    (w : Walked s xs x high low first vector) (r : Summed asked s xs x total first vector) where
+  pub total_room : total ≤ 12870 * 2 ^ 47
   total_room = omega (arith, r.small, mul-le-mul_right (2 ^ 47) w.few)
 
   module _ (h : first < points_of s) (inside : (t : ℕ) → t < s.axes → x t ≤ unit) where
@@ -63,27 +74,28 @@ module _ {s : Shape} {xs : List ℤ} {x : ℕ → ℕ} {high : ℤ} {low first t
     -- One vector more.
     pub summed_steps : (vector' : LevelVector) → NextVector s.axes vector.sum vector.levels vector'.sum vector'.levels →
         in_limit (value_at xs (suc (first + taken_at x (at vector.levels) s.axes))) ≡ true →
-        Summed s xs x (total + size_at s xs x (first + taken_at x (at vector.levels) s.axes)) (first + 2 ^ vector.sum) vector'
+        Summed asked s xs x (total + if_asked asked (size_at s xs x (first + taken_at x (at vector.levels) s.axes))) (first + 2 ^ vector.sum) vector'
     summed_steps vector' next limited =
         let p : ℕ = first + taken_at x (at vector.levels) s.axes in
         record {
           sum =
-              ap (λ (k : ℕ). k + size_at s xs x p) r.sum
-              ∙ sym (sum_block (size_at s xs x) first (2 ^ vector.sum) (taken_at x (at vector.levels) s.axes) (taken_in w h inside) others_none);
+              ap (λ (k : ℕ). k + if_asked asked (size_at s xs x p)) r.sum
+              ∙ asked_plus asked (sum_to (size_at s xs x) first) (size_at s xs x p)
+              ∙ ap (if_asked asked) (sym (sum_block (size_at s xs x) first (2 ^ vector.sum) (taken_at x (at vector.levels) s.axes) (taken_in w h inside) others_none));
           small =
               omega (
                 arith,
                 r.small,
                 suc-mul (vectors_before s.axes (at vector.levels)) (2 ^ 47),
-                size_small s xs x p limited,
+                asked_small asked (size_at s xs x p) (2 ^ 47) (size_small s xs x p limited),
                 ap (λ (k : ℕ). k * 2 ^ 47) next.count,
               );
         }
 
 -- Past the last point it is S.
-pub summed_ends : {s : Shape} {xs : List ℤ} {x : ℕ → ℕ} {high : ℤ} {low first total : ℕ} {vector : LevelVector} → Walked s xs x high low first vector →
-    Summed s xs x total first vector → points_of s ≤ first → total ≡ reached_at s (value_at xs) x
+pub summed_ends : {asked : Bool} {s : Shape} {xs : List ℤ} {x : ℕ → ℕ} {high : ℤ} {low first total : ℕ} {vector : LevelVector} → Walked s xs x high low first vector →
+    Summed asked s xs x total first vector → points_of s ≤ first → total ≡ if_asked asked (reached_at s (value_at xs) x)
 unfolding reached_in reached
-summed_ends {s} {xs} {x} {first = first} w r h =
+summed_ends {asked} {s} {xs} {x} {first = first} w r h =
     let all_points : first ≡ points_of s = omega (arith, w.within) in
-    r.sum ∙ ap (sum_to (size_at s xs x)) all_points
+    r.sum ∙ ap (λ (m : ℕ). if_asked asked (sum_to (size_at s xs x) m)) all_points

@@ -1,9 +1,9 @@
 -- One step of the walk as the code makes it: the place read is one of the table's, its value within the limit and its weight at most the unit, and
 -- both sums and S go on by the term of the point taken.
 -- Assumes nothing.
-use mathlib.Core.Bool.{Bool, true}
+use mathlib.Core.Bool.{Bool, true, false, ◌&&◌}
 use mathlib.Core.List.{List}
-use mathlib.Core.Path.{◌≡◌, ap, ap₂, sym, ◌∙◌}
+use mathlib.Core.Path.{◌≡◌, refl, ap, ap₂, sym, ◌∙◌}
 use Prim.Native.Nat.{ℕ, suc, ◌+◌, ◌*◌, ◌%◌, ◌^◌, ◌≤◌, ◌<◌}
 use native.Mathlib.Omega.{arith}
 use lib.IntN.{ℤ, pos, nat_abs, ◌+ℤ◌, ◌*ℤ◌}
@@ -28,11 +28,11 @@ use Rattle.surfaces.specs.Margin.{is_reached, size_reached}
 use Rattle.vectors.specs.declared.LevelVector.{LevelVector}
 use Rattle.vectors.specs.Steps.{NextVector}
 use Rattle.evaluation.specs.declared.Hat.{Hat}
-use Rattle.evaluation.specs.Steps.{Tabulated, joint_of, reached_of, position_of, Evaluable}
+use Rattle.evaluation.specs.Steps.{Tabulated, joint_of, reached_of, position_of, Evaluable, if_asked}
 use Rattle.evaluation.proofs.Blocks.{count_is, taken_at, taken_joint, taken_reached}
 use Rattle.evaluation.proofs.Reading.{position_taken, joint_taken, reached_taken}
 use Rattle.evaluation.proofs.Walking.{high_term, low_term, weight_small, Walked, vector_in, sum_low, taken_here, next_within, walked_steps}
-use Rattle.evaluation.proofs.Reaching.{size_at, size_small, Summed, summed_steps}
+use Rattle.evaluation.proofs.Reaching.{asked_small, size_at, size_small, Summed, summed_steps}
 use Rattle.wide_sums.proofs.Parts.{fits_below}
 
 module _ {s : Shape} {xs : List ℤ} {cs : List ℕ} (ev : Evaluable s xs cs) {high : ℤ} {low first : ℕ} {vector : LevelVector}
@@ -56,8 +56,8 @@ module _ {s : Shape} {xs : List ℤ} {cs : List ℕ} (ev : Evaluable s xs cs) {h
   pub vector_within : first + 2 ^ vector.sum ≤ length xs
   vector_within = omega (arith, next_within w before_last ev.listed.coordinates, ev.long)
 
-  module _ {hats : List (List Hat)} (table : Tabulated (at cs) s.axes hats) {position joint : ℕ} {reached : Bool}
-      (found : (position ≡ position_of hats (at vector.levels) s.axes) × (joint ≡ joint_of hats (at vector.levels) s.axes) × (reached ≡ reached_of hats (at vector.levels) s.axes)) where
+  module _ {hats : List (List Hat)} (table : Tabulated (at cs) s.axes hats) {position joint : ℕ} {reached : Bool} (asked : Bool)
+      (found : (position ≡ position_of hats (at vector.levels) s.axes) × (joint ≡ joint_of hats (at vector.levels) s.axes) × (reached ≡ asked && reached_of hats (at vector.levels) s.axes)) where
     taken : position ≡ taken_at (at cs) (at vector.levels) s.axes
     taken = found.0 ∙ position_taken (at cs) (at vector.levels) s.axes hats table levels_small
 
@@ -83,19 +83,25 @@ module _ {s : Shape} {xs : List ℤ} {cs : List ℕ} (ev : Evaluable s xs cs) {h
     pub value_fits : SFits w64 (get_or xs (first + position) (pos 0))
     value_fits = fits_below (get_or xs (first + position) (pos 0)) (omega (arith, limit_size (get_or xs (first + position) (pos 0)) value_in))
 
-    reached_read : reached ≡ is_reached s.axes (weight_on s (at cs) (first + position))
+    reached_read : reached ≡ asked && is_reached s.axes (weight_on s (at cs) (first + position))
     reached_read =
         found.2
-        ∙ reached_taken (at cs) (at vector.levels) s.axes hats table levels_small
+        ∙ ap (λ (b : Bool). asked && b)
+        (reached_taken (at cs) (at vector.levels) s.axes hats table levels_small
         ∙ sym (taken_reached s (at cs) (at vector.levels) (vector_in w).rest (omega (arith, (vector_in w).total, sum_low w before_last)))
-        ∙ ap₂ (λ (a q : ℕ). is_reached s.axes (weight_on s (at cs) (a + q))) w.here (sym taken)
+        ∙ ap₂ (λ (a q : ℕ). is_reached s.axes (weight_on s (at cs) (a + q))) w.here (sym taken))
+
+    both_if : (a b : Bool) (k : ℕ) → (if a && b then k else 0) ≡ if_asked a (if b then k else 0)
+    both_if true b k = refl
+    both_if false b k = refl
 
     -- What the code adds to S.
-    size_added : (if reached then nat_abs (get_or xs (first + position) (pos 0)) else 0) ≡ size_at s xs (at cs) (first + taken_at (at cs) (at vector.levels) s.axes)
+    size_added : (if reached then nat_abs (get_or xs (first + position) (pos 0)) else 0) ≡ if_asked asked (size_at s xs (at cs) (first + taken_at (at cs) (at vector.levels) s.axes))
     unfolding size_reached
     size_added =
         ap₂ (λ (b : Bool) (z : ℤ). if b then nat_abs z else 0) reached_read (sym (value_suc xs (first + position)))
-        ∙ ap (λ (q : ℕ). if is_reached s.axes (weight_on s (at cs) (first + q)) then nat_abs (value_at xs (suc (first + q))) else 0) taken
+        ∙ both_if asked (is_reached s.axes (weight_on s (at cs) (first + position))) (nat_abs (value_at xs (suc (first + position))))
+        ∙ ap (λ (q : ℕ). if_asked asked (if is_reached s.axes (weight_on s (at cs) (first + q)) then nat_abs (value_at xs (suc (first + q))) else 0)) taken
 
     -- The value at the point taken, by its own name.
     limited : in_limit (value_at xs (suc (first + taken_at (at cs) (at vector.levels) s.axes))) ≡ true
@@ -103,7 +109,9 @@ module _ {s : Shape} {xs : List ℤ} {cs : List ℕ} (ev : Evaluable s xs cs) {h
         ap (λ (q : ℕ). in_limit (value_at xs (suc (first + q)))) (sym taken) ∙ ev.contents (first + position) (omega (arith, place_read, ev.long))
 
     pub size_in : (if reached then nat_abs (get_or xs (first + position) (pos 0)) else 0) ≤ 2 ^ 47
-    size_in = rw size_added (size_small s xs (at cs) (first + taken_at (at cs) (at vector.levels) s.axes) limited)
+    size_in =
+        rw size_added
+        (asked_small asked _ (2 ^ 47) (size_small s xs (at cs) (first + taken_at (at cs) (at vector.levels) s.axes) limited))
 
     -- The terms that the code adds.
     high_added : floor unit (get_or xs (first + position) (pos 0)) *ℤ pos joint ≡ high_term s xs (at cs) (first + taken_at (at cs) (at vector.levels) s.axes)
@@ -128,10 +136,10 @@ module _ {s : Shape} {xs : List ℤ} {cs : List ℕ} (ev : Evaluable s xs cs) {h
         rw (eh ∙ ap (λ (z : ℤ). high +ℤ z) high_added, el ∙ ap (λ (k : ℕ). low + k) low_added)
         (walked_steps w before_last ev.listed.coordinates vector' ev.low next limited)
 
-    pub summed : {total total' : ℕ} (vector' : LevelVector) → Summed s xs (at cs) total first vector →
+    pub summed : {total total' : ℕ} (vector' : LevelVector) → Summed asked s xs (at cs) total first vector →
         (vector'.axes ≡ vector.axes) × NextVector vector.axes vector.sum vector.levels vector'.sum vector'.levels →
         total' ≡ total + (if reached then nat_abs (get_or xs (first + position) (pos 0)) else 0) →
-        Summed s xs (at cs) total' (first + 2 ^ vector.sum) vector'
+        Summed asked s xs (at cs) total' (first + 2 ^ vector.sum) vector'
     summed {total} {total'} vector' r next et =
         rw (et ∙ ap (λ (k : ℕ). total + k) size_added)
         (summed_steps w r before_last ev.listed.coordinates vector' (rw w.same at next.1) limited)

@@ -11,17 +11,17 @@ use native.Mathlib.Nat.{mul_comm, mul-le-mul}
 use native.Mathlib.Numerals.{add-one}
 use native.Mathlib.Omega.{arith}
 use lib.Arith.{digits_lt}
-use lib.Dec.{ltb}
 use lib.Pow.{pow_pos, pow_mono, shl_exact}
+use Rattle.std.proofs.Math.Bool.{and-true, and_assoc}
 use Rattle.naturals.specs.Sum.{sum_to}
+use Rattle.naturals.proofs.Tests.{all_zero, all_suc}
 use Rattle.naturals.proofs.Sums.{sum_to_zero, sum_to_suc, sum_to_mono}
 use Rattle.numbering.proofs.Position.{pow_sum}
 use Rattle.surfaces.specs.Weights.{unit}
 use Rattle.surfaces.proofs.Unit.{unit_bits, unit_is}
 use Rattle.surfaces.proofs.Joint.{joint_zero, joint_suc, joint_le}
-use Rattle.surfaces.proofs.Reached.{reached_zero, reached_suc}
 use Rattle.evaluation.specs.declared.Hat.{Hat}
-use Rattle.evaluation.specs.Steps.{cell_at, weight_at, joint_of, reached_of, step_of, position_of, Bounded}
+use Rattle.evaluation.specs.Steps.{cell_at, weight_at, reached_on, joint_of, reached_of, step_of, position_of, Bounded}
 
 pub position_zero : (hats : List (List Hat)) (l : ℕ → ℕ) → position_of hats l 0 ≡ 0
 unfolding position_of
@@ -55,25 +55,25 @@ module _ {d : ℕ} {hats : List (List Hat)} (bounded : Bounded d hats) (l : ℕ 
         digits_lt (cell_lt k h) (position_lt k (omega arith)),
       )
 
-pub record Taken (hats : List (List Hat)) (l : ℕ → ℕ) (d t position joint : ℕ) (reached : Bool) (sum : ℕ) : Type 0 where
+pub record Taken (asked : Bool) (hats : List (List Hat)) (l : ℕ → ℕ) (d t position joint : ℕ) (reached : Bool) (sum : ℕ) : Type 0 where
   pub axis : t ≤ d
   pub total : sum ≡ sum_to l t
   pub packed : position ≡ position_of hats l t
   pub weighed : joint ≡ joint_of hats l t
-  pub reaches : reached ≡ reached_of hats l t
+  pub reaches : reached ≡ asked && reached_of hats l t
 
-pub taken_starts : (hats : List (List Hat)) (l : ℕ → ℕ) (d : ℕ) → Taken hats l d 0 0 (2 ^ unit_bits) true 0
-taken_starts hats l d =
+pub taken_starts : (asked : Bool) (hats : List (List Hat)) (l : ℕ → ℕ) (d : ℕ) → Taken asked hats l d 0 0 (2 ^ unit_bits) asked 0
+taken_starts asked hats l d =
     record {
       axis = omega arith;
       total = sym (sum_to_zero l);
       packed = sym (position_zero hats l);
       weighed = sym (joint_zero unit (weight_at hats l) ∙ unit_is);
-      reaches = sym (reached_zero (weight_at hats l));
+      reaches = rw (all_zero (reached_on hats l)) (sym (and-true asked));
     }
 
-module _ {d : ℕ} {hats : List (List Hat)} {l : ℕ → ℕ} {t position joint sum : ℕ} {reached : Bool} (bounded : Bounded d hats) (few : sum_to l d ≤ 8)
-    (state : Taken hats l d t position joint reached sum) (h : t < d) where
+module _ {d : ℕ} {hats : List (List Hat)} {l : ℕ → ℕ} {t position joint sum : ℕ} {asked reached : Bool} (bounded : Bounded d hats) (few : sum_to l d ≤ 8)
+    (state : Taken asked hats l d t position joint reached sum) (h : t < d) where
   pub level_small : l t ≤ 8
   level_small = level_le bounded l few t h
 
@@ -105,12 +105,12 @@ module _ {d : ℕ} {hats : List (List Hat)} {l : ℕ → ℕ} {t position joint 
 
   -- One axis more.
   pub taken_steps :
-      Taken hats l d (t + 1) (position + cell_at hats l t * 2 ^ sum % 2 ^ 64) (joint * weight_at hats l t / unit) (reached && ltb 0 (weight_at hats l t)) (sum + l t)
+      Taken asked hats l d (t + 1) (position + cell_at hats l t * 2 ^ sum % 2 ^ 64) (joint * weight_at hats l t / unit) (reached && reached_on hats l t) (sum + l t)
   taken_steps =
       record {
         axis = omega arith;
         total = rw add-one (omega (arith, sum_to_suc l t));
         packed = rw add-one turned;
         weighed = rw (add-one, joint_suc unit (weight_at hats l) t, ← state.weighed) refl;
-        reaches = rw (add-one, reached_suc (weight_at hats l) t, ← state.reaches) refl;
+        reaches = rw (add-one, all_suc (reached_on hats l) t, state.reaches) (and_assoc asked (reached_of hats l t) (reached_on hats l t));
       }

@@ -1,7 +1,8 @@
 -- What the steps of an estimate ask and give: one point for each level vector, and its weight from a table of axis weights.
 -- Assumes nothing.
-use Rattle.std.specs.Prelude.{Bool, true, List, [], ◌≡◌, ℕ, suc, ◌*◌, ◌^◌, ◌≤◌, ◌<◌, ℤ, length, get_or}
+use Rattle.std.specs.Prelude.{Bool, true, false, List, [], ◌≡◌, ℕ, suc, ◌*◌, ◌^◌, ◌≤◌, ◌<◌, ℤ, ltb, length, get_or, if◌then◌else◌}
 use Rattle.naturals.specs.Sum.{sum_to}
+use Rattle.naturals.specs.Test.{all}
 use Rattle.integers.specs.Half.{in_limit}
 use Rattle.numbering.specs.Point.{at}
 use Rattle.hierarchy.specs.Turns.{value_at}
@@ -9,21 +10,24 @@ use Rattle.shapes.specs.declared.Shape.{Shape}
 use Rattle.shapes.specs.Shapes.{points_of}
 use Rattle.surfaces.specs.Weights.{unit, weight, joint}
 use Rattle.surfaces.specs.Surface.{estimate_at}
-use Rattle.surfaces.specs.Margin.{is_reached, reached_at}
+use Rattle.surfaces.specs.Margin.{reached_at}
 use Rattle.axis_weights.specs.Steps.{cell_of, index_of_cell}
 use Rattle.evaluation.specs.declared.Evaluated.{Evaluated}
 use Rattle.evaluation.specs.declared.Hat.{Hat}
 
 -- The hat of axis t and level l.
 abbrev pub no_hat : Hat
-no_hat = record { cell = 0; weight = 0 }
+no_hat = record { cell = 0; weight = 0; reached = false }
 
 abbrev pub hat_of : List (List Hat) → ℕ → ℕ → Hat
 hat_of hats t l = get_or (get_or hats t []) l no_hat
 
--- On an axis, the cell of level l in which the coordinate x lies and the weight of its point.
+-- On an axis, the weight of the point of the cell of level l in which the coordinate x lies; and the cell with it, and whether it is above zero.
+abbrev pub hat_weight : ℕ → ℕ → ℕ
+hat_weight x l = weight unit x l (index_of_cell (cell_of x l))
+
 abbrev pub hat_at : ℕ → ℕ → Hat
-hat_at x l = record { cell = cell_of x l; weight = weight unit x l (index_of_cell (cell_of x l)) }
+hat_at x l = record { cell = cell_of x l; weight = hat_weight x l; reached = ltb 0 (hat_weight x l) }
 
 -- The hats of an axis at the coordinate x, one for each level.
 abbrev pub AxisHats : ℕ → List Hat → Type 0
@@ -40,12 +44,15 @@ cell_at hats l t = (hat_of hats t (l t)).cell
 abbrev pub weight_at : List (List Hat) → (ℕ → ℕ) → ℕ → ℕ
 weight_at hats l t = (hat_of hats t (l t)).weight
 
+abbrev pub reached_on : List (List Hat) → (ℕ → ℕ) → ℕ → Bool
+reached_on hats l t = (hat_of hats t (l t)).reached
+
 -- Of the point of a level vector that they give, over the first k axes: its joint weight, whether its weight is above zero on each of them, and its position.
 abbrev pub joint_of : List (List Hat) → (ℕ → ℕ) → ℕ → ℕ
 joint_of hats l k = joint unit (weight_at hats l) k
 
 abbrev pub reached_of : List (List Hat) → (ℕ → ℕ) → ℕ → Bool
-reached_of hats l k = is_reached k (weight_at hats l)
+reached_of hats l k = all (reached_on hats l) k
 
 unfoldable pub step_of : List (List Hat) → (ℕ → ℕ) → ℕ → ℕ
 step_of hats l t = cell_at hats l t * 2 ^ sum_to l t
@@ -73,6 +80,9 @@ pub record Evaluable (s : Shape) (xs : List ℤ) (cs : List ℕ) : Type 0 where
   pub contents : (p : ℕ) → p < points_of s → in_limit (value_at xs (suc p)) ≡ true
   pub listed : Listed s.axes cs
 
--- What the steps come to: the estimate of the coefficients c at the coordinates x, and S.
-abbrev pub evaluated_at : Shape → (ℕ → ℤ) → (ℕ → ℕ) → Evaluated
-evaluated_at s c x = record { estimate = estimate_at s c x; reached = reached_at s c x }
+-- What the steps come to, for the coefficients c at the coordinates x: the estimate, and S where it is asked for, else 0.
+abbrev pub if_asked : Bool → ℕ → ℕ
+if_asked asked k = if asked then k else 0
+
+abbrev pub evaluated_at : Bool → Shape → (ℕ → ℤ) → (ℕ → ℕ) → Evaluated
+evaluated_at asked s c x = record { estimate = estimate_at s c x; reached = if_asked asked (reached_at s c x) }

@@ -1,7 +1,7 @@
 // The sums behind an estimate and its margin: one point for each level vector, the weights of an axis once for each level.
 #![tactic(auto)]
 
-ghost use Rattle.std.specs.Prelude.{◌≡◌, ◌^◌, ◌≤◌, length, nat_abs, if◌then◌else◌};
+ghost use Rattle.std.specs.Prelude.{◌≡◌, ◌&&◌, ◌*◌, ◌^◌, ◌≤◌, length, nat_abs, if◌then◌else◌};
 ghost use Rattle.naturals.specs.Sum.{sum_to};
 ghost use Rattle.numbering.specs.Point.{at};
 ghost use Rattle.hierarchy.specs.Turns.{value_at};
@@ -14,11 +14,12 @@ use surfaces::BITS;
 use vectors::LevelVector;
 use wide_sums::Sum;
 
-// Of one axis and level: the cell in which the coordinate lies, and the weight of the point in its middle.
+// Of one axis and level: the cell in which the coordinate lies, the weight of the point in its middle, and whether that is above 0.
 #[derive(Clone, Copy)]
 struct Hat {
     cell: u64,
     weight: u64,
+    reached: bool,
 }
 
 impl Hat {
@@ -30,7 +31,11 @@ impl Hat {
     {
         let cell = coordinate.cell(level);
         let weight = coordinate.weight(level, 2 * cell + 1);
-        Hat { cell, weight }
+        Hat {
+            cell,
+            weight,
+            reached: weight > 0,
+        }
     }
 }
 
@@ -46,7 +51,12 @@ fn tabulated(coordinates: &[u32]) -> [[Hat; 9]; 8]
     requires { Listed (length coordinates.now) coordinates.now }
     ensures { Tabulated (at coordinates.now) (length coordinates.now) result × (length result ≡ 8) }
 {
-    let mut hats = [[Hat { cell: 0, weight: 0 }; 9]; 8];
+    let none = Hat {
+        cell: 0,
+        weight: 0,
+        reached: false,
+    };
+    let mut hats = [[none; 9]; 8];
     for (t, x) in coordinates.iter().enumerate() {
         hats[t] = axis_hats(Coordinate { x: u64::from(*x) });
     }
@@ -71,20 +81,21 @@ impl Term {
     }
 }
 
+// It is asked for or not whether a point is reached; where it is not, none is.
 #[inline(always)]
-fn taken(hats: &[[Hat; 9]], levels: &[u32; 8]) -> Term
+fn taken(asked: bool, hats: &[[Hat; 9]], levels: &[u32; 8]) -> Term
     requires { Bounded (length hats.now) hats.now × (sum_to (at levels.now) (length hats.now) ≤ 8) }
-    ensures { (result.position ≡ position_of hats.now (at levels.now) (length hats.now)) × (result.joint ≡ joint_of hats.now (at levels.now) (length hats.now)) × (result.reached ≡ reached_of hats.now (at levels.now) (length hats.now)) }
+    ensures { (result.position ≡ position_of hats.now (at levels.now) (length hats.now)) × (result.joint ≡ joint_of hats.now (at levels.now) (length hats.now)) × (result.reached ≡ asked && reached_of hats.now (at levels.now) (length hats.now)) }
 {
     let mut position: u64 = 0;
     let mut joint: u64 = 1 << BITS;
-    let mut reached = true;
+    let mut reached = asked;
     let mut sum: u32 = 0;
     for (axis, level) in hats.iter().zip(levels) {
         let hat = axis[*level as usize];
         position += hat.cell << sum;
         joint = (joint * hat.weight) >> BITS;
-        reached &= hat.weight > 0;
+        reached &= hat.reached;
         sum += *level;
     }
     Term {
@@ -94,19 +105,19 @@ fn taken(hats: &[[Hat; 9]], levels: &[u32; 8]) -> Term
     }
 }
 
-// An estimate, and S: the sum of the absolute coefficients of the points that are reached.
+// An estimate, and S, the sum of the absolute coefficients of the points that are reached, or 0 where it is not asked for.
 #[derive(Clone, Copy)]
 pub struct Evaluated {
     pub estimate: i64,
     pub reached: u64,
 }
 
-// Those at these coordinates. (Inlined, so that an estimate alone does not add up S.)
+// Those at these coordinates. S is of at most 12,870 points. (Inlined, so that an estimate alone does not look which points are reached.)
 #[inline(always)]
-pub fn evaluate(shape: Shape, table: &[i64], coordinates: &[u32]) -> Evaluated
+pub fn evaluate(asked: bool, shape: Shape, table: &[i64], coordinates: &[u32]) -> Evaluated
     requires { Evaluable shape table.now coordinates.now }
-    ensures value { result ≡ evaluated_at shape (value_at table.now) (at coordinates.now) }
-    ensures room { result.reached ≤ 2 ^ 61 }
+    ensures value { result ≡ evaluated_at asked shape (value_at table.now) (at coordinates.now) }
+    ensures room { result.reached ≤ 12870 * 2 ^ 47 }
 {
     let tabulated = tabulated(coordinates);
     let hats = &tabulated[..shape.axes as usize];
@@ -115,7 +126,7 @@ pub fn evaluate(shape: Shape, table: &[i64], coordinates: &[u32]) -> Evaluated
     let mut rest = table;
     let mut vector = LevelVector::first(shape.axes);
     while !rest.is_empty() {
-        let term = taken(hats, &vector.levels);
+        let term = taken(asked, hats, &vector.levels);
         let c = rest[term.position as usize];
         sum.add(c, term.joint);
         reached += term.size(c);

@@ -1,16 +1,16 @@
 // How far an estimate can be off, as a whole number, from the sum of the absolute coefficients reached.
 #![tactic(auto)]
 
-ghost use Rattle.std.specs.Prelude.{◌≡◌, ◌^◌, ◌≤◌};
+ghost use Rattle.std.specs.Prelude.{◌≡◌, ◌*◌, ◌^◌, ◌≤◌};
 ghost use Rattle.surfaces.specs.Weights.{unit};
 ghost use Rattle.surfaces.specs.Margin.{margin};
 
 use surfaces::BITS;
 
-// 1/2 + (d − 1) × S / the unit, rounded up: half a unit more, divided by the unit. (An S of at most 2^61 times 7 leaves room for them in 64 bits.)
+// 1/2 + (d − 1) × S / the unit, rounded up. (S is of at most 12,870 points, so that 7 times S and more fits 64 bits, and nothing need be divided first.)
 #[tactic(auto, using(crate::proofs::Dividing::divided))]
 pub fn margin(axes: u32, reached: u64) -> u64
-    requires { (1 ≤ axes) × (axes ≤ 8) × (reached ≤ 2 ^ 61) }
+    requires { (1 ≤ axes) × (axes ≤ 8) × (reached ≤ 12870 * 2 ^ 47) }
     ensures { result ≡ margin unit axes reached }
 {
     let half = 1 << (BITS - 1);

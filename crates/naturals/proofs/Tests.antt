@@ -1,6 +1,6 @@
 -- A test of every place below a bound passes exactly where it passes at each such place.
 -- Assumes nothing.
-use mathlib.Core.Path.{◌≡◌, refl, sym, ◌∙◌, ap}
+use mathlib.Core.Path.{◌≡◌, refl, sym, ◌∙◌, ap, ap₂}
 use mathlib.Core.Bool.{Bool, true, false, ◌&&◌, false≢true}
 use mathlib.Core.Logic.{⊎_elim}
 use Prim.Native.Nat.{ℕ, zero, suc, ◌<◌}
@@ -24,6 +24,12 @@ all_zero f = refl
 pub all_suc : (f : ℕ → Bool) (m : ℕ) → all f (suc m) ≡ all f m && f m
 unfolding all
 all_suc f m = refl
+
+-- Tests that say the same at each place say the same of the whole.
+pub all_cong : (f g : ℕ → Bool) (m : ℕ) → ((k : ℕ) → k < m → f k ≡ g k) → all f m ≡ all g m
+all_cong f g zero same = all_zero f ∙ sym (all_zero g)
+all_cong f g (suc m) same =
+    all_suc f m ∙ ap₂ ◌&&◌ (all_cong f g m (λ k h. same k (omega arith))) (same m (omega arith)) ∙ sym (all_suc g m)
 
 -- Where the whole test passes, it passes at each place.
 pub all_at : (f : ℕ → Bool) (m : ℕ) → all f m ≡ true → (k : ℕ) → k < m → f k ≡ true

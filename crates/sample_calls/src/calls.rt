@@ -1,5 +1,6 @@
 // A letter of the list, and the call that it may stand for.
 use crate::text;
+use estimates::Estimated;
 use numbering::Side;
 use points::{Point, padded};
 use refusals::Refusal;
@@ -53,6 +54,18 @@ fn byte(n: u32) -> u8 {
 fn numbered<T: Display + Drop>(out: &impl Print, answer: Result<T, Refusal>) -> io::Result<()> {
     match answer {
         Ok(number) => text::number(out, number),
+        Err(why) => text::refused(out, why),
+    }
+}
+
+// An estimate, the sum reached and the margin; or why there are none.
+fn margined(out: &impl Print, answer: Result<Estimated, Refusal>) -> io::Result<()> {
+    match answer {
+        Ok(found) => {
+            text::number(out, found.estimate)?;
+            text::number(out, found.reached)?;
+            text::number(out, found.margin)
+        }
         Err(why) => text::refused(out, why),
     }
 }
@@ -169,6 +182,7 @@ fn call(
             parents::parent(shape, levels, indices, axis, Side::Left),
             b'b',
         )?,
+        b'M' => margined(out, estimates::estimate_with_margin(state, table, levels))?,
         b'N' => numbered(out, numbers::number_of_point(shape, levels, indices))?,
         b'O' => ordered(out, compare_levels(padded(levels), padded(indices)))?,
         b'P' => located(out, numbers::point_of_number(shape, x).map(Some), b' ')?,

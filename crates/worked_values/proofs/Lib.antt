@@ -1,3 +1,4 @@
 pub mod Worked
 pub mod Components
 pub mod OldCoordinates
+pub mod Margins

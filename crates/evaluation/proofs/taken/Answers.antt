@@ -15,7 +15,7 @@ use Rattle.evaluation.proofs.taken.Goals.{In-Some}
 use Rattle.evaluation.proofs.taken.Goals as goal
 
 pub loop-axis-init : goal.loop-axis-init
-loop-axis-init c = taken_starts _ _ _
+loop-axis-init c = taken_starts _ _ _ _
 
 -- the hats and the level at hand are those of the axis at hand
 turn : (c : In-Some) →

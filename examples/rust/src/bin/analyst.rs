@@ -1,6 +1,6 @@
-//! The analyst: reads estimates, from fully turned tables only. A half-turned table looks reasonable, and is refused.
+//! The analyst: reads estimates, each with its margin, from fully turned tables only. A half-turned table looks reasonable, and is refused.
 
-use numolefays::{Refusal, Shape, UNIT};
+use numolefays::{Estimated, Refusal, Shape, UNIT};
 
 fn main() -> Result<(), Refusal> {
     let shape = Shape::new(2, 1);
@@ -27,8 +27,13 @@ fn main() -> Result<(), Refusal> {
         [UNIT, UNIT],
     ];
     for at in places {
-        println!("  at {at:?}: {}", state.estimate(&table, &at)?);
+        let Estimated { estimate, margin, .. } = state.estimate_with_margin(&table, &at)?;
+        println!("  at {at:?}: {estimate}, at most {margin} off");
     }
+    let mut large = [4, 3, 5, 2, 6].map(|rate| rate * 1_000_000);
+    shape.rates_to_coefficients(&mut large)?;
+    let found = shape.adopt(&large)?.estimate_with_margin(&large, &[640_000, 320_000])?;
+    println!("  of rates in millionths: {}, at most {} off", found.estimate, found.margin);
     let refusal = state.estimate(&table, &[0, UNIT + 1]).unwrap_err();
     println!("  {refusal}");
     Ok(())
