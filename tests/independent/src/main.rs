@@ -13,8 +13,8 @@ mod model;
 mod report;
 
 use checks::{
-    border, components, edges, estimates, exhaustive, faults, files, finer, lists, misreadings, orders, points, rates,
-    rounding, runs, threads, turns, walks, worked, writes,
+    border, components, edges, estimates, exhaustive, faults, files, finer, lists, margin_misreadings, margins,
+    misreadings, orders, points, rates, rounding, runs, threads, turns, walks, worked, writes,
 };
 use draw::Draw;
 use report::Report;
@@ -31,7 +31,7 @@ fn setting(name: &str, usual: u64) -> u64 {
 }
 
 /// What each call can answer, as refusal numbers, 0 for success: all of it has to have been met.
-const ANSWERS: [(&str, &[u32]); 19] = [
+const ANSWERS: [(&str, &[u32]); 20] = [
     ("count", &[0, 1, 2]),
     ("number", &[0, 1, 2, 7, 9]),
     ("successor", &[0, 1, 2, 7, 9]),
@@ -47,6 +47,7 @@ const ANSWERS: [(&str, &[u32]); 19] = [
     ("component", &[0, 1, 2, 19, 3, 4]),
     ("run", &[0, 1, 2, 14, 3, 7]),
     ("estimate", &[0, 1, 2, 14, 3, 17, 7, 8, 10]),
+    ("margin", &[0, 1, 2, 14, 3, 17, 7, 8, 10]),
     ("read", &[0, 11, 12, 1, 2, 3, 13]),
     ("write", &[0, 1, 2, 3, 4]),
     ("rewrite", &[0, 11, 12, 1, 2, 3, 13]),
@@ -89,6 +90,11 @@ fn main() {
 
     rounding::rounding(&mut Draw::new(seed ^ 0x6861_6c76_6573), &mut report);
     step(&clock, "estimates on halves and beside them");
+    let mut own = Draw::new(seed ^ 0x6d_6172_6769_6e73);
+    margins::chosen_sums(&mut own, &mut report);
+    margins::small_weights(&mut own, &mut report);
+    margins::arithmetic(&mut own, &mut report);
+    step(&clock, "margins where they go up by one, points of small weights, exact whole numbers");
 
     finer::one_axis(&mut Draw::new(seed ^ 0x66_696e_6572), &mut report);
     border::border(&mut Draw::new(seed ^ 0x626f_7264_6572), &mut report);
@@ -142,7 +148,10 @@ fn main() {
     step(&clock, "threads");
 
     report.print();
-    let mut met = misreadings_shown(&report) & orders::print(&shown) & lists::print(&listed);
+    let mut met = misreadings_shown(&report, "an estimate", misreadings::names())
+        & misreadings_shown(&report, "a margin", margin_misreadings::names())
+        & orders::print(&shown)
+        & lists::print(&listed);
     if count >= COUNT {
         for (call, numbers) in ANSWERS {
             let missing = report.never_met(call, numbers);
@@ -160,16 +169,16 @@ fn step(clock: &Instant, what: &str) {
     println!("{:7.1} s  {what}", clock.elapsed().as_secs_f64());
 }
 
-/// How many calls show each wrong reading of an estimate; false where none shows one of them.
-fn misreadings_shown(report: &Report) -> bool {
+/// How many calls show each of these wrong readings of an estimate or of a margin; false where none shows one of them.
+fn misreadings_shown(report: &Report, of: &str, names: impl Iterator<Item = &'static str>) -> bool {
     let mut all = true;
-    println!("{:14}{:>9}  wrong reading of an estimate", "shown by", "calls");
-    for reading in misreadings::names() {
+    println!("{:14}{:>9}  wrong reading of {of}", "shown by", "calls");
+    for reading in names {
         let times = report.times_shown(reading);
         println!("{:14}{times:9}  {reading}", "");
         if times == 0 {
             all = false;
-            println!("estimate: no call shows the reading {reading:?}");
+            println!("estimate: no call shows the reading {reading:?} of {of}");
         }
     }
     all
@@ -334,4 +343,20 @@ fn largest(draw: &mut Draw, report: &mut Report) {
     let file = files::file(draw, axes, level, &rates, 50);
     files::read(draw, report, &file, n + 5);
     files::read(draw, report, &file[..file.len() - 1], n);
+    largest_sum(draw, report);
+}
+
+/// The largest S: 12,870 points, one for each level list, with 2^47 each; (d − 1) × S has 64 bits.
+fn largest_sum(draw: &mut Draw, report: &mut Report) {
+    let (axes, level) = (8, 8);
+    let n = model::grid::count(axes, level) as usize;
+    let ends = [inputs::LIMIT, -inputs::LIMIT];
+    let either: Vec<i64> = (0..n).map(|_| draw.of(&ends)).collect();
+    for table in [vec![ends[0]; n], either] {
+        let thirds: Vec<u32> = (0..axes).map(|_| draw.of(&[inputs::END / 3, inputs::END - inputs::END / 3])).collect();
+        let got = estimates::answered(draw, report, axes, level, 255, &table, &thirds).with_margin;
+        let want = Ok((12_870 << 47, (7 * 12_870 << 27) + 1));
+        let say = || format!("axes {axes} level {level} coordinates {thirds:?}");
+        report.same("margin", "the largest S", &want, &got.map(|found| (found.reached, found.margin)), &say);
+    }
 }

@@ -4,7 +4,7 @@ use std::collections::BTreeMap;
 use std::fmt::Debug;
 
 /// The calls of the boundary.
-pub const KINDS: [&str; 19] = [
+pub const KINDS: [&str; 20] = [
     "count",
     "number",
     "point",
@@ -20,6 +20,7 @@ pub const KINDS: [&str; 19] = [
     "whole back",
     "component",
     "estimate",
+    "margin",
     "read",
     "write",
     "rewrite",

@@ -1,10 +1,11 @@
-//! The surface is 0 on the border.
+//! The surface is 0 on the border, and no point is reached there.
 
 use super::estimates::answered;
 use super::short;
 use crate::draw::Draw;
 use crate::inputs::{self, LIMIT};
 use crate::model::grid::count;
+use crate::model::margin::Estimated;
 use crate::report::Report;
 
 /// Each axis in turn at either end, the others anywhere: every table is read as 0.
@@ -18,7 +19,9 @@ pub fn border(draw: &mut Draw, report: &mut Report) {
                         coordinates[axis] = end;
                         let got = answered(draw, report, axes, level, inputs::all_bits(axes), &table, &coordinates);
                         let say = || format!("axes {axes} level {level} at {coordinates:?} table {}", short(&table));
-                        report.same("estimate", "0 on the border", &Ok(0), &got, &say);
+                        report.same("estimate", "0 on the border", &Ok(0), &got.estimate, &say);
+                        let nothing = Estimated { estimate: 0, reached: 0, margin: 1 };
+                        report.same("margin", "nothing on the border", &Ok(nothing), &got.with_margin, &say);
                     }
                 }
             }

@@ -559,7 +559,9 @@ fn end(
     refused: Option<model::Refused>,
 ) {
     let got = estimates::answered(draw, report, axes, 1, inputs::all_bits(axes), table, coordinates);
-    report.same("estimate", "refused for the end", &refused, &got.err(), &|| format!("coordinates {coordinates:?}"));
+    let say = || format!("coordinates {coordinates:?}");
+    report.same("estimate", "refused for the end", &refused, &got.estimate.err(), &say);
+    report.same("margin", "refused for the end", &refused, &got.with_margin.err(), &say);
 }
 
 // ---- files written

@@ -1,10 +1,11 @@
-//! Estimates.
+//! Estimates, and the same with their margin.
 
-use super::{answer, misreadings, refusal, short};
+use super::{answer, margins, misreadings, refusal, short};
 use crate::draw::Draw;
 use crate::inputs::{self, END};
 use crate::model::estimates as model;
 use crate::model::grid::{count, grid};
+use crate::model::margin::{Estimated, Reached};
 use crate::model::rates::coefficients;
 use crate::model::Refused;
 use crate::report::Report;
@@ -12,7 +13,7 @@ use numolefays::{boundary, Shape, State};
 
 const CALL: &str = "estimate";
 
-/// One call, through the boundary and through the wrapper.
+/// One call of each of the two, through the boundary and through the wrapper.
 pub fn estimate(
     draw: &mut Draw,
     report: &mut Report,
@@ -25,7 +26,13 @@ pub fn estimate(
     let _ = answered(draw, report, axes, level, bits, table, coordinates);
 }
 
-/// The same call; returns what the library answers.
+/// What the library answers to both calls.
+pub struct Answers {
+    pub estimate: Result<i64, Refused>,
+    pub with_margin: Result<Estimated, Refused>,
+}
+
+/// The same calls; returns what the library answers.
 pub fn answered(
     draw: &mut Draw,
     report: &mut Report,
@@ -34,7 +41,7 @@ pub fn answered(
     bits: u8,
     table: &[i64],
     coordinates: &[u32],
-) -> Result<i64, Refused> {
+) -> Answers {
     let want = model::estimate(axes, level, bits, table, coordinates);
     report.case(CALL, answer(&want).0);
     misreadings::of_call(report, axes, level, table, coordinates, &want);
@@ -49,14 +56,15 @@ pub fn answered(
     report.same(CALL, "coordinates", coordinates, &handed_at[..], &say);
     let state = State::saved(Shape::new(axes, level), bits);
     report.same(CALL, "wrapper", &want.map_err(refusal), &state.estimate(table, coordinates), &say);
-    if got == 0 {
-        Ok(found)
-    } else {
-        Err((got, at))
-    }
+    let estimate = if got == 0 { Ok(found) } else { Err((got, at)) };
+    // drawn on their own, so that the inputs of what comes later stay as they are
+    let mut outputs = Draw::new(junk as u64);
+    let with_margin = margins::beside(&mut outputs, report, axes, level, bits, table, coordinates, &want, &estimate);
+    Answers { estimate, with_margin }
 }
 
-/// At the points of a grid, every one or every so manieth, the estimate from the coefficients of accepted rates is the rate times 2^d.
+/// At the points of a grid, every one or every so manieth, the estimate from the coefficients of accepted rates is the
+/// rate times 2^d, and so is the exact value.
 pub fn through_rates(draw: &mut Draw, report: &mut Report, axes: u32, level: u32) {
     let places = count(axes, level) as usize;
     let rates = inputs::rates(draw, places);
@@ -75,6 +83,12 @@ pub fn through_rates(draw: &mut Draw, report: &mut Report, axes: u32, level: u32
         let coordinates: Vec<u32> = at[..axes as usize].iter().map(|&c| u32::from(c) * (END / 512)).collect();
         report.walked(CALL);
         report.same(CALL, "at a point", &Ok(rate << axes), &state.estimate(&table, &coordinates), &say);
+        let there = Reached::new(axes, level, &table, &coordinates);
+        let want = margins::wrapped(there.with_margin(rate << axes));
+        report.walked("margin");
+        report.same("margin", "at a point", &Ok(want), &state.estimate_with_margin(&table, &coordinates), &say);
+        let exact = there.exact().is(rate << axes, 1);
+        report.same("separate code with itself", "exact value at a point", &true, &exact, &say);
     }
 }
 

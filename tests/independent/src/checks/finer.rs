@@ -42,7 +42,9 @@ pub fn one_axis(draw: &mut Draw, report: &mut Report) {
                 let want = estimate_in(OLD_UNIT, 1, level, 1, &table, &[old]);
                 let got = answered(draw, report, 1, level, 1, &table, &[16 * old]);
                 let say = || format!("level {level} old coordinate {old} table {}", short(&table));
-                report.same("estimate", "old coordinate times 16", &want, &got, &say);
+                report.same("estimate", "old coordinate times 16", &want, &got.estimate, &say);
+                let with_margin = got.with_margin.map(|found| (found.estimate, found.margin));
+                report.same("margin", "1 on one axis", &want.map(|estimate| (estimate, 1)), &with_margin, &say);
             }
         }
     }

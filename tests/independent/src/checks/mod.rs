@@ -10,6 +10,8 @@ pub mod faults;
 pub mod files;
 pub mod finer;
 pub mod lists;
+pub mod margin_misreadings;
+pub mod margins;
 pub mod misreadings;
 pub mod orders;
 pub mod points;

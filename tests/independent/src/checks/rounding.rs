@@ -7,6 +7,7 @@ use crate::draw::Draw;
 use crate::inputs::{self, END, LIMIT, OLD_END};
 use crate::model::estimates::{joint_weights, sum, UNIT};
 use crate::model::grid::count;
+use crate::model::margin::Estimated;
 use crate::report::Report;
 
 const HALF: i128 = UNIT / 2;
@@ -28,13 +29,16 @@ pub fn rounding(draw: &mut Draw, report: &mut Report) {
     }
 }
 
-/// A table and its negative: the library's two answers are each other's negative as well, or both refusals.
+/// A table and its negative: the library's two answers are each other's negative as well, with the same S and margin,
+/// or both refusals.
 fn both_signs(draw: &mut Draw, report: &mut Report, axes: u32, level: u32, table: &[i64], coordinates: &[u32]) {
     let (all, negative) = (inputs::all_bits(axes), table.iter().map(|c| -c).collect::<Vec<_>>());
     let one = answered(draw, report, axes, level, all, table, coordinates);
     let other = answered(draw, report, axes, level, all, &negative, coordinates);
     let say = || format!("axes {axes} level {level} coordinates {coordinates:?} table {}", short(table));
-    report.same("estimate", "negated", &one.map(i64::wrapping_neg), &other, &say);
+    report.same("estimate", "negated", &one.estimate.map(i64::wrapping_neg), &other.estimate, &say);
+    let negated = one.with_margin.map(|found| Estimated { estimate: found.estimate.wrapping_neg(), ..found });
+    report.same("margin", "negated", &negated, &other.with_margin, &say);
 }
 
 /// One point of joint weight 1, so that its coefficient is the sum: of the first and the last axis one has

@@ -1,11 +1,14 @@
 //! Several tables at once, by several threads: each call on its own table is as if it were alone.
 
-use super::{components, estimates, files, rates, runs, turns, writes};
+use super::{components, estimates, files, margins, rates, runs, turns, writes};
 use crate::draw::Draw;
 use crate::inputs;
-use crate::model::{estimates as model_estimates, files as model_files, rates as model_rates, turns as model_turns};
+use crate::model::{
+    estimates as model_estimates, files as model_files, margin as model_margin, rates as model_rates,
+    turns as model_turns,
+};
 use crate::report::Report;
-use numolefays::{boundary, Shape, State};
+use numolefays::{boundary, Estimated, Shape, State};
 use std::thread;
 
 const THREADS: u64 = 4;
@@ -62,34 +65,40 @@ pub fn neighbouring_tables(seed: u64, rounds: u64, report: &mut Report) {
             let say = || format!("round {round} thread {k} axes {axes} level {level} rates {}", super::short(mine));
             let want = model_rates::load(axes, level, mine).unwrap().0;
             let (want, bits) = model_turns::turn(false, axes, level, 0, &want, axes).unwrap();
-            let estimate = model_estimates::estimate(axes, level, inputs::all_bits(axes), &shared, &at[k]).unwrap();
+            let all = inputs::all_bits(axes);
+            let estimate = model_estimates::estimate(axes, level, all, &shared, &at[k]).unwrap();
+            let with_margin = model_margin::estimate_with_margin(axes, level, all, &shared, &at[k]).unwrap();
             let turns = 2 * u64::from(axes);
             report.made("load", 1);
             report.made("forward", turns + 1);
             report.made("back", turns);
             report.made("estimate", turns);
-            report.same("estimate", "in threads, and the bits", &Some((bits, estimate)), &answer, &say);
+            report.made("margin", turns);
+            let read = Some((bits, estimate, margins::wrapped(with_margin)));
+            report.same("estimate", "in threads, with its margin, and the bits", &read, &answer, &say);
             report.same("forward", "table, in threads", &want[..], &tables[k * n..(k + 1) * n], &say);
         }
     }
 }
 
-/// There and back on all axes twice, then forward on the last one; and an estimate from the shared table.
-fn turn_and_read(shape: Shape, table: &mut [i64], shared: &[i64], coordinates: &[u32]) -> Option<(u8, i64)> {
+/// There and back on all axes twice, then forward on the last one; and an estimate from the shared table, alone and
+/// with its margin.
+fn turn_and_read(shape: Shape, table: &mut [i64], shared: &[i64], coordinates: &[u32]) -> Option<(u8, i64, Estimated)> {
     let mut state = shape.load(table).ok()?;
     let all = State::saved(shape, inputs::all_bits(shape.axes));
-    let mut estimate = 0;
+    let (mut estimate, mut with_margin) = (0, Estimated { estimate: 0, reached: 0, margin: 0 });
     for _ in 0..2 {
         for axis in 1..=shape.axes {
             state.forward(table, axis).ok()?;
             estimate = all.estimate(shared, coordinates).ok()?;
+            with_margin = all.estimate_with_margin(shared, coordinates).ok()?;
         }
         for axis in 1..=shape.axes {
             state.back(table, axis).ok()?;
         }
     }
     state.forward(table, shape.axes).ok()?;
-    Some((state.bits, estimate))
+    Some((state.bits, estimate, with_margin))
 }
 
 /// Output buffers side by side in one allocation, each written by its own thread; and one file rewritten by all.

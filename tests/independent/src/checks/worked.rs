@@ -1,10 +1,12 @@
-//! The worked tables of documents 01 and 02, through the wrapper and in the separate code; halves, files and component grids
-//! by hand.
+//! The worked tables of documents 01 and 02, through the wrapper and in the separate code; halves, files, component
+//! grids and margins by hand.
 
+use super::margins::wrapped;
 use super::writes::{library_rewrites, library_writes};
 use crate::inputs;
 use crate::model;
 use crate::model::estimates::OLD_UNIT;
+use crate::model::margin::{estimate_with_margin, Estimated, Reached};
 use crate::report::Report;
 use numolefays::{boundary, component_coefficients, read_house_file, Refusal, Shape, State};
 
@@ -157,4 +159,110 @@ pub fn worked(report: &mut Report) {
     let got = boundary::house_file_shape(&[0x82, 0x00, 0x03], &mut d, &mut n, &mut points, &mut place);
     let library = if got == 0 { vec![i64::from(d), i64::from(n), points as i64] } else { vec![] };
     paper("file shape", vec![2, 3, 49], separate, library);
+    margins(report);
+}
+
+/// Axes and level, a table and coordinates; the estimate, S and the margin, and the exact value as a fraction.
+struct Read<'a>(u32, u32, &'a [i64], &'a [u32], [i64; 3], (i64, u64));
+
+/// Request f by hand, through the wrapper and in the separate code.
+fn margins(report: &mut Report) {
+    const HALF: u32 = 524_288;
+    let worked = [
+        // weights of 2 and 2: the joint weight is 0, and the point is reached
+        Read(2, 0, &[1 << 47], &[1, 1], [0, 1 << 47, 134_217_729], (512, 1)),
+        Read(2, 0, &[-1 << 47], &[1, 1], [0, 1 << 47, 134_217_729], (-512, 1)),
+        // on the border no point is, and the half is rounded up
+        Read(2, 0, &[1 << 47], &[0, 1], [0, 0, 1], (0, 1)),
+        Read(1, 1, &[6, 7, 11], &[1_048_576], [0, 0, 1], (0, 1)),
+        // document 01's; at 31/32 it is 6/16 + 11/8
+        Read(1, 1, &[6, 7, 11], &[262_144], [10, 13, 1], (10, 1)),
+        Read(1, 1, &[6, 7, 11], &[131_072], [5, 13, 1], (5, 1)),
+        Read(1, 1, &[6, 7, 11], &[1_015_808], [2, 17, 1], (7, 4)),
+        Read(1, 1, &[-6, -7, -11], &[1], [0, 13, 1], (-40, 1_048_576)),
+        // at the middle point no other is reached; between points 16/4 + 12/2 + 0/2, and where signs do not cancel in S
+        Read(2, 1, &[16, 4, 12, 0, 16], &[HALF, HALF], [16, 16, 1], (16, 1)),
+        Read(2, 1, &[16, 4, 12, 0, 16], &[786_432, 262_144], [10, 28, 1], (10, 1)),
+        Read(2, 1, &[-8, 0, 16, -4, 0], &[786_432, 262_144], [4, 28, 1], (4, 1)),
+        // a half and a half are 1, and a little more is rounded up to 2
+        Read(2, 0, &[524_288], &[HALF; 2], [524_288, 524_288, 1], (524_288, 1)),
+        Read(2, 0, &[524_289], &[HALF; 2], [524_289, 524_289, 2], (524_289, 1)),
+        Read(3, 0, &[-262_144], &[HALF; 3], [-262_144, 262_144, 1], (-262_144, 1)),
+        Read(3, 0, &[-262_145], &[HALF; 3], [-262_145, 262_145, 2], (-262_145, 1)),
+        // on one axis S may be any
+        Read(1, 0, &[1 << 47], &[1], [1 << 28, 1 << 47, 1], (1 << 28, 1)),
+    ];
+    for read in &worked {
+        margin(report, read, 0);
+    }
+    // on one axis the bound is attained, on either side
+    margin(report, &Read(1, 0, &[1], &[262_144], [1, 1, 1], (1, 2)), 1_048_575);
+    margin(report, &Read(1, 0, &[-1], &[262_144], [-1, 1, 1], (-1, 2)), 1_048_575);
+    // on two axes nearly so: a joint weight of 0 that lost a whole one but for 4 parts; and with small coefficients
+    // joint weights of 524,287, which lost all but 8 parts, and 873,813, which lost all but 4, where the last rounding
+    // then loses a half but for one part. With the 3 it is more than a half, and the estimate is not the whole number
+    // nearest to the exact value
+    let lost = 134_217_728;
+    margin(report, &Read(2, 0, &[1 << 47], &[1, 262_143], [0, 1 << 47, lost + 1], (lost - 512, 1)), 1_048_571);
+    let (over, under) = ((1 << 36) - 1, 1 << 37);
+    margin(report, &Read(2, 0, &[1], &[262_145, 524_286], [0, 1, 1], (over, under)), 1_048_573);
+    let (over, under) = (5 * (1 << 37) + 524_285, 1 << 38);
+    margin(report, &Read(2, 0, &[3], &[441_305, 519_063], [2, 3, 1], (over, under)), 1_048_573);
+    margin(report, &Read(2, 0, &[-3], &[441_305, 519_063], [-2, 3, 1], (-over, under)), 1_048_573);
+    // on d axes: the first two weights multiply to d − 1 less 4 (d − 1) parts, and that axis and each after it lose
+    // nearly one. The exact value is (d − 1) × (2^18 − 1) × (2^19 − 1)^(d − 2) over 2^(19 d − 47)
+    for axes in 2..=8 {
+        let mut at = vec![524_287; axes as usize];
+        (at[0], at[1]) = (axes - 1, 262_143);
+        let answer = [0, 1 << 47, i64::from(axes - 1) * lost + 1];
+        for coefficient in [1 << 47, -1 << 47] {
+            let there = margin_and_share(report, axes, 0, &[coefficient], &at, answer, 1_048_575 - 2 * u64::from(axes));
+            let hundredth_less =
+                Estimated { estimate: 0, reached: answer[1] as u64 / 100 * 99, margin: answer[2] as u64 / 100 * 99 };
+            let exact = there.exact();
+            let within = (exact.within_margin(&hundredth_less), exact.within_bound(axes, &hundredth_less));
+            let say = || format!("worked: coordinates {at:?} coefficient {coefficient}");
+            report.same("separate code with itself", "within a hundredth less", &(false, false), &within, &say);
+            if axes <= 4 {
+                let (d, sign) = (i64::from(axes), coefficient.signum());
+                let over = sign * (d - 1) * ((1 << 18) - 1) * ((1 << 19) - 1i64).pow(axes - 2);
+                let (over, under) = if axes == 2 { (over << 9, 1) } else { (over, 1 << (19 * axes - 47)) };
+                exactly(report, &there, (over, under), &at);
+            }
+        }
+    }
+}
+
+fn margin(report: &mut Report, read: &Read, share: u64) {
+    let Read(axes, level, table, at, answer, exact) = *read;
+    let there = margin_and_share(report, axes, level, table, at, answer, share);
+    exactly(report, &there, exact, at);
+}
+
+/// The answers, and that the estimate is further from the exact value than so many 1,048,576ths of the bound, if not 0.
+fn margin_and_share(
+    report: &mut Report,
+    axes: u32,
+    level: u32,
+    table: &[i64],
+    at: &[u32],
+    [estimate, reached, margin]: [i64; 3],
+    share: u64,
+) -> Reached {
+    let say = || format!("worked: axes {axes} level {level} coordinates {at:?} table {table:?}");
+    let want = Estimated { estimate, reached: reached as u64, margin: margin as u64 };
+    let all = inputs::all_bits(axes);
+    let library = State::saved(Shape::new(axes, level), all).estimate_with_margin(table, at);
+    report.made("margin", 1);
+    report.same("margin", "separate code", &Ok(want), &estimate_with_margin(axes, level, all, table, at), &say);
+    report.same("margin", "library", &Ok(wrapped(want)), &library, &say);
+    let there = Reached::new(axes, level, table, at);
+    let far = share == 0 || there.exact().beyond_share(share, axes, &want);
+    report.same("separate code with itself", "how near the bound is reached", &true, &far, &say);
+    there
+}
+
+fn exactly(report: &mut Report, there: &Reached, (over, under): (i64, u64), at: &[u32]) {
+    let say = || format!("worked: exact value {over} / {under} at {at:?}");
+    report.same("separate code with itself", "exact value", &true, &there.exact().is(over, under), &say);
 }

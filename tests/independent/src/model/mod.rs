@@ -8,6 +8,8 @@ pub mod estimates;
 pub mod files;
 pub mod grid;
 pub mod lists;
+pub mod margin;
+pub mod natural;
 pub mod orders;
 pub mod points;
 pub mod rates;
