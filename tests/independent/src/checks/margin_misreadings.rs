@@ -7,7 +7,7 @@ use crate::report::Report;
 
 /// What a point adds to S, by its coefficient and what is left on each axis: its weight there, or where that is zero,
 /// zero or less. S is the size of the sum.
-type Adds = fn(coefficient: i128, left: &[i128]) -> i128;
+type Adds = fn(coefficient: i128, left: &[i64]) -> i128;
 
 const RIGHT: Adds = |c, left| size_where(reached(left), c);
 
@@ -29,7 +29,7 @@ const SUMS: [(&str, Adds); 14] = [
     ("S over points that lose something in a joint weight", |c, left| size_where(reached(left) && loses(left), c)),
     ("S with signs, and its size", |c, left| if reached(left) { c } else { 0 }),
     ("S of coefficients above zero", |c, left| size_where(c > 0 && reached(left), c)),
-    ("S of coefficients times their joint weights", |c, left| c.abs() * joint(left) / UNIT),
+    ("S of coefficients times their joint weights", |c, left| c.abs() * i128::from(joint(left)) / UNIT),
 ];
 
 /// The margin, by d and S. To the nearest, halves down, is without the half; to the nearest, halves up, is 1 more than
@@ -56,6 +56,7 @@ const MARGINS: [(&str, Margin); 14] = [
 ];
 
 const TWO_UNITS: i128 = 2 * UNIT;
+const SHORT_UNIT: i64 = UNIT as i64;
 
 /// So many 2,097,152nds, rounded up.
 fn up(of_two_units: i128) -> i128 {
@@ -71,18 +72,18 @@ fn size_where(counted: bool, coefficient: i128) -> i128 {
 }
 
 /// Whether each weight is above zero.
-fn reached(left: &[i128]) -> bool {
+fn reached(left: &[i64]) -> bool {
     left.iter().all(|&w| w > 0)
 }
 
 /// The joint weight on these axes; on none it is the unit.
-fn joint(left: &[i128]) -> i128 {
-    left.iter().fold(UNIT, |joint, &w| joint * w.max(0) / UNIT)
+fn joint(left: &[i64]) -> i64 {
+    left.iter().fold(SHORT_UNIT, |joint, &w| joint * w.max(0) / SHORT_UNIT)
 }
 
 /// Whether a division on the way to the joint weight leaves something.
-fn loses(left: &[i128]) -> bool {
-    (1..left.len()).any(|t| joint(&left[..t]) * left[t] % UNIT != 0)
+fn loses(left: &[i64]) -> bool {
+    (1..left.len()).any(|t| joint(&left[..t]) * left[t] % SHORT_UNIT != 0)
 }
 
 pub fn names() -> impl Iterator<Item = &'static str> {
@@ -99,8 +100,8 @@ pub fn of_call(report: &mut Report, axes: u32, level: u32, table: &[i64], coordi
     for ((levels, indices), &c) in grid(axes, level).lists.iter().zip(table) {
         let mut left = [0; 8];
         for t in 0..axes as usize {
-            let apart = (i128::from(coordinates[t]) << (levels[t] + 1)) - i128::from(indices[t]) * UNIT;
-            left[t] = UNIT - apart.abs();
+            let apart = (i64::from(coordinates[t]) << (levels[t] + 1)) - i64::from(indices[t]) * SHORT_UNIT;
+            left[t] = SHORT_UNIT - apart.abs();
         }
         let left = &left[..axes as usize];
         right += RIGHT(c.into(), left);
