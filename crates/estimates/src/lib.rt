@@ -55,7 +55,7 @@ pub fn estimate(state: State, table: &[i64], coordinates: &[u32]) -> Result<i64,
     ensures { result ≡ estimate state table.now coordinates.now }
 {
     check(state, table, coordinates)?;
-    Ok(evaluation::evaluate(false, state.shape, table, coordinates).estimate)
+    Ok(evaluation::evaluate(state.shape, table, coordinates))
 }
 
 // An estimate, S, and how far at most the exact value is from the estimate.
@@ -76,7 +76,7 @@ pub fn estimate_with_margin(
     ensures { result ≡ estimate_with_margin state table.now coordinates.now }
 {
     check(state, table, coordinates)?;
-    let found = evaluation::evaluate(true, state.shape, table, coordinates);
+    let found = evaluation::evaluate_reached(state.shape, table, coordinates);
     Ok(Estimated {
         estimate: found.estimate,
         reached: found.reached,

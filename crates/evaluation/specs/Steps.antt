@@ -1,6 +1,6 @@
 -- What the steps of an estimate ask and give: one point for each level vector, and its weight from a table of axis weights.
 -- Assumes nothing.
-use Rattle.std.specs.Prelude.{Bool, true, false, List, [], ◌≡◌, ℕ, suc, ◌*◌, ◌^◌, ◌≤◌, ◌<◌, ℤ, ltb, length, get_or, if◌then◌else◌}
+use Rattle.std.specs.Prelude.{Bool, true, List, [], ◌≡◌, ℕ, suc, ◌*◌, ◌^◌, ◌≤◌, ◌<◌, ℤ, ltb, length, get_or, if◌then◌else◌}
 use Rattle.naturals.specs.Sum.{sum_to}
 use Rattle.naturals.specs.Test.{all}
 use Rattle.integers.specs.Half.{in_limit}
@@ -11,23 +11,24 @@ use Rattle.shapes.specs.Shapes.{points_of}
 use Rattle.surfaces.specs.Weights.{unit, weight, joint}
 use Rattle.surfaces.specs.Surface.{estimate_at}
 use Rattle.surfaces.specs.Margin.{reached_at}
+use Rattle.interpolation.specs.Hats.{indicator}
 use Rattle.axis_weights.specs.Steps.{cell_of, index_of_cell}
 use Rattle.evaluation.specs.declared.Evaluated.{Evaluated}
 use Rattle.evaluation.specs.declared.Hat.{Hat}
 
 -- The hat of axis t and level l.
 abbrev pub no_hat : Hat
-no_hat = record { cell = 0; weight = 0; reached = false }
+no_hat = record { cell = 0; above = 0; weight = 0 }
 
 abbrev pub hat_of : List (List Hat) → ℕ → ℕ → Hat
 hat_of hats t l = get_or (get_or hats t []) l no_hat
 
--- On an axis, the weight of the point of the cell of level l in which the coordinate x lies; and the cell with it, and whether it is above zero.
+-- On an axis, the weight of the point of the cell of level l in which the coordinate x lies; and the cell with it, and 1 where it is above zero, else 0.
 abbrev pub hat_weight : ℕ → ℕ → ℕ
 hat_weight x l = weight unit x l (index_of_cell (cell_of x l))
 
 abbrev pub hat_at : ℕ → ℕ → Hat
-hat_at x l = record { cell = cell_of x l; weight = hat_weight x l; reached = ltb 0 (hat_weight x l) }
+hat_at x l = record { cell = cell_of x l; above = indicator (ltb 0 (hat_weight x l)); weight = hat_weight x l }
 
 -- The hats of an axis at the coordinate x, one for each level.
 abbrev pub AxisHats : ℕ → List Hat → Type 0
@@ -45,7 +46,7 @@ abbrev pub weight_at : List (List Hat) → (ℕ → ℕ) → ℕ → ℕ
 weight_at hats l t = (hat_of hats t (l t)).weight
 
 abbrev pub reached_on : List (List Hat) → (ℕ → ℕ) → ℕ → Bool
-reached_on hats l t = (hat_of hats t (l t)).reached
+reached_on hats l t = ltb 0 (hat_of hats t (l t)).above
 
 -- Of the point of a level vector that they give, over the first k axes: its joint weight, whether its weight is above zero on each of them, and its position.
 abbrev pub joint_of : List (List Hat) → (ℕ → ℕ) → ℕ → ℕ
@@ -60,11 +61,12 @@ step_of hats l t = cell_at hats l t * 2 ^ sum_to l t
 unfoldable pub position_of : List (List Hat) → (ℕ → ℕ) → ℕ → ℕ
 position_of hats l k = sum_to (step_of hats l) k
 
--- On the first d axes, weights of at most the unit and cells among those of their level.
+-- On the first d axes, weights of at most the unit, cells among those of their level, and 0 or 1.
 pub record Bounded (d : ℕ) (hats : List (List Hat)) : Type 0 where
   pub few : d ≤ 8
   pub weight : (t l : ℕ) → t < d → l < 9 → (hat_of hats t l).weight ≤ unit
   pub cell : (t l : ℕ) → t < d → l < 9 → (hat_of hats t l).cell < 2 ^ l
+  pub above : (t l : ℕ) → t < d → l < 9 → (hat_of hats t l).above ≤ 1
 
 -- A coordinate for each of at most eight axes.
 pub record Listed (d : ℕ) (cs : List ℕ) : Type 0 where

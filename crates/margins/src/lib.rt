@@ -8,7 +8,6 @@ ghost use Rattle.surfaces.specs.Margin.{margin};
 use surfaces::BITS;
 
 // 1/2 + (d − 1) × S / the unit, rounded up. (S is of at most 12,870 points, so that 7 times S and more fits 64 bits, and nothing need be divided first.)
-#[tactic(auto, using(crate::proofs::Dividing::divided))]
 pub fn margin(axes: u32, reached: u64) -> u64
     requires { (1 ≤ axes) × (axes ≤ 8) × (reached ≤ 12870 * 2 ^ 47) }
     ensures { result ≡ margin unit axes reached }

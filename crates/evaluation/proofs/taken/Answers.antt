@@ -10,12 +10,12 @@ use Rattle.numbering.specs.Point.{at}
 use Rattle.surfaces.specs.Weights.{unit}
 use Rattle.surfaces.proofs.Unit.{unit_bits, unit_is}
 use Rattle.evaluation.specs.Steps.{weight_at}
-use Rattle.evaluation.proofs.Taking.{taken_starts, level_small, sum_fits, position_fits, joint_fits, taken_steps}
+use Rattle.evaluation.proofs.Taking.{byte_is, taken_starts, level_small, sum_fits, position_fits, joint_fits, taken_steps}
 use Rattle.evaluation.proofs.taken.Goals.{In-Some}
 use Rattle.evaluation.proofs.taken.Goals as goal
 
 pub loop-axis-init : goal.loop-axis-init
-loop-axis-init c = taken_starts _ _ _ _
+loop-axis-init c = rw (c.from-reached.ensures, byte_is c.args.asked) (taken_starts _ _ _ _)
 
 -- the hats and the level at hand are those of the axis at hand
 turn : (c : In-Some) →
@@ -43,7 +43,7 @@ overflow_shl-position c = omega (arith, few (goal.at.overflow_shl-position c).In
 pub overflow_add-position : goal.overflow_add-position
 overflow_add-position c =
     let here = turn (goal.at.overflow_add-position c).In-Some in
-    rw (here.1, here.2) (record { fits = omega (arith, position_fits c.requires.0 c.requires.1 c.loop-axis.invariant here.0) })
+    rw (c.from.ensures, here.1, here.2) (record { fits = omega (arith, position_fits c.requires.0 c.requires.1 c.loop-axis.invariant here.0) })
 
 pub overflow_mul-joint : goal.overflow_mul-joint
 overflow_mul-joint c =
@@ -63,5 +63,5 @@ loop-axis-preserved c =
     let l = c.loop-axis in
     let next = taken_steps c.requires.0 c.requires.1 l.invariant here.0 in
     let weight = weight_at c.args.hats.now (at c.args.levels.now) (length l.yielded) in
-    rw (length_push l.yielded (c.in-Some.axis, c.in-Some.level), here.1, here.2)
+    rw (length_push l.yielded (c.in-Some.axis, c.in-Some.level), c.from.ensures, here.1, here.2)
     (record { axis = next.axis; total = next.total; packed = next.packed; weighed = shifted (l.joint * weight) ∙ next.weighed; reaches = next.reaches })

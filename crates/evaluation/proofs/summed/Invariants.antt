@@ -1,11 +1,11 @@
--- `evaluation::evaluate` meets its contract. The loop's invariant is `Walked`, and `Summed` for S: what is left of the table begins at the first point of the level vector at
+-- `evaluation::summed` meets its contract. The loop's invariant is `Walked`, and `Summed` for S: what is left of the table begins at the first point of the level vector at
 -- hand. The measure is its length.
 -- Assumes nothing.
 use Rattle.std.proofs.Common.{◌≡◌, ◌-◌, ◌≤◌, length, drop}
 use Rattle.numbering.specs.Point.{at}
 use Rattle.evaluation.proofs.Reaching.{Summed}
 use Rattle.evaluation.proofs.Walking.{Walked}
-use Rattle.evaluation.proofs.evaluate.Given as goal
+use Rattle.evaluation.proofs.summed.Given as goal
 
 abbrev pub invariant-loop-hats : goal.invariant-loop-hats
 invariant-loop-hats l =

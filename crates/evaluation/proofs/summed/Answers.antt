@@ -10,8 +10,8 @@ use Rattle.evaluation.proofs.Walking.{walked_starts, high_room, low_room, walked
 use Rattle.evaluation.proofs.Reaching.{summed_starts, total_room, summed_ends}
 use Rattle.evaluation.proofs.Stepping.{size_in, summed, sum_small, levels_small, vector_size, vector_within, place_read, place_small, weight_in_lem, value_in, value_fits, stepped}
 use Rattle.evaluation.proofs.Tabulating.{tabulated_bounded, tabulated_front}
-use Rattle.evaluation.proofs.evaluate.Goals.{After-tabulated-tabulated, In-loop-hats, After-taken-term}
-use Rattle.evaluation.proofs.evaluate.Goals as goal
+use Rattle.evaluation.proofs.summed.Goals.{After-tabulated-tabulated, In-loop-hats, After-taken-term}
+use Rattle.evaluation.proofs.summed.Goals as goal
 
 pub loop-hats-init : goal.loop-hats-init
 loop-hats-init c =
