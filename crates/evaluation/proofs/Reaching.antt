@@ -51,18 +51,18 @@ pub asked_small : (asked : Bool) (i j : ℕ) → i ≤ j → if_asked asked i �
 asked_small true i j h = h
 asked_small false i j h = omega arith
 
-pub record Summed (asked : Bool) (s : Shape) (xs : List ℤ) (x : ℕ → ℕ) (total first : ℕ) (vector : LevelVector) : Type 0 where
+pub record Tallied (asked : Bool) (s : Shape) (xs : List ℤ) (x : ℕ → ℕ) (total first : ℕ) (vector : LevelVector) : Type 0 where
   pub sum : total ≡ if_asked asked (sum_to (size_at s xs x) first)
   pub small : total ≤ vectors_before s.axes (at vector.levels) * 2 ^ 47
 
-pub summed_starts : (asked : Bool) (s : Shape) (xs : List ℤ) (x : ℕ → ℕ) (vector : LevelVector) → Summed asked s xs x 0 0 vector
-summed_starts true s xs x vector = record { sum = sym (sum_to_zero (size_at s xs x)); small = omega arith }
-summed_starts false s xs x vector = record { sum = refl; small = omega arith }
+pub tallied_starts : (asked : Bool) (s : Shape) (xs : List ℤ) (x : ℕ → ℕ) (vector : LevelVector) → Tallied asked s xs x 0 0 vector
+tallied_starts true s xs x vector = record { sum = sym (sum_to_zero (size_at s xs x)); small = omega arith }
+tallied_starts false s xs x vector = record { sum = refl; small = omega arith }
 
 module _ {asked : Bool} {s : Shape} {xs : List ℤ} {x : ℕ → ℕ} {high : ℤ} {low first total : ℕ} {vector : LevelVector}
-    (w : Walked s xs x high low first vector) (r : Summed asked s xs x total first vector) where
-  pub total_room : total ≤ 12870 * 2 ^ 47
-  total_room = omega (arith, r.small, mul-le-mul_right (2 ^ 47) w.few)
+    (w : Walked s xs x high low first vector) (r : Tallied asked s xs x total first vector) where
+  pub tallied_room : total ≤ 12870 * 2 ^ 47
+  tallied_room = omega (arith, r.small, mul-le-mul_right (2 ^ 47) w.few)
 
   module _ (h : first < points_of s) (inside : (t : ℕ) → t < s.axes → x t ≤ unit) where
     others_none : (j : ℕ) → j < 2 ^ vector.sum → (j ≡ taken_at x (at vector.levels) s.axes → ⊥) → size_at s xs x (first + j) ≡ 0
@@ -72,10 +72,10 @@ module _ {asked : Bool} {s : Shape} {xs : List ℤ} {x : ℕ → ℕ} {high : �
         ∙ block_unreached s x (at vector.levels) (vector_in w).rest (levels_low w h inside) inside j (rw (vector_in w).total lt) ne)
 
     -- One vector more.
-    pub summed_steps : (vector' : LevelVector) → NextVector s.axes vector.sum vector.levels vector'.sum vector'.levels →
+    pub tallied_steps : (vector' : LevelVector) → NextVector s.axes vector.sum vector.levels vector'.sum vector'.levels →
         in_limit (value_at xs (suc (first + taken_at x (at vector.levels) s.axes))) ≡ true →
-        Summed asked s xs x (total + if_asked asked (size_at s xs x (first + taken_at x (at vector.levels) s.axes))) (first + 2 ^ vector.sum) vector'
-    summed_steps vector' next limited =
+        Tallied asked s xs x (total + if_asked asked (size_at s xs x (first + taken_at x (at vector.levels) s.axes))) (first + 2 ^ vector.sum) vector'
+    tallied_steps vector' next limited =
         let p : ℕ = first + taken_at x (at vector.levels) s.axes in
         record {
           sum =
@@ -93,9 +93,9 @@ module _ {asked : Bool} {s : Shape} {xs : List ℤ} {x : ℕ → ℕ} {high : �
         }
 
 -- Past the last point it is S.
-pub summed_ends : {asked : Bool} {s : Shape} {xs : List ℤ} {x : ℕ → ℕ} {high : ℤ} {low first total : ℕ} {vector : LevelVector} → Walked s xs x high low first vector →
-    Summed asked s xs x total first vector → points_of s ≤ first → total ≡ if_asked asked (reached_at s (value_at xs) x)
+pub tallied_ends : {asked : Bool} {s : Shape} {xs : List ℤ} {x : ℕ → ℕ} {high : ℤ} {low first total : ℕ} {vector : LevelVector} → Walked s xs x high low first vector →
+    Tallied asked s xs x total first vector → points_of s ≤ first → total ≡ if_asked asked (reached_at s (value_at xs) x)
 unfolding reached_in reached
-summed_ends {asked} {s} {xs} {x} {first = first} w r h =
+tallied_ends {asked} {s} {xs} {x} {first = first} w r h =
     let all_points : first ≡ points_of s = omega (arith, w.within) in
     r.sum ∙ ap (λ (m : ℕ). if_asked asked (sum_to (size_at s xs x) m)) all_points

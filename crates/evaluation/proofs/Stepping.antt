@@ -32,8 +32,13 @@ use Rattle.evaluation.specs.Steps.{Tabulated, joint_of, reached_of, position_of,
 use Rattle.evaluation.proofs.Blocks.{count_is, taken_at, taken_joint, taken_reached}
 use Rattle.evaluation.proofs.Reading.{position_taken, joint_taken, reached_taken}
 use Rattle.evaluation.proofs.Walking.{high_term, low_term, weight_small, Walked, vector_in, sum_low, taken_here, next_within, walked_steps}
-use Rattle.evaluation.proofs.Reaching.{asked_small, size_at, size_small, Summed, summed_steps}
+use Rattle.evaluation.proofs.Reaching.{asked_small, size_at, size_small, Tallied, tallied_steps}
 use Rattle.wide_sums.proofs.Parts.{fits_below}
+
+-- Of two tests, the first asked before the second.
+both_asked : (a b : Bool) (k : ℕ) → (if a && b then k else 0) ≡ if_asked a (if b then k else 0)
+both_asked true b k = refl
+both_asked false b k = refl
 
 module _ {s : Shape} {xs : List ℤ} {cs : List ℕ} (ev : Evaluable s xs cs) {high : ℤ} {low first : ℕ} {vector : LevelVector}
     (w : Walked s xs (at cs) high low first vector) (more : first < length xs) where
@@ -91,16 +96,12 @@ module _ {s : Shape} {xs : List ℤ} {cs : List ℕ} (ev : Evaluable s xs cs) {h
         ∙ sym (taken_reached s (at cs) (at vector.levels) (vector_in w).rest (omega (arith, (vector_in w).total, sum_low w before_last)))
         ∙ ap₂ (λ (a q : ℕ). is_reached s.axes (weight_on s (at cs) (a + q))) w.here (sym taken))
 
-    both_if : (a b : Bool) (k : ℕ) → (if a && b then k else 0) ≡ if_asked a (if b then k else 0)
-    both_if true b k = refl
-    both_if false b k = refl
-
     -- What the code adds to S.
     size_added : (if reached then nat_abs (get_or xs (first + position) (pos 0)) else 0) ≡ if_asked asked (size_at s xs (at cs) (first + taken_at (at cs) (at vector.levels) s.axes))
     unfolding size_reached
     size_added =
         ap₂ (λ (b : Bool) (z : ℤ). if b then nat_abs z else 0) reached_read (sym (value_suc xs (first + position)))
-        ∙ both_if asked (is_reached s.axes (weight_on s (at cs) (first + position))) (nat_abs (value_at xs (suc (first + position))))
+        ∙ both_asked asked (is_reached s.axes (weight_on s (at cs) (first + position))) (nat_abs (value_at xs (suc (first + position))))
         ∙ ap (λ (q : ℕ). if_asked asked (if is_reached s.axes (weight_on s (at cs) (first + q)) then nat_abs (value_at xs (suc (first + q))) else 0)) taken
 
     -- The value at the point taken, by its own name.
@@ -136,10 +137,10 @@ module _ {s : Shape} {xs : List ℤ} {cs : List ℕ} (ev : Evaluable s xs cs) {h
         rw (eh ∙ ap (λ (z : ℤ). high +ℤ z) high_added, el ∙ ap (λ (k : ℕ). low + k) low_added)
         (walked_steps w before_last ev.listed.coordinates vector' ev.low next limited)
 
-    pub summed : {total total' : ℕ} (vector' : LevelVector) → Summed asked s xs (at cs) total first vector →
+    pub tallied : {total total' : ℕ} (vector' : LevelVector) → Tallied asked s xs (at cs) total first vector →
         (vector'.axes ≡ vector.axes) × NextVector vector.axes vector.sum vector.levels vector'.sum vector'.levels →
         total' ≡ total + (if reached then nat_abs (get_or xs (first + position) (pos 0)) else 0) →
-        Summed asked s xs (at cs) total' (first + 2 ^ vector.sum) vector'
-    summed {total} {total'} vector' r next et =
+        Tallied asked s xs (at cs) total' (first + 2 ^ vector.sum) vector'
+    tallied {total} {total'} vector' r next et =
         rw (et ∙ ap (λ (k : ℕ). total + k) size_added)
-        (summed_steps w r before_last ev.listed.coordinates vector' (rw w.same at next.1) limited)
+        (tallied_steps w r before_last ev.listed.coordinates vector' (rw w.same at next.1) limited)

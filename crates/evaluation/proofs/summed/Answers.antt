@@ -7,8 +7,8 @@ use Rattle.numbering.specs.Point.{at}
 use Rattle.shapes.specs.Shapes.{points_of}
 use Rattle.evaluation.specs.Steps.{Tabulated, position_of, joint_of, reached_of}
 use Rattle.evaluation.proofs.Walking.{walked_starts, high_room, low_room, walked_ends}
-use Rattle.evaluation.proofs.Reaching.{summed_starts, total_room, summed_ends}
-use Rattle.evaluation.proofs.Stepping.{size_in, summed, sum_small, levels_small, vector_size, vector_within, place_read, place_small, weight_in_lem, value_in, value_fits, stepped}
+use Rattle.evaluation.proofs.Reaching.{tallied_starts, tallied_room, tallied_ends}
+use Rattle.evaluation.proofs.Stepping.{size_in, tallied, sum_small, levels_small, vector_size, vector_within, place_read, place_small, weight_in_lem, value_in, value_fits, stepped}
 use Rattle.evaluation.proofs.Tabulating.{tabulated_bounded, tabulated_front}
 use Rattle.evaluation.proofs.summed.Goals.{After-tabulated-tabulated, In-loop-hats, After-taken-term}
 use Rattle.evaluation.proofs.summed.Goals as goal
@@ -17,8 +17,12 @@ pub loop-hats-init : goal.loop-hats-init
 loop-hats-init c =
     let a = c.args in
     let none : length a.table.now - length a.table.now ≡ 0 = omega arith in
-    rw (none, c.new-sum.ensures.high, c.new-sum.ensures.low)
-    (walked_starts a.shape a.table.now (at a.coordinates.now) c.first-vector.result c.first-vector.ensures, omega arith, refl, summed_starts a.asked a.shape a.table.now (at a.coordinates.now) c.first-vector.result)
+    rw (none, c.new-sum.ensures.high, c.new-sum.ensures.low) (
+      walked_starts a.shape a.table.now (at a.coordinates.now) c.first-vector.result c.first-vector.ensures,
+      omega arith,
+      refl,
+      tallied_starts a.asked a.shape a.table.now (at a.coordinates.now) c.first-vector.result,
+    )
 
 -- ---- the table of hats
 
@@ -136,7 +140,7 @@ loop-hats-preserved c =
       stepped c.requires inv.0 here hats c.args.asked term c.next.new.self c.next.ensures (rw (is, value) at c.add.ensures.high) (rw (is, value) at c.add.ensures.low),
       omega (arith, c.split_at.ensures.back_len, inv.1),
       c.split_at.ensures.back ∙ ap₂ (λ (n : ℕ) (l : List ℤ). drop n l) size inv.2 ∙ drop-drop step before xs,
-      summed c.requires inv.0 here hats c.args.asked term c.next.new.self inv.3 c.next.ensures (ap (λ (k : ℕ). c.loop-hats.reached + k) (rw (is, value) at c.size-reached.ensures)),
+      tallied c.requires inv.0 here hats c.args.asked term c.next.new.self inv.3 c.next.ensures (ap (λ (k : ℕ). c.loop-hats.reached + k) (rw (is, value) at c.size-reached.ensures)),
     )
 
 pub overflow_add-reached : goal.overflow_add-reached
@@ -148,14 +152,15 @@ overflow_add-reached c =
     let hats = hats_at seen.After-tabulated-tabulated in
     let term = found seen.After-taken-term (hats_long seen.After-tabulated-tabulated) in
     let value = to_z-of_z w64 (get_or c.args.table.now (first seen.In-loop-hats + c.taken-term.result.position) (pos 0)) (value_fits c.requires inv.0 here hats c.args.asked term) in
-    record { fits = omega (arith, total_room inv.0 inv.3, rw (read seen.After-taken-term, value) at c.size-reached.ensures, size_in c.requires inv.0 here hats c.args.asked term) }
+    record { fits = omega (arith, tallied_room inv.0 inv.3, rw (read seen.After-taken-term, value) at c.size-reached.ensures, size_in c.requires inv.0 here hats c.args.asked term) }
 
 pub returns : goal.returns
 returns c =
-    let end : points_of c.args.shape ≤ length c.args.table.now - length c.loop-hats.rest.now = omega (arith, c.requires.long, eqb-true (length c.loop-hats.rest.now) 0 (sym c.is_empty.ensures ∙ c.loop-hats-test.false)) in
+    let none : length c.loop-hats.rest.now ≡ 0 = eqb-true (length c.loop-hats.rest.now) 0 (sym c.is_empty.ensures ∙ c.loop-hats-test.false) in
+    let end : points_of c.args.shape ≤ length c.args.table.now - length c.loop-hats.rest.now = omega (arith, c.requires.long, none) in
     let estimate = to_z-of_z w64 c.joined.result (record { sfits = c.joined.type_inv }) ∙ c.joined.ensures ∙ walked_ends c.loop-hats.invariant.0 end in
-    let reached = summed_ends c.loop-hats.invariant.0 c.loop-hats.invariant.3 end in
+    let reached = tallied_ends c.loop-hats.invariant.0 c.loop-hats.invariant.3 end in
     record {
       value = rw (estimate, reached) refl;
-      room = total_room c.loop-hats.invariant.0 c.loop-hats.invariant.3;
+      room = tallied_room c.loop-hats.invariant.0 c.loop-hats.invariant.3;
     }
