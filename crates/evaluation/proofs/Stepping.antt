@@ -28,7 +28,8 @@ use Rattle.surfaces.specs.Margin.{is_reached, size_reached}
 use Rattle.vectors.specs.declared.LevelVector.{LevelVector}
 use Rattle.vectors.specs.Steps.{NextVector}
 use Rattle.evaluation.specs.declared.Hat.{Hat}
-use Rattle.evaluation.specs.Steps.{Tabulated, joint_of, reached_of, position_of, Evaluable, if_asked}
+use Rattle.evaluation.specs.declared.Term.{Term}
+use Rattle.evaluation.specs.Steps.{Tabulated, Found, Evaluable, if_asked}
 use Rattle.evaluation.proofs.Blocks.{count_is, taken_at, taken_joint, taken_reached}
 use Rattle.evaluation.proofs.Reading.{position_taken, joint_taken, reached_taken}
 use Rattle.evaluation.proofs.Walking.{high_term, low_term, weight_small, Walked, vector_in, sum_low, taken_here, next_within, walked_steps}
@@ -61,77 +62,77 @@ module _ {s : Shape} {xs : List ℤ} {cs : List ℕ} (ev : Evaluable s xs cs) {h
   pub vector_within : first + 2 ^ vector.sum ≤ length xs
   vector_within = omega (arith, next_within w before_last ev.listed.coordinates, ev.long)
 
-  module _ {hats : List (List Hat)} (table : Tabulated (at cs) s.axes hats) {position joint : ℕ} {reached : Bool} (asked : Bool)
-      (found : (position ≡ position_of hats (at vector.levels) s.axes) × (joint ≡ joint_of hats (at vector.levels) s.axes) × (reached ≡ asked && reached_of hats (at vector.levels) s.axes)) where
-    taken : position ≡ taken_at (at cs) (at vector.levels) s.axes
-    taken = found.0 ∙ position_taken (at cs) (at vector.levels) s.axes hats table levels_small
+  module _ {hats : List (List Hat)} (table : Tabulated (at cs) s.axes hats) {asked : Bool} {term : Term}
+      (found : Found asked hats (at vector.levels) s.axes term) where
+    taken : term.position ≡ taken_at (at cs) (at vector.levels) s.axes
+    taken = found.position ∙ position_taken (at cs) (at vector.levels) s.axes hats table levels_small
 
-    pub place_read : first + position < length xs
+    pub place_read : first + term.position < length xs
     place_read = omega (arith, taken, taken_here w before_last ev.listed.coordinates, ev.long)
 
-    pub place_small : first + position < 4294967296
+    pub place_small : first + term.position < 4294967296
     place_small = omega (arith, place_read, ev.long, table_small)
 
-    weight_read : joint ≡ joint_at s (at cs) (first + position)
+    weight_read : term.joint ≡ joint_at s (at cs) (first + term.position)
     weight_read =
-        found.1
+        found.joint
         ∙ joint_taken (at cs) (at vector.levels) s.axes hats table levels_small
         ∙ sym (taken_joint s (at cs) (at vector.levels) (vector_in w).rest (omega (arith, (vector_in w).total, sum_low w before_last)))
         ∙ ap₂ (λ (a q : ℕ). joint_at s (at cs) (a + q)) w.here (sym taken)
 
-    pub weight_in_lem : joint ≤ unit
-    weight_in_lem = rw weight_read (weight_small s xs (at cs) (first + position))
+    pub weight_in_lem : term.joint ≤ unit
+    weight_in_lem = rw weight_read (weight_small s xs (at cs) (first + term.position))
 
-    pub value_in : in_limit (get_or xs (first + position) (pos 0)) ≡ true
-    value_in = ap in_limit (sym (value_suc xs (first + position))) ∙ ev.contents (first + position) (omega (arith, place_read, ev.long))
+    pub value_in : in_limit (get_or xs (first + term.position) (pos 0)) ≡ true
+    value_in = ap in_limit (sym (value_suc xs (first + term.position))) ∙ ev.contents (first + term.position) (omega (arith, place_read, ev.long))
 
-    pub value_fits : SFits w64 (get_or xs (first + position) (pos 0))
-    value_fits = fits_below (get_or xs (first + position) (pos 0)) (omega (arith, limit_size (get_or xs (first + position) (pos 0)) value_in))
+    pub value_fits : SFits w64 (get_or xs (first + term.position) (pos 0))
+    value_fits = fits_below (get_or xs (first + term.position) (pos 0)) (omega (arith, limit_size (get_or xs (first + term.position) (pos 0)) value_in))
 
-    reached_read : reached ≡ asked && is_reached s.axes (weight_on s (at cs) (first + position))
+    reached_read : term.reached ≡ asked && is_reached s.axes (weight_on s (at cs) (first + term.position))
     reached_read =
-        found.2
+        found.reached
         ∙ ap (λ (b : Bool). asked && b)
         (reached_taken (at cs) (at vector.levels) s.axes hats table levels_small
         ∙ sym (taken_reached s (at cs) (at vector.levels) (vector_in w).rest (omega (arith, (vector_in w).total, sum_low w before_last)))
         ∙ ap₂ (λ (a q : ℕ). is_reached s.axes (weight_on s (at cs) (a + q))) w.here (sym taken))
 
     -- What the code adds to S.
-    size_added : (if reached then nat_abs (get_or xs (first + position) (pos 0)) else 0) ≡ if_asked asked (size_at s xs (at cs) (first + taken_at (at cs) (at vector.levels) s.axes))
+    size_added : (if term.reached then nat_abs (get_or xs (first + term.position) (pos 0)) else 0) ≡ if_asked asked (size_at s xs (at cs) (first + taken_at (at cs) (at vector.levels) s.axes))
     unfolding size_reached
     size_added =
-        ap₂ (λ (b : Bool) (z : ℤ). if b then nat_abs z else 0) reached_read (sym (value_suc xs (first + position)))
-        ∙ both_asked asked (is_reached s.axes (weight_on s (at cs) (first + position))) (nat_abs (value_at xs (suc (first + position))))
+        ap₂ (λ (b : Bool) (z : ℤ). if b then nat_abs z else 0) reached_read (sym (value_suc xs (first + term.position)))
+        ∙ both_asked asked (is_reached s.axes (weight_on s (at cs) (first + term.position))) (nat_abs (value_at xs (suc (first + term.position))))
         ∙ ap (λ (q : ℕ). if_asked asked (if is_reached s.axes (weight_on s (at cs) (first + q)) then nat_abs (value_at xs (suc (first + q))) else 0)) taken
 
     -- The value at the point taken, by its own name.
     limited : in_limit (value_at xs (suc (first + taken_at (at cs) (at vector.levels) s.axes))) ≡ true
     limited =
-        ap (λ (q : ℕ). in_limit (value_at xs (suc (first + q)))) (sym taken) ∙ ev.contents (first + position) (omega (arith, place_read, ev.long))
+        ap (λ (q : ℕ). in_limit (value_at xs (suc (first + q)))) (sym taken) ∙ ev.contents (first + term.position) (omega (arith, place_read, ev.long))
 
-    pub size_in : (if reached then nat_abs (get_or xs (first + position) (pos 0)) else 0) ≤ 2 ^ 47
+    pub size_in : (if term.reached then nat_abs (get_or xs (first + term.position) (pos 0)) else 0) ≤ 2 ^ 47
     size_in =
         rw size_added
         (asked_small asked _ (2 ^ 47) (size_small s xs (at cs) (first + taken_at (at cs) (at vector.levels) s.axes) limited))
 
     -- The terms that the code adds.
-    high_added : floor unit (get_or xs (first + position) (pos 0)) *ℤ pos joint ≡ high_term s xs (at cs) (first + taken_at (at cs) (at vector.levels) s.axes)
+    high_added : floor unit (get_or xs (first + term.position) (pos 0)) *ℤ pos term.joint ≡ high_term s xs (at cs) (first + taken_at (at cs) (at vector.levels) s.axes)
     unfolding high_term
     high_added =
-        ap₂ (λ (z : ℤ) (k : ℕ). floor unit z *ℤ pos k) (sym (value_suc xs (first + position))) weight_read
+        ap₂ (λ (z : ℤ) (k : ℕ). floor unit z *ℤ pos k) (sym (value_suc xs (first + term.position))) weight_read
         ∙ ap (λ (q : ℕ). floor unit (value_at xs (suc (first + q))) *ℤ pos (joint_at s (at cs) (first + q))) taken
 
-    low_added : remainder unit (get_or xs (first + position) (pos 0)) * joint ≡ low_term s xs (at cs) (first + taken_at (at cs) (at vector.levels) s.axes)
+    low_added : remainder unit (get_or xs (first + term.position) (pos 0)) * term.joint ≡ low_term s xs (at cs) (first + taken_at (at cs) (at vector.levels) s.axes)
     unfolding low_term
     low_added =
-        ap₂ (λ (z : ℤ) (k : ℕ). remainder unit z * k) (sym (value_suc xs (first + position))) weight_read
+        ap₂ (λ (z : ℤ) (k : ℕ). remainder unit z * k) (sym (value_suc xs (first + term.position))) weight_read
         ∙ ap (λ (q : ℕ). remainder unit (value_at xs (suc (first + q))) * joint_at s (at cs) (first + q)) taken
 
     -- The invariants after the step.
     pub stepped : {high' : ℤ} {low' : ℕ} (vector' : LevelVector) →
         (vector'.axes ≡ vector.axes) × NextVector vector.axes vector.sum vector.levels vector'.sum vector'.levels →
-        high' ≡ high +ℤ floor unit (get_or xs (first + position) (pos 0)) *ℤ pos joint →
-        low' ≡ low + remainder unit (get_or xs (first + position) (pos 0)) * joint →
+        high' ≡ high +ℤ floor unit (get_or xs (first + term.position) (pos 0)) *ℤ pos term.joint →
+        low' ≡ low + remainder unit (get_or xs (first + term.position) (pos 0)) * term.joint →
         Walked s xs (at cs) high' low' (first + 2 ^ vector.sum) vector'
     stepped {high'} {low'} vector' next eh el =
         rw (eh ∙ ap (λ (z : ℤ). high +ℤ z) high_added, el ∙ ap (λ (k : ℕ). low + k) low_added)
@@ -139,7 +140,7 @@ module _ {s : Shape} {xs : List ℤ} {cs : List ℕ} (ev : Evaluable s xs cs) {h
 
     pub tallied : {total total' : ℕ} (vector' : LevelVector) → Tallied asked s xs (at cs) total first vector →
         (vector'.axes ≡ vector.axes) × NextVector vector.axes vector.sum vector.levels vector'.sum vector'.levels →
-        total' ≡ total + (if reached then nat_abs (get_or xs (first + position) (pos 0)) else 0) →
+        total' ≡ total + (if term.reached then nat_abs (get_or xs (first + term.position) (pos 0)) else 0) →
         Tallied asked s xs (at cs) total' (first + 2 ^ vector.sum) vector'
     tallied {total} {total'} vector' r next et =
         rw (et ∙ ap (λ (k : ℕ). total + k) size_added)

@@ -1,6 +1,6 @@
 -- What the steps of an estimate ask and give: one point for each level vector, and its weight from a table of axis weights.
 -- Assumes nothing.
-use Rattle.std.specs.Prelude.{Bool, true, List, [], ◌≡◌, ℕ, suc, ◌*◌, ◌^◌, ◌≤◌, ◌<◌, ℤ, ltb, length, get_or, if◌then◌else◌}
+use Rattle.std.specs.Prelude.{Bool, true, List, [], ◌≡◌, ◌&&◌, ℕ, suc, ◌*◌, ◌^◌, ◌≤◌, ◌<◌, ℤ, ltb, length, get_or, if◌then◌else◌}
 use Rattle.naturals.specs.Sum.{sum_to}
 use Rattle.naturals.specs.Test.{all}
 use Rattle.integers.specs.Half.{in_limit}
@@ -15,6 +15,7 @@ use Rattle.interpolation.specs.Hats.{indicator}
 use Rattle.axis_weights.specs.Steps.{cell_of, index_of_cell}
 use Rattle.evaluation.specs.declared.Evaluated.{Evaluated}
 use Rattle.evaluation.specs.declared.Hat.{Hat}
+use Rattle.evaluation.specs.declared.Term.{Term}
 
 -- The hat of axis t and level l.
 abbrev pub no_hat : Hat
@@ -60,6 +61,12 @@ step_of hats l t = cell_at hats l t * 2 ^ sum_to l t
 
 unfoldable pub position_of : List (List Hat) → (ℕ → ℕ) → ℕ → ℕ
 position_of hats l k = sum_to (step_of hats l) k
+
+-- What is found of that point over the first d axes: whether its weights are above zero only where it is asked for.
+pub record Found (asked : Bool) (hats : List (List Hat)) (l : ℕ → ℕ) (d : ℕ) (term : Term) : Type 0 where
+  pub position : term.position ≡ position_of hats l d
+  pub joint : term.joint ≡ joint_of hats l d
+  pub reached : term.reached ≡ asked && reached_of hats l d
 
 -- On the first d axes, weights of at most the unit, cells among those of their level, and 0 or 1.
 pub record Bounded (d : ℕ) (hats : List (List Hat)) : Type 0 where

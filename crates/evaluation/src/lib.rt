@@ -1,12 +1,12 @@
 // The sums behind an estimate and its margin: one point for each level vector, the weights of an axis once for each level.
 #![tactic(auto)]
 
-ghost use Rattle.std.specs.Prelude.{true, ◌≡◌, ◌&&◌, ◌*◌, ◌^◌, ◌≤◌, length, nat_abs, if◌then◌else◌};
+ghost use Rattle.std.specs.Prelude.{true, ◌≡◌, ◌*◌, ◌^◌, ◌≤◌, length, nat_abs, if◌then◌else◌};
 ghost use Rattle.naturals.specs.Sum.{sum_to};
 ghost use Rattle.numbering.specs.Point.{at};
 ghost use Rattle.hierarchy.specs.Turns.{value_at};
 ghost use Rattle.surfaces.specs.Surface.{estimate_at};
-ghost use Rattle.evaluation.specs.Steps.{hat_at, AxisHats, Tabulated, joint_of, reached_of, position_of, Bounded, Listed, Evaluable, evaluated_at};
+ghost use Rattle.evaluation.specs.Steps.{hat_at, AxisHats, Tabulated, Found, Bounded, Listed, Evaluable, evaluated_at};
 
 use axis_weights::Coordinate;
 use shapes::Shape;
@@ -88,7 +88,7 @@ impl Term {
 #[tactic(auto, using(crate::proofs::Taking::bit_is))]
 fn taken(asked: bool, hats: &[[Hat; 9]], levels: &[u32; 8]) -> Term
     requires { Bounded (length hats.now) hats.now × (sum_to (at levels.now) (length hats.now) ≤ 8) }
-    ensures { (result.position ≡ position_of hats.now (at levels.now) (length hats.now)) × (result.joint ≡ joint_of hats.now (at levels.now) (length hats.now)) × (result.reached ≡ asked && reached_of hats.now (at levels.now) (length hats.now)) }
+    ensures { Found asked hats.now (at levels.now) (length hats.now) result }
 {
     let mut position: u64 = 0;
     let mut joint: u64 = 1 << BITS;

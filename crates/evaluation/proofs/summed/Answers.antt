@@ -1,11 +1,11 @@
-use Rattle.std.proofs.Common.{◌&&◌, ◌≡◌, ℕ, ◌+◌, ◌-◌, ◌^◌, ◌≤◌, ◌<◌, List, length, get_or, take, drop, ℤ, pos, refl, sym, ap, ap₂, ◌∙◌, arith, pow_pos, drop-drop, w64, length-take-le}
+use Rattle.std.proofs.Common.{◌≡◌, ℕ, ◌+◌, ◌-◌, ◌^◌, ◌≤◌, ◌<◌, List, length, get_or, take, drop, ℤ, pos, refl, sym, ap, ap₂, ◌∙◌, arith, pow_pos, drop-drop, w64, length-take-le}
 use Rattle.std.proofs.lemmas.List.{get_or-drop}
 use Rattle.std.proofs.lemmas.Bool.{eqb-true, eqb-false}
 use mir.ValLaws.{to_z-of_z}
 use Rattle.integers.specs.Half.{in_limit}
 use Rattle.numbering.specs.Point.{at}
 use Rattle.shapes.specs.Shapes.{points_of}
-use Rattle.evaluation.specs.Steps.{Tabulated, position_of, joint_of, reached_of}
+use Rattle.evaluation.specs.Steps.{Tabulated, Found}
 use Rattle.evaluation.proofs.Walking.{walked_starts, high_room, low_room, walked_ends}
 use Rattle.evaluation.proofs.Reaching.{tallied_starts, tallied_room, tallied_ends}
 use Rattle.evaluation.proofs.Stepping.{size_in, tallied, sum_small, levels_small, vector_size, vector_within, place_read, place_small, weight_in_lem, value_in, value_fits, stepped}
@@ -53,11 +53,7 @@ taken-term-requires c =
     )
 
 found : (c : After-taken-term) → length (take c.args.shape.axes c.tabulated-tabulated.result) ≡ c.args.shape.axes →
-    let hats = take c.args.shape.axes c.tabulated-tabulated.result in
-    let axes = c.args.shape.axes in
-    (c.taken-term.result.position ≡ position_of hats (at c.loop-hats.vector.levels) axes)
-    × (c.taken-term.result.joint ≡ joint_of hats (at c.loop-hats.vector.levels) axes)
-    × (c.taken-term.result.reached ≡ c.args.asked && reached_of hats (at c.loop-hats.vector.levels) axes)
+    Found c.args.asked (take c.args.shape.axes c.tabulated-tabulated.result) (at c.loop-hats.vector.levels) c.args.shape.axes c.taken-term.result
 found c long = rw long at c.taken-term.ensures
 
 -- The value read, as the table has it.
@@ -74,13 +70,13 @@ pub offset_bounds-rest-term : goal.offset_bounds-rest-term
 unfolding first
 offset_bounds-rest-term c =
     let seen = goal.at.offset_bounds-rest-term c in
-    record { fits = omega (arith, place_small c.requires c.loop-hats.invariant.0 (more seen.In-loop-hats) (hats_at seen.After-tabulated-tabulated) c.args.asked (found seen.After-taken-term (hats_long seen.After-tabulated-tabulated))) }
+    record { fits = omega (arith, place_small c.requires c.loop-hats.invariant.0 (more seen.In-loop-hats) (hats_at seen.After-tabulated-tabulated) (found seen.After-taken-term (hats_long seen.After-tabulated-tabulated))) }
 
 pub bounds-rest-term : goal.bounds-rest-term
 unfolding first
 bounds-rest-term c =
     let seen = goal.at.bounds-rest-term c in
-    omega (arith, place_read c.requires c.loop-hats.invariant.0 (more seen.In-loop-hats) (hats_at seen.After-tabulated-tabulated) c.args.asked (found seen.After-taken-term (hats_long seen.After-tabulated-tabulated)))
+    omega (arith, place_read c.requires c.loop-hats.invariant.0 (more seen.In-loop-hats) (hats_at seen.After-tabulated-tabulated) (found seen.After-taken-term (hats_long seen.After-tabulated-tabulated)))
 
 pub add-requires : goal.add-requires
 unfolding first
@@ -93,8 +89,8 @@ add-requires c =
     rw (read seen.After-taken-term) (
       high_room inv,
       low_room inv,
-      ap in_limit (to_z-of_z w64 _ (value_fits c.requires inv here hats c.args.asked term)) ∙ value_in c.requires inv here hats c.args.asked term,
-      weight_in_lem c.requires inv here hats c.args.asked term,
+      ap in_limit (to_z-of_z w64 _ (value_fits c.requires inv here hats term)) ∙ value_in c.requires inv here hats term,
+      weight_in_lem c.requires inv here hats term,
     )
 
 pub overflow_shl-vector : goal.overflow_shl-vector
@@ -134,13 +130,13 @@ loop-hats-preserved c =
     let size = vector_size c.requires inv.0 here in
     let next : length xs - length c.split_at.result.1.now ≡ before + step =
     omega (arith, c.split_at.ensures.back_len, size, vector_within c.requires inv.0 here, inv.1) in
-    let value = to_z-of_z w64 (get_or xs (before + c.taken-term.result.position) (pos 0)) (value_fits c.requires inv.0 here hats c.args.asked term) in
+    let value = to_z-of_z w64 (get_or xs (before + c.taken-term.result.position) (pos 0)) (value_fits c.requires inv.0 here hats term) in
     let is = read seen.After-taken-term in
     rw next (
-      stepped c.requires inv.0 here hats c.args.asked term c.next.new.self c.next.ensures (rw (is, value) at c.add.ensures.high) (rw (is, value) at c.add.ensures.low),
+      stepped c.requires inv.0 here hats term c.next.new.self c.next.ensures (rw (is, value) at c.add.ensures.high) (rw (is, value) at c.add.ensures.low),
       omega (arith, c.split_at.ensures.back_len, inv.1),
       c.split_at.ensures.back ∙ ap₂ (λ (n : ℕ) (l : List ℤ). drop n l) size inv.2 ∙ drop-drop step before xs,
-      tallied c.requires inv.0 here hats c.args.asked term c.next.new.self inv.3 c.next.ensures (ap (λ (k : ℕ). c.loop-hats.reached + k) (rw (is, value) at c.size-reached.ensures)),
+      tallied c.requires inv.0 here hats term c.next.new.self inv.3 c.next.ensures (ap (λ (k : ℕ). c.loop-hats.reached + k) (rw (is, value) at c.size-reached.ensures)),
     )
 
 pub overflow_add-reached : goal.overflow_add-reached
@@ -151,8 +147,8 @@ overflow_add-reached c =
     let here = more seen.In-loop-hats in
     let hats = hats_at seen.After-tabulated-tabulated in
     let term = found seen.After-taken-term (hats_long seen.After-tabulated-tabulated) in
-    let value = to_z-of_z w64 (get_or c.args.table.now (first seen.In-loop-hats + c.taken-term.result.position) (pos 0)) (value_fits c.requires inv.0 here hats c.args.asked term) in
-    record { fits = omega (arith, tallied_room inv.0 inv.3, rw (read seen.After-taken-term, value) at c.size-reached.ensures, size_in c.requires inv.0 here hats c.args.asked term) }
+    let value = to_z-of_z w64 (get_or c.args.table.now (first seen.In-loop-hats + c.taken-term.result.position) (pos 0)) (value_fits c.requires inv.0 here hats term) in
+    record { fits = omega (arith, tallied_room inv.0 inv.3, rw (read seen.After-taken-term, value) at c.size-reached.ensures, size_in c.requires inv.0 here hats term) }
 
 pub returns : goal.returns
 returns c =
