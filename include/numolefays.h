@@ -187,7 +187,8 @@ uint32_t numolefays_run(uint32_t axes, uint32_t level, uint8_t *forward, int64_t
 
 /*
  * The estimate at a list of coordinates, one for each axis, each from 0 to 1,048,576 and meaning that many
- * 1,048,576ths: in the table's unit, 2^d times a rate, rounded to the nearest whole number, halves away from zero.
+ * 1,048,576ths: in the table's unit, 2^d times a rate. Its last division is to the nearest whole number, halves
+ * away from zero; the joint weights before it are rounded down.
  * The table is only read, and every axis must be forward.
  * Refused: 1, 2, 14, 3, 17 (the first axis that is not forward), 7, 8 (the first axis with such a coordinate),
  * 10 (a value past 2^47).
@@ -197,15 +198,16 @@ uint32_t numolefays_estimate(uint32_t axes, uint32_t level, uint8_t forward, con
                              int64_t *estimate, uint64_t *place);
 
 /*
- * The same estimate, and how far it can be off: the exact value of the surface differs from it by at most
- * *margin, in the same unit. *reached is S, the sum of the sizes of the coefficients of the points whose weight
- * there is above 0 on each axis, and *margin is 1/2 + (d - 1) x S / 1,048,576, rounded up. Refused as
- * numolefays_estimate is.
+ * The same estimate, and how far rounding can have moved it: the exact value of the surface differs from it by at
+ * most *margin, in the same unit. *absolute_sum is S, the sum of the absolute coefficients of the points whose
+ * weight there is above zero on each axis; *margin is 1/2 plus d - 1 times S over 1,048,576, rounded up. It says
+ * nothing of how far the surface is from the truth between the samples.
+ * Refused: 1, 2, 14, 3, 17, 7, 8, 10, as the estimate alone.
  */
 uint32_t numolefays_estimate_with_margin(uint32_t axes, uint32_t level, uint8_t forward, const int64_t *table,
                                          size_t table_length, const uint32_t *coordinates,
-                                         size_t coordinates_length, int64_t *estimate, uint64_t *reached,
-                                         uint64_t *margin, uint64_t *place);
+                                         size_t coordinates_length, int64_t *estimate,
+                                         uint64_t *absolute_sum, uint64_t *margin, uint64_t *place);
 
 /* ---- component grids [18] ---- */
 

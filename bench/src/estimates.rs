@@ -47,7 +47,7 @@ fn measure_margin((axes, level): (u32, u32), seconds: f64) -> (Vec<f64>, usize) 
     let (state, table, lists) = prepared((axes, level));
     for list in &lists {
         let found = state.estimate_with_margin(&table, list).expect("an estimate");
-        let want = (found.estimate, found.reached, found.margin);
+        let want = (found.estimate, found.absolute_sum, found.margin);
         assert_eq!(want, algorithm7::with_margin(d, level, &table, list), "algorithm 7");
         assert_eq!(want, algorithm7::with_margin_tabulated(d, level, &table, list), "tabulated");
     }
@@ -62,7 +62,7 @@ fn measure_margin((axes, level): (u32, u32), seconds: f64) -> (Vec<f64>, usize) 
         Box::new(|| {
             each(&|x| {
                 let found = state.estimate_with_margin(&table, x).expect("an estimate");
-                (found.estimate, found.reached, found.margin)
+                (found.estimate, found.absolute_sum, found.margin)
             })
         }),
         Box::new(|| each(&|x| (state.estimate(&table, x).expect("an estimate"), 0, 0))),

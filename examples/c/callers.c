@@ -107,8 +107,9 @@ static void ask(const struct kept *k, uint32_t x, uint32_t y)
 {
     const uint32_t coordinates[AXES] = {x, y};
     int64_t estimate = 0;
-    uint64_t reached, margin = 0, place;
-    uint32_t number = numolefays_estimate_with_margin(k->axes, k->level, k->forward, k->table, POINTS, coordinates, AXES, &estimate, &reached, &margin, &place);
+    uint64_t absolute_sum, margin = 0, place;
+    uint32_t number = numolefays_estimate_with_margin(k->axes, k->level, k->forward, k->table, POINTS, coordinates, AXES,
+                                                      &estimate, &absolute_sum, &margin, &place);
 
     printf("estimate at %u %u", (unsigned)x, (unsigned)y);
     if (number == NUMOLEFAYS_SUCCESS)

@@ -151,7 +151,7 @@ mod raw {
             coordinates: *const u32,
             coordinates_len: usize,
             estimate: *mut i64,
-            reached: *mut u64,
+            absolute_sum: *mut u64,
             margin: *mut u64,
             place: *mut u64,
         ) -> u32;
@@ -394,7 +394,7 @@ pub fn estimate(
     }
 }
 
-/// The surface at these coordinates, with the sum of the sizes of the coefficients reached there and the margin. Section 11.
+/// The same estimate, with S and the margin, rounded up to a whole number. Section 11.
 /// Refused with 1, 2, 14, 3, 17, 7, 8, 10.
 pub fn estimate_with_margin(
     axes: u32,
@@ -403,7 +403,7 @@ pub fn estimate_with_margin(
     table: &[i64],
     coordinates: &[u32],
     estimate: &mut i64,
-    reached: &mut u64,
+    absolute_sum: &mut u64,
     margin: &mut u64,
     place: &mut u64,
 ) -> u32 {
@@ -417,7 +417,7 @@ pub fn estimate_with_margin(
             coordinates.as_ptr(),
             coordinates.len(),
             estimate,
-            reached,
+            absolute_sum,
             margin,
             place,
         )

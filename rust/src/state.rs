@@ -97,8 +97,9 @@ impl State {
         Refusal::checked(number, place)
     }
 
-    /// The surface at these coordinates, one for each axis, each from 0 to 1,048,576 ([`UNIT`](crate::UNIT)), in units of
-    /// 1/2^d of a rate, to the nearest whole number, halves away from zero; from a table that is forward on every axis.
+    /// The estimate at these coordinates, one for each axis, each from 0 to 1,048,576 ([`UNIT`](crate::UNIT)), in units of
+    /// 1/2^d of a rate; from a table that is forward on every axis. Its last division is to the nearest whole number, halves
+    /// away from zero; the joint weights before it are rounded down.
     /// Section 11. Refused with 1, 2, 14, 3, 17, 7, 8, 10.
     pub fn estimate(self, table: &[i64], coordinates: &[u32]) -> Result<i64, Refusal> {
         let (mut estimate, mut place) = (0, 0);
@@ -114,10 +115,11 @@ impl State {
         Refusal::checked(number, place).map(|()| estimate)
     }
 
-    /// The same estimate, and how far it can be off from the surface's exact value. Section 11. Refused as the estimate is.
+    /// The same estimate, and how far rounding can have moved it from the surface's exact value. Section 11. Refused with 1, 2,
+    /// 14, 3, 17, 7, 8, 10.
     pub fn estimate_with_margin(self, table: &[i64], coordinates: &[u32]) -> Result<Estimated, Refusal> {
         let mut place = 0;
-        let mut answer = Estimated { estimate: 0, reached: 0, margin: 0 };
+        let mut answer = Estimated { estimate: 0, absolute_sum: 0, margin: 0 };
         let number = boundary::estimate_with_margin(
             self.shape.axes,
             self.shape.level,
@@ -125,7 +127,7 @@ impl State {
             table,
             coordinates,
             &mut answer.estimate,
-            &mut answer.reached,
+            &mut answer.absolute_sum,
             &mut answer.margin,
             &mut place,
         );
@@ -133,14 +135,14 @@ impl State {
     }
 }
 
-/// An estimate with its margin. docs/MANUAL.md, section 11.
+/// An estimate with its margin, in the table's unit: divide each of the three by 2^d to have rates. docs/MANUAL.md, section 11.
 #[derive(Clone, Copy, Debug, PartialEq, Eq, Hash)]
 pub struct Estimated {
-    /// The surface at the coordinates, in units of 1/2^d of a rate, to the nearest whole number.
+    /// The estimate.
     pub estimate: i64,
-    /// S: the sum of the sizes of the coefficients of the points whose weight there is above 0 on each axis.
-    pub reached: u64,
-    /// The exact value differs from the estimate by at most this, in the same units: 1/2 + (d − 1) × S / 1,048,576,
-    /// rounded up.
+    /// S: the sum of the absolute coefficients of the points whose weight there is above zero on each axis.
+    pub absolute_sum: u64,
+    /// The exact value of the surface differs from the estimate by at most this: 1/2 + (d − 1) × S / 1,048,576, rounded up.
+    /// It is about the library's rounding alone, not about how far the surface is from the truth.
     pub margin: u64,
 }

@@ -11,7 +11,7 @@ fn hat(x: u64, level: u32) -> (u64, u64) {
 }
 
 /// The sum over the level vectors, `hats` giving place and weight of an axis and a level; and where it is asked for, the sum
-/// of the sizes of the coefficients with a weight above zero on each axis.
+/// of the absolute coefficients of points with a weight above zero on each axis.
 fn summed<const REACHED: bool>(
     axes: usize,
     level: u32,
@@ -77,7 +77,7 @@ fn tabulated(coordinates: &[u32]) -> [[(u64, u64); 9]; 8] {
     hats
 }
 
-/// The estimate, the sum of the sizes reached and the margin: document 02, f.
+/// The estimate, S and the margin: document 02, f.
 pub fn with_margin(axes: usize, level: u32, table: &[i64], coordinates: &[u32]) -> (i64, u64, u64) {
     margined(axes, summed::<true>(axes, level, table, |t, l| hat(u64::from(coordinates[t]), l)))
 }

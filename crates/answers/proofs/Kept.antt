@@ -23,11 +23,11 @@ use Rattle.runs.specs.Runs.{Ran, run}
 use Rattle.runs.specs.Calls.{Report, calls_of, report_of, unrun, check_lengths, run_calls}
 use Rattle.whole.specs.Whole.{rates_to_coefficients, has_rates, coefficients_to_rates}
 use Rattle.components.specs.Components.{check_component, component_coefficients}
+use Rattle.estimates.specs.declared.Estimated.{Estimated}
 use Rattle.house_numbers.specs.Reading.{Read, got, refused}
 use Rattle.house_file.specs.Files.{Contents, filled_with, read_contents, read_file}
 use Rattle.house_file.specs.Written.{written_file}
 use Rattle.house_writer.specs.Writing.{kept_out, check_room, filled_out, put_file, write_file}
-use Rattle.estimates.specs.declared.Estimated.{Estimated}
 use Rattle.house_writer.specs.Rewriting.{form_of, written_again, rewrite_file}
 use Rattle.answers.specs.Returned.{Returned}
 use Rattle.answers.specs.Answers.{of_value, of_point, of_located, of_estimated, of_answer, of_after, of_left, of_report, of_reading, of_named, of_writing}

@@ -45,7 +45,7 @@ of_located held (Err r) = refused held r
 
 -- An estimate, S and the margin.
 abbrev pub of_estimated : ℤ × ℕ × ℕ → Result Estimated Refusal → Returned (ℤ × ℕ × ℕ)
-of_estimated held (Ok e) = done (e.estimate, e.reached, e.margin)
+of_estimated held (Ok e) = done (e.estimate, e.absolute_sum, e.margin)
 of_estimated held (Err r) = refused held r
 
 -- The forward axes of a state. Its shape is the one that was handed in.

@@ -113,15 +113,15 @@ pub fn hand_located(
 pub fn hand_estimated(
     answer: Result<Estimated, Refusal>,
     estimate: &mut i64,
-    reached: &mut u64,
+    absolute_sum: &mut u64,
     margin: &mut u64,
     place: &mut u64,
 ) -> u32
-    ensures { returned result place.new (estimate.new, reached.new, margin.new) ≡ of_estimated (estimate.old, reached.old, margin.old) answer }
+    ensures { returned result place.new (estimate.new, absolute_sum.new, margin.new) ≡ of_estimated (estimate.old, absolute_sum.old, margin.old) answer }
 {
     if let Ok(found) = answer {
         *estimate = found.estimate;
-        *reached = found.reached;
+        *absolute_sum = found.absolute_sum;
         *margin = found.margin;
     }
     tell(answer, place)

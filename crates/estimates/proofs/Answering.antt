@@ -96,8 +96,8 @@ module _ (s : State) (xs : List ℤ) (cs : List ℕ) (passed : check_estimate un
       }
 
 -- The checks pass where each does, and then the estimate is the answer.
-pub estimated : (s : State) (xs : List ℤ) (cs : List ℕ) → check_state s (length xs) ≡ Ok tt → check_forward s ≡ Ok tt →
+pub estimate_answered : (s : State) (xs : List ℤ) (cs : List ℕ) → check_state s (length xs) ≡ Ok tt → check_forward s ≡ Ok tt →
     check_coordinates unit s.shape.axes cs ≡ Ok tt → all (content_at xs) (length xs) ≡ true →
     estimate s xs cs ≡ Ok (estimate_at s.shape (value_at xs) (at cs))
 unfolding estimate_in_unit check_estimate
-estimated s xs cs e f g h = rw (e, f, g, h)
+estimate_answered s xs cs e f g h = rw (e, f, g, h)

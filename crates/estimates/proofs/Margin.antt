@@ -4,22 +4,20 @@
 use Rattle.std.specs.Prelude.{Ok, Err}
 use mathlib.Core.Path.{◌≡◌, refl, subst}
 use mathlib.Core.List.{List}
-use Prim.Native.Nat.{ℕ, ◌+◌, ◌-◌, ◌*◌, ◌^◌, ◌≤◌}
+use Prim.Native.Nat.{ℕ}
 use lib.IntN.{ℤ}
 use Rattle.refusals.specs.Checks.{answer, Verdict}
 use Rattle.refusals.proofs.Passing.{result_passed}
-use Rattle.integers.specs.Nearest.{apart}
 use Rattle.numbering.specs.Point.{at}
 use Rattle.hierarchy.specs.Turns.{value_at}
 use Rattle.surfaces.specs.Weights.{unit}
-use Rattle.surfaces.specs.Surface.{surface, exact_value, estimate_at}
-use Rattle.surfaces.specs.Margin.{DiffersByAtMost}
+use Rattle.surfaces.specs.Surface.{exact_value, estimate_at}
+use Rattle.surfaces.specs.Margin.{WithinMargin, DiffersByAtMost}
 use Rattle.surfaces.proofs.Margin.{within_margin, within_whole}
 use Rattle.states.specs.declared.State.{State}
 use Rattle.estimates.specs.declared.Estimated.{Estimated}
 use Rattle.estimates.specs.Estimates.{check_estimate, estimate_in_unit, estimate}
 use Rattle.estimates.specs.Margin.{estimated_at, estimate_with_margin, alone}
-use Rattle.estimates.proofs.Answering.{in_range}
 
 module _ (s : State) (table : List ℤ) (xs : List ℕ) where
   -- Estimate and refusals are those of the other call.
@@ -33,22 +31,20 @@ module _ (s : State) (table : List ℤ) (xs : List ℕ) where
       each (Err r) = refl
 
   module _ (e : Estimated) (answered : estimate_with_margin s table xs ≡ Ok e) where
-    passed : (check_estimate unit s table xs ≡ Ok tt) × (estimated_at s.shape (value_at table) (at xs) ≡ e)
+    numbers : estimated_at s.shape (value_at table) (at xs) ≡ e
     unfolding estimate_with_margin
-    passed = result_passed (check_estimate unit s table xs) (estimated_at s.shape (value_at table) (at xs)) e answered
+    numbers = (result_passed (check_estimate unit s table xs) (estimated_at s.shape (value_at table) (at xs)) e answered).1
 
     -- The exact value lies within the margin of the estimate.
     pub answer_within : DiffersByAtMost e.margin e.estimate (exact_value s.shape (value_at table) (at xs))
     answer_within =
-        subst (λ (f : Estimated). DiffersByAtMost f.margin f.estimate (exact_value s.shape (value_at table) (at xs))) passed.1
+        subst (λ (f : Estimated). DiffersByAtMost f.margin f.estimate (exact_value s.shape (value_at table) (at xs))) numbers
         (within_whole s.shape (value_at table) (at xs))
 
-    -- And the paper's bound holds of the S that is answered.
-    pub answer_bound : let d = s.shape.axes in
-        2 * apart (unit ^ d) (surface s.shape (value_at table) (at xs)) e.estimate ≤ unit ^ d + 2 * ((d - 1) * e.reached * unit ^ (d - 1))
+    -- And within the margin that is not rounded up, of the S that is answered.
+    pub answer_bound : WithinMargin unit s.shape.axes e.absolute_sum e.estimate (exact_value s.shape (value_at table) (at xs))
     answer_bound =
-        let d = s.shape.axes in
         subst
-        (λ (f : Estimated). 2 * apart (unit ^ d) (surface s.shape (value_at table) (at xs)) f.estimate ≤ unit ^ d + 2 * ((d - 1) * f.reached * unit ^ (d - 1)))
-        passed.1
-        (within_margin s.shape (value_at table) (at xs) (in_range s table xs passed.0).low)
+        (λ (f : Estimated). WithinMargin unit s.shape.axes f.absolute_sum f.estimate (exact_value s.shape (value_at table) (at xs)))
+        numbers
+        (within_margin s.shape (value_at table) (at xs))

@@ -9,7 +9,7 @@ use Rattle.hierarchy.specs.Turns.{value_at}
 use Rattle.shapes.specs.declared.Shape.{Shape}
 use Rattle.surfaces.specs.Weights.{unit}
 use Rattle.surfaces.specs.Surface.{estimate_at}
-use Rattle.surfaces.specs.Margin.{margin, reached_at}
+use Rattle.surfaces.specs.Margin.{margin, absolute_sum_at}
 use Rattle.states.specs.declared.State.{State}
 use Rattle.estimates.specs.declared.Estimated.{Estimated}
 use Rattle.estimates.specs.Estimates.{check_estimate}
@@ -17,7 +17,7 @@ use Rattle.estimates.specs.Estimates.{check_estimate}
 -- The three numbers for the coefficients c at the coordinates x.
 abbrev pub estimated_at : Shape → (ℕ → ℤ) → (ℕ → ℕ) → Estimated
 estimated_at s c x =
-    record { estimate = estimate_at s c x; reached = reached_at s c x; margin = margin unit s.axes (reached_at s c x) }
+    record { estimate = estimate_at s c x; absolute_sum = absolute_sum_at s c x; margin = margin unit s.axes (absolute_sum_at s c x) }
 
 -- What the call answers.
 unfoldable pub estimate_with_margin : State → List ℤ → List ℕ → Result Estimated Refusal

@@ -62,7 +62,7 @@ pub fn estimate(state: State, table: &[i64], coordinates: &[u32]) -> Result<i64,
 #[derive(Clone, Copy)]
 pub struct Estimated {
     pub estimate: i64,
-    pub reached: u64,
+    pub absolute_sum: u64,
     pub margin: u64,
 }
 
@@ -76,10 +76,10 @@ pub fn estimate_with_margin(
     ensures { result ≡ estimate_with_margin state table.now coordinates.now }
 {
     check(state, table, coordinates)?;
-    let found = evaluation::evaluate_reached(state.shape, table, coordinates);
+    let found = evaluation::evaluate_with_sum(state.shape, table, coordinates);
     Ok(Estimated {
         estimate: found.estimate,
-        reached: found.reached,
-        margin: margins::margin(state.shape.axes, found.reached),
+        absolute_sum: found.absolute_sum,
+        margin: margins::margin(state.shape.axes, found.absolute_sum),
     })
 }

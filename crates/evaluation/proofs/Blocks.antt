@@ -1,6 +1,6 @@
 -- The points of one level vector are 2^(level sum) numbers in a row, from the number of its first point on, and of a sum over them one term is left:
 -- a point's place in the row is its position, whose digits are its halved indices, and only the indices of the cells of the coordinates have weight. So of
--- all of them only the one taken can be reached, or have a joint weight.
+-- all of them only the one taken can be reached, or have a joint weight above 0.
 -- Assumes nothing.
 use mathlib.Core.Path.{◌≡◌, refl, ap, ap₂, sym, ◌∙◌}
 use mathlib.Core.Bool.{false}

@@ -19,7 +19,7 @@ use Rattle.shapes.specs.declared.Shape.{Shape}
 use Rattle.shapes.specs.Shapes.{points_of}
 use Rattle.surfaces.specs.Weights.{unit}
 use Rattle.surfaces.specs.Surface.{weight_on}
-use Rattle.surfaces.specs.Margin.{is_reached, size_reached, reached, reached_in, reached_at}
+use Rattle.surfaces.specs.Margin.{is_reached, absolute_reached, absolute_sum, absolute_sum_in, absolute_sum_at}
 use Rattle.vectors.specs.declared.LevelVector.{LevelVector}
 use Rattle.vectors.specs.Steps.{vectors_before, NextVector}
 use Rattle.evaluation.specs.Steps.{if_asked}
@@ -29,14 +29,14 @@ use Rattle.evaluation.proofs.Walking.{Walked, vector_in, levels_low, taken_in}
 module _ (s : Shape) (xs : List ℤ) (x : ℕ → ℕ) where
   -- What point number p adds to S.
   abbrev pub size_at : ℕ → ℕ
-  size_at = size_reached s.axes (weight_on s x) (value_at xs)
+  size_at = absolute_reached s.axes (weight_on s x) (value_at xs)
 
   size_unreached : (p : ℕ) → is_reached s.axes (weight_on s x p) ≡ false → size_at p ≡ 0
-  unfolding size_reached
+  unfolding absolute_reached
   size_unreached p e = rw e
 
   pub size_small : (p : ℕ) → in_limit (value_at xs (suc p)) ≡ true → size_at p ≤ 2 ^ 47
-  unfolding size_reached
+  unfolding absolute_reached
   size_small p limited =
       true_or_false (is_reached s.axes (weight_on s x p))
       (λ e. rw e (limit_size (value_at xs (suc p)) limited))
@@ -51,6 +51,7 @@ pub asked_small : (asked : Bool) (i j : ℕ) → i ≤ j → if_asked asked i �
 asked_small true i j h = h
 asked_small false i j h = omega arith
 
+-- S so far, where it is asked for: over all points before the next vector's first, and small by the vectors passed.
 pub record Tallied (asked : Bool) (s : Shape) (xs : List ℤ) (x : ℕ → ℕ) (total first : ℕ) (vector : LevelVector) : Type 0 where
   pub sum : total ≡ if_asked asked (sum_to (size_at s xs x) first)
   pub small : total ≤ vectors_before s.axes (at vector.levels) * 2 ^ 47
@@ -94,8 +95,8 @@ module _ {asked : Bool} {s : Shape} {xs : List ℤ} {x : ℕ → ℕ} {high : �
 
 -- Past the last point it is S.
 pub tallied_ends : {asked : Bool} {s : Shape} {xs : List ℤ} {x : ℕ → ℕ} {high : ℤ} {low first total : ℕ} {vector : LevelVector} → Walked s xs x high low first vector →
-    Tallied asked s xs x total first vector → points_of s ≤ first → total ≡ if_asked asked (reached_at s (value_at xs) x)
-unfolding reached_in reached
+    Tallied asked s xs x total first vector → points_of s ≤ first → total ≡ if_asked asked (absolute_sum_at s (value_at xs) x)
+unfolding absolute_sum_in absolute_sum
 tallied_ends {asked} {s} {xs} {x} {first = first} w r h =
     let all_points : first ≡ points_of s = omega (arith, w.within) in
     r.sum ∙ ap (λ (m : ℕ). if_asked asked (sum_to (size_at s xs x) m)) all_points

@@ -1,25 +1,20 @@
 -- What the hats give for a level vector is the point taken there, its joint weight, and whether it is reached: axis by axis.
 -- Assumes nothing.
-use mathlib.Core.Bool.{Bool, true, false}
 use mathlib.Core.List.{List}
-use mathlib.Core.Path.{◌≡◌, refl, ap, ◌∙◌}
+use mathlib.Core.Path.{◌≡◌, ap, ◌∙◌}
 use Prim.Native.Nat.{ℕ, ◌*◌, ◌^◌, ◌≤◌, ◌<◌}
 use native.Mathlib.Omega.{arith}
 use lib.Dec.{ltb}
 use Rattle.naturals.specs.Sum.{sum_to}
 use Rattle.naturals.proofs.Tests.{all_cong}
 use Rattle.naturals.proofs.Sums.{sum_to_cong, term_le}
-use Rattle.interpolation.specs.Hats.{indicator}
 use Rattle.surfaces.specs.Weights.{unit, joint}
 use Rattle.surfaces.specs.Margin.{above_zero, is_reached}
 use Rattle.surfaces.proofs.Joint.{joint_cong}
 use Rattle.evaluation.specs.declared.Hat.{Hat}
 use Rattle.evaluation.specs.Steps.{Tabulated, weight_at, reached_on, joint_of, reached_of, step_of, position_of}
+use Rattle.evaluation.proofs.Bits.{bit_above}
 use Rattle.evaluation.proofs.Blocks.{weights_of, taken_index, taken_step, taken_at}
-
-above_indicator : (b : Bool) → ltb 0 (indicator b) ≡ b
-above_indicator true = refl
-above_indicator false = refl
 
 module _ (x l : ℕ → ℕ) (d : ℕ) (hats : List (List Hat)) (table : Tabulated x d hats) (low : sum_to l d ≤ 8) where
   below : (t : ℕ) → t < d → l t < 9
@@ -43,7 +38,7 @@ module _ (x l : ℕ → ℕ) (d : ℕ) (hats : List (List Hat)) (table : Tabulat
   reached_taken_on : (t : ℕ) → t < d → reached_on hats l t ≡ ltb 0 (weights_of x l (taken_index x l) t)
   unfolding taken_index
   reached_taken_on t h =
-      ap (λ (g : Hat). ltb 0 g.above) (table.axis t h (l t) (below t h)) ∙ above_indicator (ltb 0 (weights_of x l (taken_index x l) t))
+      ap (λ (g : Hat). ltb 0 g.above) (table.axis t h (l t) (below t h)) ∙ bit_above (ltb 0 (weights_of x l (taken_index x l) t))
 
   pub reached_taken : reached_of hats l d ≡ is_reached d (weights_of x l (taken_index x l))
   unfolding is_reached above_zero

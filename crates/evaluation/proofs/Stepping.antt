@@ -24,7 +24,7 @@ use Rattle.shapes.specs.Shapes.{points_of}
 use Rattle.shapes.proofs.Totals.{start_small}
 use Rattle.surfaces.specs.Weights.{unit}
 use Rattle.surfaces.specs.Surface.{weight_on, joint_at}
-use Rattle.surfaces.specs.Margin.{is_reached, size_reached}
+use Rattle.surfaces.specs.Margin.{is_reached, absolute_reached}
 use Rattle.vectors.specs.declared.LevelVector.{LevelVector}
 use Rattle.vectors.specs.Steps.{NextVector}
 use Rattle.evaluation.specs.declared.Hat.{Hat}
@@ -62,8 +62,8 @@ module _ {s : Shape} {xs : List ℤ} {cs : List ℕ} (ev : Evaluable s xs cs) {h
   pub vector_within : first + 2 ^ vector.sum ≤ length xs
   vector_within = omega (arith, next_within w before_last ev.listed.coordinates, ev.long)
 
-  module _ {hats : List (List Hat)} (table : Tabulated (at cs) s.axes hats) {asked : Bool} {term : Term}
-      (found : Found asked hats (at vector.levels) s.axes term) where
+  module _ {hats : List (List Hat)} (table : Tabulated (at cs) s.axes hats) {term : Term}
+      (found : Found hats (at vector.levels) s.axes term) where
     taken : term.position ≡ taken_at (at cs) (at vector.levels) s.axes
     taken = found.position ∙ position_taken (at cs) (at vector.levels) s.axes hats table levels_small
 
@@ -89,19 +89,19 @@ module _ {s : Shape} {xs : List ℤ} {cs : List ℕ} (ev : Evaluable s xs cs) {h
     pub value_fits : SFits w64 (get_or xs (first + term.position) (pos 0))
     value_fits = fits_below (get_or xs (first + term.position) (pos 0)) (omega (arith, limit_size (get_or xs (first + term.position) (pos 0)) value_in))
 
-    reached_read : term.reached ≡ asked && is_reached s.axes (weight_on s (at cs) (first + term.position))
+    reached_read : term.reached ≡ is_reached s.axes (weight_on s (at cs) (first + term.position))
     reached_read =
         found.reached
-        ∙ ap (λ (b : Bool). asked && b)
-        (reached_taken (at cs) (at vector.levels) s.axes hats table levels_small
+        ∙ reached_taken (at cs) (at vector.levels) s.axes hats table levels_small
         ∙ sym (taken_reached s (at cs) (at vector.levels) (vector_in w).rest (omega (arith, (vector_in w).total, sum_low w before_last)))
-        ∙ ap₂ (λ (a q : ℕ). is_reached s.axes (weight_on s (at cs) (a + q))) w.here (sym taken))
+        ∙ ap₂ (λ (a q : ℕ). is_reached s.axes (weight_on s (at cs) (a + q))) w.here (sym taken)
 
-    -- What the code adds to S.
-    size_added : (if term.reached then nat_abs (get_or xs (first + term.position) (pos 0)) else 0) ≡ if_asked asked (size_at s xs (at cs) (first + taken_at (at cs) (at vector.levels) s.axes))
-    unfolding size_reached
-    size_added =
-        ap₂ (λ (b : Bool) (z : ℤ). if b then nat_abs z else 0) reached_read (sym (value_suc xs (first + term.position)))
+    -- What the code adds to S, if it is asked.
+    size_added : (asked : Bool) →
+        (if asked && term.reached then nat_abs (get_or xs (first + term.position) (pos 0)) else 0) ≡ if_asked asked (size_at s xs (at cs) (first + taken_at (at cs) (at vector.levels) s.axes))
+    unfolding absolute_reached
+    size_added asked =
+        ap₂ (λ (b : Bool) (z : ℤ). if asked && b then nat_abs z else 0) reached_read (sym (value_suc xs (first + term.position)))
         ∙ both_asked asked (is_reached s.axes (weight_on s (at cs) (first + term.position))) (nat_abs (value_at xs (suc (first + term.position))))
         ∙ ap (λ (q : ℕ). if_asked asked (if is_reached s.axes (weight_on s (at cs) (first + q)) then nat_abs (value_at xs (suc (first + q))) else 0)) taken
 
@@ -110,9 +110,9 @@ module _ {s : Shape} {xs : List ℤ} {cs : List ℕ} (ev : Evaluable s xs cs) {h
     limited =
         ap (λ (q : ℕ). in_limit (value_at xs (suc (first + q)))) (sym taken) ∙ ev.contents (first + term.position) (omega (arith, place_read, ev.long))
 
-    pub size_in : (if term.reached then nat_abs (get_or xs (first + term.position) (pos 0)) else 0) ≤ 2 ^ 47
-    size_in =
-        rw size_added
+    pub size_in : (asked : Bool) → (if asked && term.reached then nat_abs (get_or xs (first + term.position) (pos 0)) else 0) ≤ 2 ^ 47
+    size_in asked =
+        rw (size_added asked)
         (asked_small asked _ (2 ^ 47) (size_small s xs (at cs) (first + taken_at (at cs) (at vector.levels) s.axes) limited))
 
     -- The terms that the code adds.
@@ -138,10 +138,10 @@ module _ {s : Shape} {xs : List ℤ} {cs : List ℕ} (ev : Evaluable s xs cs) {h
         rw (eh ∙ ap (λ (z : ℤ). high +ℤ z) high_added, el ∙ ap (λ (k : ℕ). low + k) low_added)
         (walked_steps w before_last ev.listed.coordinates vector' ev.low next limited)
 
-    pub tallied : {total total' : ℕ} (vector' : LevelVector) → Tallied asked s xs (at cs) total first vector →
+    pub tallied : {asked : Bool} {total total' : ℕ} (vector' : LevelVector) → Tallied asked s xs (at cs) total first vector →
         (vector'.axes ≡ vector.axes) × NextVector vector.axes vector.sum vector.levels vector'.sum vector'.levels →
-        total' ≡ total + (if term.reached then nat_abs (get_or xs (first + term.position) (pos 0)) else 0) →
+        total' ≡ total + (if asked && term.reached then nat_abs (get_or xs (first + term.position) (pos 0)) else 0) →
         Tallied asked s xs (at cs) total' (first + 2 ^ vector.sum) vector'
-    tallied {total} {total'} vector' r next et =
-        rw (et ∙ ap (λ (k : ℕ). total + k) size_added)
+    tallied {asked} {total} {total'} vector' r next et =
+        rw (et ∙ ap (λ (k : ℕ). total + k) (size_added asked))
         (tallied_steps w r before_last ev.listed.coordinates vector' (rw w.same at next.1) limited)

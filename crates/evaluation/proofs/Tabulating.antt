@@ -1,20 +1,18 @@
 -- What tables of hats give: hats of coordinates are bounded, and so are the first d of them.
 -- Assumes nothing.
-use mathlib.Core.Bool.{Bool, true, false}
 use mathlib.Core.List.{List, []}
 use mathlib.Core.Path.{ap, sym, subst}
 use Prim.Native.Nat.{ℕ, ◌≤◌}
-use native.Mathlib.Omega.{arith}
 use lib.Dec.{ltb}
 use lib.ListN.{take}
 use Rattle.std.proofs.lemmas.List.{get_or-take}
-use Rattle.interpolation.specs.Hats.{indicator}
 use Rattle.surfaces.specs.Weights.{unit}
 use Rattle.surfaces.proofs.Cells.{weight_le}
 use Rattle.axis_weights.specs.Steps.{cell_of, index_of_cell}
 use Rattle.axis_weights.proofs.Weighing.{cell_below}
 use Rattle.evaluation.specs.declared.Hat.{Hat}
 use Rattle.evaluation.specs.Steps.{hat_weight, AxisHats, Tabulated, Bounded}
+use Rattle.evaluation.proofs.Bits.{bit_small}
 
 pub tabulated_bounded : {x : ℕ → ℕ} {d : ℕ} {hats : List (List Hat)} → d ≤ 8 → Tabulated x d hats → Bounded d hats
 tabulated_bounded {x} {d} few table =
@@ -22,12 +20,8 @@ tabulated_bounded {x} {d} few table =
       few = few;
       weight = λ t l h small. rw (ap (λ (g : Hat). g.weight) (table.axis t h l small)) (weight_le unit (x t) l (index_of_cell (cell_of (x t) l)));
       cell = λ t l h small. rw (ap (λ (g : Hat). g.cell) (table.axis t h l small)) (cell_below (x t) l);
-      above = λ t l h small. rw (ap (λ (g : Hat). g.above) (table.axis t h l small)) (indicator_small (ltb 0 (hat_weight (x t) l)));
+      above = λ t l h small. rw (ap (λ (g : Hat). g.above) (table.axis t h l small)) (bit_small (ltb 0 (hat_weight (x t) l)));
     }
-  where
-    indicator_small : (b : Bool) → indicator b ≤ 1
-    indicator_small true = omega arith
-    indicator_small false = omega arith
 
 pub tabulated_front : {x : ℕ → ℕ} {d : ℕ} {hats : List (List Hat)} → Tabulated x d hats → Tabulated x d (take d hats)
 tabulated_front {x} {d} {hats} table =

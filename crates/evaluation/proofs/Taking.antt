@@ -1,21 +1,17 @@
 -- The walk over the axes that takes one point of a level vector: after t axes it has the position that their cells give, their joint weight, whether their
 -- weights are all above zero, and the sum of their levels. True since each axis adds its cell, shifted by the levels before it, multiplies by its weight, and
--- looks whether that is above zero. No shift loses a bit, since a
--- cell is below 2^level, and no product overflows, since weights and joint weights are at most the unit.
+-- keeps the bit where that is above zero. No shift loses a bit, since a cell is below 2^level, and no product overflows, since weights and joint weights are
+-- at most the unit.
 -- Assumes nothing.
-use mathlib.Core.Bool.{Bool, true, false, ◌&&◌, not}
 use mathlib.Core.List.{List}
 use mathlib.Core.Path.{◌≡◌, refl, ap, ap₂, sym, ◌∙◌}
 use Prim.Native.Nat.{ℕ, zero, suc, ◌+◌, ◌*◌, ◌/◌, ◌%◌, ◌^◌, ◌≤◌, ◌<◌}
 use native.Mathlib.Nat.{mul_comm, mul-le-mul}
 use native.Mathlib.Numerals.{add-one}
 use native.Mathlib.Omega.{arith}
-use mir.Val.{bool_byte}
 use lib.Arith.{digits_lt}
 use lib.Bits.{bit_and}
-use lib.Dec.{eqb, ltb}
 use lib.Pow.{pow_pos, pow_mono, shl_exact}
-use Rattle.std.proofs.Math.Bool.{and-true, and_assoc}
 use Rattle.naturals.specs.Sum.{sum_to}
 use Rattle.naturals.proofs.Tests.{all_zero, all_suc}
 use Rattle.naturals.proofs.Sums.{sum_to_zero, sum_to_suc, sum_to_mono}
@@ -26,6 +22,7 @@ use Rattle.surfaces.proofs.Unit.{unit_bits, unit_is}
 use Rattle.surfaces.proofs.Joint.{joint_zero, joint_suc, joint_le}
 use Rattle.evaluation.specs.declared.Hat.{Hat}
 use Rattle.evaluation.specs.Steps.{hat_of, cell_at, weight_at, reached_on, joint_of, reached_of, step_of, position_of, Bounded}
+use Rattle.evaluation.proofs.Bits.{bit_of_both}
 
 pub position_zero : (hats : List (List Hat)) (l : ℕ → ℕ) → position_of hats l 0 ≡ 0
 unfolding position_of
@@ -59,41 +56,25 @@ module _ {d : ℕ} {hats : List (List Hat)} (bounded : Bounded d hats) (l : ℕ 
         digits_lt (cell_lt k h) (position_lt k (omega arith)),
       )
 
--- The bit of two tests.
-bit_of_both : (b : Bool) (a : ℕ) → a ≤ 1 → bit_and (indicator b) a ≡ indicator (b && ltb 0 a)
-bit_of_both true zero h = refl
-bit_of_both false zero h = refl
-bit_of_both true (suc zero) h = refl
-bit_of_both false (suc zero) h = refl
-bit_of_both b (suc (suc a)) h = absurd (omega arith)
-
-pub byte_is : (b : Bool) → bool_byte b ≡ indicator b
-byte_is true = refl
-byte_is false = refl
-
-pub bit_is : (b : Bool) → not (eqb (indicator b) 0) ≡ b
-bit_is true = refl
-bit_is false = refl
-
-pub record Taken (asked : Bool) (hats : List (List Hat)) (l : ℕ → ℕ) (d t position joint reached sum : ℕ) : Type 0 where
+pub record Taken (hats : List (List Hat)) (l : ℕ → ℕ) (d t position joint reached sum : ℕ) : Type 0 where
   pub axis : t ≤ d
   pub total : sum ≡ sum_to l t
   pub packed : position ≡ position_of hats l t
   pub weighed : joint ≡ joint_of hats l t
-  pub reaches : reached ≡ indicator (asked && reached_of hats l t)
+  pub reaches : reached ≡ indicator (reached_of hats l t)
 
-pub taken_starts : (asked : Bool) (hats : List (List Hat)) (l : ℕ → ℕ) (d : ℕ) → Taken asked hats l d 0 0 (2 ^ unit_bits) (indicator asked) 0
-taken_starts asked hats l d =
+pub taken_starts : (hats : List (List Hat)) (l : ℕ → ℕ) (d : ℕ) → Taken hats l d 0 0 (2 ^ unit_bits) 1 0
+taken_starts hats l d =
     record {
       axis = omega arith;
       total = sym (sum_to_zero l);
       packed = sym (position_zero hats l);
       weighed = sym (joint_zero unit (weight_at hats l) ∙ unit_is);
-      reaches = rw (all_zero (reached_on hats l)) (ap indicator (sym (and-true asked)));
+      reaches = ap indicator (sym (all_zero (reached_on hats l)));
     }
 
-module _ {d : ℕ} {hats : List (List Hat)} {l : ℕ → ℕ} {asked : Bool} {t position joint reached sum : ℕ} (bounded : Bounded d hats) (few : sum_to l d ≤ 8)
-    (state : Taken asked hats l d t position joint reached sum) (h : t < d) where
+module _ {d : ℕ} {hats : List (List Hat)} {l : ℕ → ℕ} {t position joint reached sum : ℕ} (bounded : Bounded d hats) (few : sum_to l d ≤ 8)
+    (state : Taken hats l d t position joint reached sum) (h : t < d) where
   pub level_small : l t ≤ 8
   level_small = level_le bounded l few t h
 
@@ -125,7 +106,7 @@ module _ {d : ℕ} {hats : List (List Hat)} {l : ℕ → ℕ} {asked : Bool} {t 
 
   -- One axis more.
   pub taken_steps :
-      Taken asked hats l d (t + 1) (position + cell_at hats l t * 2 ^ sum % 2 ^ 64) (joint * weight_at hats l t / unit) (bit_and reached ((hat_of hats t (l t)).above)) (sum + l t)
+      Taken hats l d (t + 1) (position + cell_at hats l t * 2 ^ sum % 2 ^ 64) (joint * weight_at hats l t / unit) (bit_and reached ((hat_of hats t (l t)).above)) (sum + l t)
   taken_steps =
       record {
         axis = omega arith;
@@ -134,6 +115,5 @@ module _ {d : ℕ} {hats : List (List Hat)} {l : ℕ → ℕ} {asked : Bool} {t 
         weighed = rw (add-one, joint_suc unit (weight_at hats l) t, ← state.weighed) refl;
         reaches =
             rw (add-one, all_suc (reached_on hats l) t, state.reaches)
-            (bit_of_both (asked && reached_of hats l t) ((hat_of hats t (l t)).above) (bounded.above t (l t) h (omega (arith, level_small)))
-            ∙ ap indicator (and_assoc asked (reached_of hats l t) (reached_on hats l t)));
+            (bit_of_both (reached_of hats l t) ((hat_of hats t (l t)).above) (bounded.above t (l t) h (omega (arith, level_small))));
       }

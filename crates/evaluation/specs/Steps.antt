@@ -1,6 +1,6 @@
 -- What the steps of an estimate ask and give: one point for each level vector, and its weight from a table of axis weights.
 -- Assumes nothing.
-use Rattle.std.specs.Prelude.{Bool, true, List, [], ◌≡◌, ◌&&◌, ℕ, suc, ◌*◌, ◌^◌, ◌≤◌, ◌<◌, ℤ, ltb, length, get_or, if◌then◌else◌}
+use Rattle.std.specs.Prelude.{Bool, true, List, [], ◌≡◌, ℕ, suc, ◌*◌, ◌^◌, ◌≤◌, ◌<◌, ℤ, ltb, length, get_or, if◌then◌else◌}
 use Rattle.naturals.specs.Sum.{sum_to}
 use Rattle.naturals.specs.Test.{all}
 use Rattle.integers.specs.Half.{in_limit}
@@ -10,7 +10,7 @@ use Rattle.shapes.specs.declared.Shape.{Shape}
 use Rattle.shapes.specs.Shapes.{points_of}
 use Rattle.surfaces.specs.Weights.{unit, weight, joint}
 use Rattle.surfaces.specs.Surface.{estimate_at}
-use Rattle.surfaces.specs.Margin.{reached_at}
+use Rattle.surfaces.specs.Margin.{absolute_sum_at}
 use Rattle.interpolation.specs.Hats.{indicator}
 use Rattle.axis_weights.specs.Steps.{cell_of, index_of_cell}
 use Rattle.evaluation.specs.declared.Evaluated.{Evaluated}
@@ -62,11 +62,11 @@ step_of hats l t = cell_at hats l t * 2 ^ sum_to l t
 unfoldable pub position_of : List (List Hat) → (ℕ → ℕ) → ℕ → ℕ
 position_of hats l k = sum_to (step_of hats l) k
 
--- What is found of that point over the first d axes: whether its weights are above zero only where it is asked for.
-pub record Found (asked : Bool) (hats : List (List Hat)) (l : ℕ → ℕ) (d : ℕ) (term : Term) : Type 0 where
+-- What is found of that point over the first d axes.
+pub record Found (hats : List (List Hat)) (l : ℕ → ℕ) (d : ℕ) (term : Term) : Type 0 where
   pub position : term.position ≡ position_of hats l d
   pub joint : term.joint ≡ joint_of hats l d
-  pub reached : term.reached ≡ asked && reached_of hats l d
+  pub reached : term.reached ≡ reached_of hats l d
 
 -- On the first d axes, weights of at most the unit, cells among those of their level, and 0 or 1.
 pub record Bounded (d : ℕ) (hats : List (List Hat)) : Type 0 where
@@ -94,4 +94,4 @@ abbrev pub if_asked : Bool → ℕ → ℕ
 if_asked asked k = if asked then k else 0
 
 abbrev pub evaluated_at : Bool → Shape → (ℕ → ℤ) → (ℕ → ℕ) → Evaluated
-evaluated_at asked s c x = record { estimate = estimate_at s c x; reached = if_asked asked (reached_at s c x) }
+evaluated_at asked s c x = record { estimate = estimate_at s c x; absolute_sum = if_asked asked (absolute_sum_at s c x) }

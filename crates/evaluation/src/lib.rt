@@ -1,7 +1,7 @@
 // The sums behind an estimate and its margin: one point for each level vector, the weights of an axis once for each level.
 #![tactic(auto)]
 
-ghost use Rattle.std.specs.Prelude.{true, ◌≡◌, ◌*◌, ◌^◌, ◌≤◌, length, nat_abs, if◌then◌else◌};
+ghost use Rattle.std.specs.Prelude.{true, ◌≡◌, ◌&&◌, ◌*◌, ◌^◌, ◌≤◌, length, nat_abs, if◌then◌else◌};
 ghost use Rattle.naturals.specs.Sum.{sum_to};
 ghost use Rattle.numbering.specs.Point.{at};
 ghost use Rattle.hierarchy.specs.Turns.{value_at};
@@ -75,24 +75,27 @@ struct Term {
 }
 
 impl Term {
-    // What a coefficient adds to S: its size if its point is reached.
-    fn size(self, c: i64) -> u64
-        ensures { result ≡ if self.reached then nat_abs c else 0 }
+    // What a coefficient adds to S, where that is asked for.
+    fn absolute(self, asked: bool, c: i64) -> u64
+        ensures { result ≡ if asked && self.reached then nat_abs c else 0 }
     {
-        if self.reached { c.unsigned_abs() } else { 0 }
+        if asked && self.reached {
+            c.unsigned_abs()
+        } else {
+            0
+        }
     }
 }
 
-// It is asked for or not whether a point is reached; where it is not, none is.
 #[inline]
-#[tactic(auto, using(crate::proofs::Taking::bit_is))]
-fn taken(asked: bool, hats: &[[Hat; 9]], levels: &[u32; 8]) -> Term
+#[tactic(auto, using(crate::proofs::Bits::bit_is))]
+fn taken(hats: &[[Hat; 9]], levels: &[u32; 8]) -> Term
     requires { Bounded (length hats.now) hats.now × (sum_to (at levels.now) (length hats.now) ≤ 8) }
-    ensures { Found asked hats.now (at levels.now) (length hats.now) result }
+    ensures { Found hats.now (at levels.now) (length hats.now) result }
 {
     let mut position: u64 = 0;
     let mut joint: u64 = 1 << BITS;
-    let mut reached = u32::from(asked);
+    let mut reached: u32 = 1;
     let mut sum: u32 = 0;
     for (axis, level) in hats.iter().zip(levels) {
         let hat = axis[*level as usize];
@@ -108,11 +111,11 @@ fn taken(asked: bool, hats: &[[Hat; 9]], levels: &[u32; 8]) -> Term
     }
 }
 
-// An estimate, and S, the sum of the absolute coefficients of the points that are reached, or 0 where it is not asked for.
+// An estimate; and S, the sum of the absolute coefficients of the points that are reached, or 0 where it is not asked for.
 #[derive(Clone, Copy)]
 pub struct Evaluated {
     pub estimate: i64,
-    pub reached: u64,
+    pub absolute_sum: u64,
 }
 
 // Those at these coordinates. S is of at most 12,870 points. (Inlined, so that an estimate alone does not look which points are reached.)
@@ -120,25 +123,25 @@ pub struct Evaluated {
 fn summed(asked: bool, shape: Shape, table: &[i64], coordinates: &[u32]) -> Evaluated
     requires { Evaluable shape table.now coordinates.now }
     ensures value { result ≡ evaluated_at asked shape (value_at table.now) (at coordinates.now) }
-    ensures room { result.reached ≤ 12870 * 2 ^ 47 }
+    ensures room { result.absolute_sum ≤ 12870 * 2 ^ 47 }
 {
     let tabulated = tabulated(coordinates);
     let hats = &tabulated[..shape.axes as usize];
     let mut sum = Sum::new();
-    let mut reached: u64 = 0;
+    let mut absolute_sum: u64 = 0;
     let mut rest = table;
     let mut vector = LevelVector::first(shape.axes);
     while !rest.is_empty() {
-        let term = taken(asked, hats, &vector.levels);
+        let term = taken(hats, &vector.levels);
         let c = rest[term.position as usize];
         sum.add(c, term.joint);
-        reached += term.size(c);
+        absolute_sum += term.absolute(asked, c);
         rest = rest.split_at(1 << vector.sum).1;
         vector.next();
     }
     Evaluated {
         estimate: sum.joined(),
-        reached,
+        absolute_sum,
     }
 }
 
@@ -151,10 +154,10 @@ pub fn evaluate(shape: Shape, table: &[i64], coordinates: &[u32]) -> i64
 }
 
 // The estimate and S.
-pub fn evaluate_reached(shape: Shape, table: &[i64], coordinates: &[u32]) -> Evaluated
+pub fn evaluate_with_sum(shape: Shape, table: &[i64], coordinates: &[u32]) -> Evaluated
     requires { Evaluable shape table.now coordinates.now }
     ensures value { result ≡ evaluated_at true shape (value_at table.now) (at coordinates.now) }
-    ensures room { result.reached ≤ 12870 * 2 ^ 47 }
+    ensures room { result.absolute_sum ≤ 12870 * 2 ^ 47 }
 {
     summed(true, shape, table, coordinates)
 }

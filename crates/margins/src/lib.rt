@@ -1,4 +1,4 @@
-// How far an estimate can be off, as a whole number, from the sum of the absolute coefficients reached.
+// The margin of an estimate, a whole number, from the number of axes and S.
 #![tactic(auto)]
 
 ghost use Rattle.std.specs.Prelude.{◌≡◌, ◌*◌, ◌^◌, ◌≤◌};
@@ -7,12 +7,13 @@ ghost use Rattle.surfaces.specs.Margin.{margin};
 
 use surfaces::BITS;
 
-// 1/2 + (d − 1) × S / the unit, rounded up. (S is of at most 12,870 points, so that 7 times S and more fits 64 bits, and nothing need be divided first.)
-pub fn margin(axes: u32, reached: u64) -> u64
-    requires { (1 ≤ axes) × (axes ≤ 8) × (reached ≤ 12870 * 2 ^ 47) }
-    ensures { result ≡ margin unit axes reached }
+// 1/2 + (d − 1) × S / the unit, rounded up: the unit less one is added before the division. (S is of at most 12,870 points, so that 7 times S and more fits 64
+// bits, and nothing need be divided first.)
+pub fn margin(axes: u32, absolute_sum: u64) -> u64
+    requires { (1 ≤ axes) × (axes ≤ 8) × (absolute_sum ≤ 12870 * 2 ^ 47) }
+    ensures { result ≡ margin unit axes absolute_sum }
 {
     let half = 1 << (BITS - 1);
     let last = (1 << BITS) - 1;
-    (u64::from(axes - 1) * reached + half + last) >> BITS
+    (u64::from(axes - 1) * absolute_sum + half + last) >> BITS
 }

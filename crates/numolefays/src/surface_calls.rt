@@ -31,16 +31,16 @@ pub extern "C" fn numolefays_estimate_with_margin(
     table: &[i64],
     coordinates: &[u32],
     estimate: &mut i64,
-    reached: &mut u64,
+    absolute_sum: &mut u64,
     margin: &mut u64,
     place: &mut u64,
 ) -> u32
-    ensures { returned result place.new (estimate.new, reached.new, margin.new) ≡ of_estimated (estimate.old, reached.old, margin.old) (surface_margin.estimate_with_margin (state_of axes level forward) table.now coordinates.now) }
+    ensures { returned result place.new (estimate.new, absolute_sum.new, margin.new) ≡ of_estimated (estimate.old, absolute_sum.old, margin.old) (surface_margin.estimate_with_margin (state_of axes level forward) table.now coordinates.now) }
 {
     let answer = estimates::estimate_with_margin(
         answers::state_of(axes, level, forward),
         table,
         coordinates,
     );
-    answers::hand_estimated(answer, estimate, reached, margin, place)
+    answers::hand_estimated(answer, estimate, absolute_sum, margin, place)
 }

@@ -58,12 +58,12 @@ fn numbered<T: Display + Drop>(out: &impl Print, answer: Result<T, Refusal>) -> 
     }
 }
 
-// An estimate, the sum reached and the margin; or why there are none.
+// An estimate, S and the margin; or why there are none.
 fn margined(out: &impl Print, answer: Result<Estimated, Refusal>) -> io::Result<()> {
     match answer {
         Ok(found) => {
             text::number(out, found.estimate)?;
-            text::number(out, found.reached)?;
+            text::number(out, found.absolute_sum)?;
             text::number(out, found.margin)
         }
         Err(why) => text::refused(out, why),

@@ -3,10 +3,9 @@
 -- d − 1 times S, and the last division, to the nearest, by a half more. Said of any axis weights of at most the unit, so of every sort of grid.
 -- Assumes nothing.
 use mathlib.Core.Path.{◌≡◌, ap, sym, ◌∙◌}
-use mathlib.Core.Bool.{true}
 use mathlib.Core.Logic.{⊎_elim}
 use Prim.Native.Nat.{ℕ, zero, suc, ◌+◌, ◌-◌, ◌*◌, ◌^◌, ◌≤◌, ◌<◌}
-use native.Mathlib.Nat.{mul-le-mul_left, mul-le-mul_right, le_of_mul-le-mul_right, mul-zero, zero-mul, add-mul, div-add-mod', mod-lt, pow-suc, eq-zero-or-pos}
+use native.Mathlib.Nat.{mul-le-mul_left, mul-le-mul_right, le_of_mul-le-mul_right, mul-zero, zero-mul, add-mul, div-add-mod', mod-lt, pow-zero, pow-suc, eq-zero-or-pos}
 use native.Mathlib.Omega.{arith}
 use Rattle.std.proofs.lemmas.Int.{ints}
 use lib.IntN.{ℤ, pos, neg_ℤ, nat_abs, ◌+ℤ◌, ◌-ℤ◌, ◌*ℤ◌}
@@ -24,8 +23,8 @@ use Rattle.grids.specs.Grids.{numbered}
 use Rattle.interpolation.specs.Weighted.{weighted, weighted_sum}
 use Rattle.interpolation.proofs.Weighted.{weighted_sum_cong, weighted_sum_plus, weighted_sum_times}
 use Rattle.surfaces.specs.Weights.{unit, joint}
-use Rattle.surfaces.specs.Surface.{weight_in, product_in, joint_in, surface_in, joint_sum_in, rounded, estimate_in, exact_value_in, exact_value, surface, estimate_at}
-use Rattle.surfaces.specs.Margin.{is_reached, size_reached, reached, rounded_up, margin, DiffersByAtMost, reached_in, reached_at}
+use Rattle.surfaces.specs.Surface.{weight_in, product_in, joint_in, surface_in, joint_sum_in, rounded, estimate_in, exact_value_in, exact_value, estimate_at}
+use Rattle.surfaces.specs.Margin.{absolute_reached, absolute_sum, WithinMargin, rounded_up, margin, DiffersByAtMost, absolute_sum_in, absolute_sum_at}
 use Rattle.surfaces.proofs.Unit.{unit_pos}
 use Rattle.surfaces.proofs.Cells.{weight_le}
 use Rattle.surfaces.proofs.Joint.{joint_under, joint_over}
@@ -81,12 +80,9 @@ module _ (m d u : ℕ) (some : 0 < u) (w : ℕ → ℕ → ℕ) (small : (p t : 
   unfolding loss
   loss_none p none = omega (arith, ap (λ (a : ℕ). a * u) none, zero-mul u)
 
-  size_is : (p : ℕ) → is_reached d (w p) ≡ true → size_reached d w c p ≡ nat_abs (c (suc p))
-  unfolding size_reached
-  size_is p e = rw e
-
-  lost_term : (p : ℕ) → p < m → nat_abs (weighted c loss p) ≤ size_reached d w c p * ((d - 1) * u ^ d)
-  unfolding weighted
+  -- What a point loses is nothing, or it is reached.
+  lost_term : (p : ℕ) → p < m → nat_abs (weighted c loss p) ≤ absolute_reached d w c p * ((d - 1) * u ^ d)
+  unfolding weighted absolute_reached
   lost_term p h =
       ⊎_elim
       (λ none.
@@ -97,14 +93,14 @@ module _ (m d u : ℕ) (some : 0 < u) (w : ℕ → ℕ → ℕ) (small : (p t : 
         mul-zero (nat_abs (c (suc p))),
       ))
       (λ more.
-      rw (size_times (c (suc p)) (loss p), size_is p (product_reached (w p) d more))
+      rw (size_times (c (suc p)) (loss p), product_reached (w p) d more)
       (mul-le-mul_left (nat_abs (c (suc p))) (loss_small p h)))
       (eq-zero-or-pos (product p))
 
   -- All that is lost.
-  lost : nat_abs (weighted_sum m c loss) ≤ reached m d w c * ((d - 1) * u ^ d)
-  unfolding weighted_sum reached
-  lost = total_bound (weighted c loss) (size_reached d w c) ((d - 1) * u ^ d) m lost_term
+  lost : nat_abs (weighted_sum m c loss) ≤ absolute_sum m d w c * ((d - 1) * u ^ d)
+  unfolding weighted_sum absolute_sum
+  lost = total_bound (weighted c loss) (absolute_reached d w c) ((d - 1) * u ^ d) m lost_term
 
   -- The exact sum is that of the joint weights and what is lost.
   sum_with_loss : weighted_sum m c product *ℤ pos u ≡ weighted_sum m c joint_weight *ℤ pos (u ^ d) +ℤ weighted_sum m c loss
@@ -142,33 +138,36 @@ module _ (m d u : ℕ) (some : 0 < u) (w : ℕ → ℕ → ℕ) (small : (p t : 
       )
 
   -- The margin, times twice the unit and the unit to the d.
-  margin_times : apart (u ^ d) (weighted_sum m c product) (rounded u (weighted_sum m c joint_weight)) * (2 * u) ≤ (u + 2 * ((d - 1) * reached m d w c)) * u ^ d
+  margin_times : apart (u ^ d) (weighted_sum m c product) (rounded u (weighted_sum m c joint_weight)) * (2 * u) ≤ (u + 2 * ((d - 1) * absolute_sum m d w c)) * u ^ d
   unfolding rounded
   margin_times =
       distance_bound (rounded u (weighted_sum m c joint_weight)) (weighted_sum m c joint_weight) (weighted_sum m c product) (weighted_sum m c loss)
-      (u ^ d) (d - 1) (reached m d w c)
+      (u ^ d) (d - 1) (absolute_sum m d w c)
       sum_with_loss
       (nearest_half u (weighted_sum m c joint_weight) some)
       lost
 
   -- The paper's bound, times twice the unit to the d.
-  pub weights_within_margin : 1 ≤ d →
-      2 * apart (u ^ d) (weighted_sum m c product) (rounded u (weighted_sum m c joint_weight)) ≤ u ^ d + 2 * ((d - 1) * reached m d w c * u ^ (d - 1))
-  weights_within_margin axes =
-      let one_more : d ≡ suc (d - 1) = omega arith in
-      cancelled (apart (u ^ d) (weighted_sum m c product) (rounded u (weighted_sum m c joint_weight))) ((d - 1) * reached m d w c) (u ^ (d - 1)) (u ^ d)
-      (ap (λ (k : ℕ). u ^ k) one_more ∙ pow-suc u (d - 1))
-      margin_times
+  pub weights_within_margin :
+      2 * apart (u ^ d) (weighted_sum m c product) (rounded u (weighted_sum m c joint_weight)) ≤ u ^ d + 2 * ((d - 1) * absolute_sum m d w c * u ^ (d - 1))
+  weights_within_margin =
+      cancelled d (apart (u ^ d) (weighted_sum m c product) (rounded u (weighted_sum m c joint_weight))) (absolute_sum m d w c) margin_times
     where
-      cancelled : (a r e D : ℕ) → D ≡ e * u → a * (2 * u) ≤ (u + 2 * r) * D → 2 * a ≤ D + 2 * (r * e)
-      cancelled a r e D power h =
+      one_power : (a r e D : ℕ) → D ≡ e * u → a * (2 * u) ≤ (u + 2 * r) * D → 2 * a ≤ D + 2 * (r * e)
+      one_power a r e D power h =
           le_of_mul-le-mul_right {k = u} (omega (arith, h, ap (λ (x : ℕ). (u + 2 * r) * x) power, ap (λ (x : ℕ). x * u) power)) some
 
+      cancelled : (d a r : ℕ) → a * (2 * u) ≤ (u + 2 * ((d - 1) * r)) * u ^ d → 2 * a ≤ u ^ d + 2 * ((d - 1) * r * u ^ (d - 1))
+      cancelled zero a r h = le_of_mul-le-mul_right {k = u} (omega (arith, h, pow-zero u, zero-mul r)) some
+      cancelled (suc k) a r h =
+          let last : suc k - 1 ≡ k = omega arith in
+          rw last (one_power a (k * r) (u ^ k) (u ^ suc k) (pow-suc u k) (rw last at h))
+
   -- Rounded up to a whole number.
-  pub weights_within_whole : apart (u ^ d) (weighted_sum m c product) (rounded u (weighted_sum m c joint_weight)) ≤ margin u d (reached m d w c) * u ^ d
+  pub weights_within_whole : apart (u ^ d) (weighted_sum m c product) (rounded u (weighted_sum m c joint_weight)) ≤ margin u d (absolute_sum m d w c) * u ^ d
   unfolding margin
   weights_within_whole =
-      let bound : ℕ = u + 2 * ((d - 1) * reached m d w c) in
+      let bound : ℕ = u + 2 * ((d - 1) * absolute_sum m d w c) in
       widened (apart (u ^ d) (weighted_sum m c product) (rounded u (weighted_sum m c joint_weight))) bound (rounded_up (2 * u) bound) (u ^ d)
       margin_times
       (rounded_up_is (2 * u) bound (omega (arith, some))).0
@@ -184,22 +183,19 @@ module _ (u : ℕ) (some : 0 < u) (g : Numbered) (c : ℕ → ℤ) (x : ℕ → 
   unfolding weight_in
   each_small p t h axis = weight_le u (x t) (g.level p t) (g.index p t)
 
-  pub within_margin_in : 1 ≤ g.axes →
-      2 * apart (u ^ g.axes) (surface_in u g c x) (estimate_in u g c x) ≤ u ^ g.axes + 2 * ((g.axes - 1) * reached_in u g c x * u ^ (g.axes - 1))
-  unfolding surface_in estimate_in joint_sum_in product_in joint_in reached_in
+  pub within_margin_in : WithinMargin u g.axes (absolute_sum_in u g c x) (estimate_in u g c x) (exact_value_in u g c x)
+  unfolding surface_in estimate_in joint_sum_in product_in joint_in absolute_sum_in
   within_margin_in = weights_within_margin g.count g.axes u some (weight_in u g x) each_small c
 
-  pub within_whole_in : DiffersByAtMost (margin u g.axes (reached_in u g c x)) (estimate_in u g c x) (exact_value_in u g c x)
-  unfolding surface_in estimate_in joint_sum_in product_in joint_in reached_in
+  pub within_whole_in : DiffersByAtMost (margin u g.axes (absolute_sum_in u g c x)) (estimate_in u g c x) (exact_value_in u g c x)
+  unfolding surface_in estimate_in joint_sum_in product_in joint_in absolute_sum_in
   within_whole_in = weights_within_whole g.count g.axes u some (weight_in u g x) each_small c
 
 module _ (s : Shape) (c : ℕ → ℤ) (x : ℕ → ℕ) where
-  -- The estimate at any coordinates, of any coefficients: twice its distance from the exact value is at most 1 + 2 × (d − 1) × S / the unit. Both sides stand
-  -- times the unit to the d.
-  pub within_margin : 1 ≤ s.axes →
-      2 * apart (unit ^ s.axes) (surface s c x) (estimate_at s c x) ≤ unit ^ s.axes + 2 * ((s.axes - 1) * reached_at s c x * unit ^ (s.axes - 1))
+  -- The estimate at any coordinates, of any coefficients, differs from the exact value by at most 1/2 + (d − 1) × S / the unit.
+  pub within_margin : WithinMargin unit s.axes (absolute_sum_at s c x) (estimate_at s c x) (exact_value s c x)
   within_margin = within_margin_in unit unit_pos (numbered s) c x
 
-  -- So it is within the margin rounded up.
-  pub within_whole : DiffersByAtMost (margin unit s.axes (reached_at s c x)) (estimate_at s c x) (exact_value s c x)
+  -- So by at most that rounded up.
+  pub within_whole : DiffersByAtMost (margin unit s.axes (absolute_sum_at s c x)) (estimate_at s c x) (exact_value s c x)
   within_whole = within_whole_in unit unit_pos (numbered s) c x

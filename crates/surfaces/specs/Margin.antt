@@ -1,7 +1,7 @@
 -- How far an estimate can be off from the exact value of the surface (document 02, f): by at most 1/2 + (d − 1) × S / the unit. First of any points, w p t
 -- being the weight of point number p on axis t, whatever grid they are of; then of numbered points and of a shape.
 -- Assumes nothing.
-use Rattle.std.specs.Prelude.{Bool, ℕ, suc, ◌+◌, ◌-◌, ◌*◌, ◌/◌, ◌≤◌, ltb, ℤ, nat_abs, if◌then◌else◌}
+use Rattle.std.specs.Prelude.{Bool, ℕ, suc, ◌+◌, ◌-◌, ◌*◌, ◌/◌, ◌^◌, ◌≤◌, ltb, ℤ, nat_abs, if◌then◌else◌}
 use Rattle.naturals.specs.Sum.{sum_to}
 use Rattle.naturals.specs.Test.{all}
 use Rattle.integers.specs.Nearest.{apart}
@@ -22,14 +22,19 @@ unfoldable pub is_reached : ℕ → (ℕ → ℕ) → Bool
 is_reached d v = all (above_zero v) d
 
 -- The absolute coefficient of point number p if it is reached, else 0.
-unfoldable pub size_reached : ℕ → (ℕ → ℕ → ℕ) → (ℕ → ℤ) → ℕ → ℕ
-size_reached d w c p = if is_reached d (w p) then nat_abs (c (suc p)) else 0
+unfoldable pub absolute_reached : ℕ → (ℕ → ℕ → ℕ) → (ℕ → ℤ) → ℕ → ℕ
+absolute_reached d w c p = if is_reached d (w p) then nat_abs (c (suc p)) else 0
 
 -- S: the sum of the absolute coefficients of the points that are reached, of the first m.
-unfoldable pub reached : ℕ → ℕ → (ℕ → ℕ → ℕ) → (ℕ → ℤ) → ℕ
-reached m d w c = sum_to (size_reached d w c) m
+unfoldable pub absolute_sum : ℕ → ℕ → (ℕ → ℕ → ℕ) → (ℕ → ℤ) → ℕ
+absolute_sum m d w c = sum_to (absolute_reached d w c) m
 
 -- ---- the margin
+
+-- The whole number z differs from the fraction f, whose denominator is u to the d, by at most 1/2 + (d − 1) × s / u. Both sides stand times twice the
+-- denominator.
+abbrev pub WithinMargin : ℕ → ℕ → ℕ → ℤ → Fraction → Type 0
+WithinMargin u d s z f = 2 * apart f.denominator f.numerator z ≤ f.denominator + 2 * ((d - 1) * s * u ^ (d - 1))
 
 -- A natural number divided by m and rounded up.
 unfoldable pub rounded_up : ℕ → ℕ → ℕ
@@ -39,14 +44,14 @@ rounded_up m n = (n + (m - 1)) / m
 unfoldable pub margin : ℕ → ℕ → ℕ → ℕ
 margin u d s = rounded_up (2 * u) (u + 2 * ((d - 1) * s))
 
--- A whole number differs from a fraction by at most k.
+-- The whole number z differs from the fraction f by at most k.
 abbrev pub DiffersByAtMost : ℕ → ℤ → Fraction → Type 0
 DiffersByAtMost k z f = apart f.denominator f.numerator z ≤ k * f.denominator
 
 -- ---- the points of a shape
 
-unfoldable pub reached_in : ℕ → Numbered → (ℕ → ℤ) → (ℕ → ℕ) → ℕ
-reached_in u g c x = reached g.count g.axes (weight_in u g x) c
+unfoldable pub absolute_sum_in : ℕ → Numbered → (ℕ → ℤ) → (ℕ → ℕ) → ℕ
+absolute_sum_in u g c x = absolute_sum g.count g.axes (weight_in u g x) c
 
-abbrev pub reached_at : Shape → (ℕ → ℤ) → (ℕ → ℕ) → ℕ
-reached_at s = reached_in unit (numbered s)
+abbrev pub absolute_sum_at : Shape → (ℕ → ℤ) → (ℕ → ℕ) → ℕ
+absolute_sum_at s = absolute_sum_in unit (numbered s)

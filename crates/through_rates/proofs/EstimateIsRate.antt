@@ -44,7 +44,7 @@ use Rattle.whole.specs.Whole.{coefficients_of}
 use Rattle.whole.proofs.Inverse.{coefficients_length}
 use Rattle.whole.proofs.AnswersDown.{coefficient_at}
 use Rattle.estimates.specs.Estimates.{check_forward, inside_at, first_outside, check_coordinates, estimate}
-use Rattle.estimates.proofs.Answering.{estimated}
+use Rattle.estimates.proofs.Answering.{estimate_answered}
 use Rattle.through_rates.specs.Coordinates.{first_values, coordinate_list}
 
 -- ---- the list of coordinates
@@ -153,7 +153,7 @@ module _ (s : Shape) (rs : List ℤ) (a : Accepted s rs) where
       estimate (adopted s) (coefficients_of s rs) (coordinate_list s q) ≡ Ok (times s.axes (get_or rs q (pos 0)))
   unfolding times
   estimate_is_rate q h =
-      estimated (adopted s) (coefficients_of s rs) (coordinate_list s q) adopted_passes forward_passes (coordinates_pass s q h) contents_pass
+      estimate_answered (adopted s) (coefficients_of s rs) (coordinate_list s q) adopted_passes forward_passes (coordinates_pass s q h) contents_pass
       ∙ ap Ok
       (ap (estimate_at s (value_at (coefficients_of s rs))) (list_holds s q)
       ∙ estimate_through s range.low (omega (arith, range)) (value_at (coefficients_of s rs)) (value_at rs) (value_zero rs)

@@ -4,7 +4,7 @@
 use Rattle.std.specs.Prelude.{Ok}
 use mathlib.Core.List.{List, [], ◌∷◌}
 use mathlib.Core.Path.{◌≡◌, refl}
-use Prim.Native.Nat.{ℕ, ◌+◌, ◌-◌, ◌*◌, ◌^◌, ◌≤◌}
+use Prim.Native.Nat.{ℕ, ◌+◌, ◌*◌, ◌^◌, ◌≤◌}
 use native.Mathlib.Omega.{arith}
 use lib.IntN.{ℤ, pos}
 use Rattle.naturals.specs.Sum.{sum_to, prod_to}
@@ -19,13 +19,12 @@ use Rattle.numbering.specs.Point.{at, is_index, indexed, is_point}
 use Rattle.numbering.specs.Number.{ending, rank, digit, position, first_of, number}
 use Rattle.numbering.specs.Inverse.{block, last_level, level_of, sum_at, within, level_at, index_of, index_at}
 use Rattle.hierarchy.specs.Turns.{value_at}
-use Rattle.shapes.specs.declared.Shape.{Shape}
 use Rattle.shapes.specs.Shapes.{sparse, check_shape, points_of, check_length}
 use Rattle.grids.specs.Grids.{level_on, index_on}
 use Rattle.interpolation.specs.Weighted.{weighted, weighted_sum}
 use Rattle.surfaces.specs.Weights.{unit, is_coordinate, distance, weight, joint}
 use Rattle.surfaces.specs.Surface.{weight_in, product_in, joint_in, surface_in, joint_sum_in, rounded, estimate_in, surface}
-use Rattle.surfaces.specs.Margin.{above_zero, is_reached, size_reached, reached, rounded_up, margin, reached_in}
+use Rattle.surfaces.specs.Margin.{above_zero, is_reached, absolute_reached, absolute_sum, rounded_up, margin, absolute_sum_in}
 use Rattle.states.specs.States.{has, is_other, first_axis, check_axes, check_bits, check_state}
 use Rattle.estimates.specs.declared.Estimated.{Estimated}
 use Rattle.estimates.specs.Estimates.{check_forward, inside_at, first_outside, check_coordinates, check_estimate}
@@ -43,22 +42,22 @@ exact d c xs = surface (sparse d 0) (value_at (c ∷ [])) (at xs)
 -- The coefficient 2^47 on two axes at 1 and 1: each weight is 2 and the joint weight 0, so the estimate is 0; but the exact value is 512.
 abbrev pub JointWeightZero : Type 0
 JointWeightZero =
-    Answers 2 (pos (2 ^ 47)) (1 ∷ 1 ∷ []) (record { estimate = pos 0; reached = 2 ^ 47; margin = 134217729 })
+    Answers 2 (pos (2 ^ 47)) (1 ∷ 1 ∷ []) (record { estimate = pos 0; absolute_sum = 2 ^ 47; margin = 134217729 })
     × (exact 2 (pos (2 ^ 47)) (1 ∷ 1 ∷ []) ≡ pos (512 * unit ^ 2))
 
 -- The coefficient 1 on one axis at a quarter: the exact value is a half and the estimate 1, so that half a unit is attained.
 abbrev pub HalfAttained : Type 0
 HalfAttained =
-    Answers 1 (pos 1) (262144 ∷ []) (record { estimate = pos 1; reached = 1; margin = 1 })
+    Answers 1 (pos 1) (262144 ∷ []) (record { estimate = pos 1; absolute_sum = 1; margin = 1 })
     × (2 * apart unit (exact 1 (pos 1) (262144 ∷ [])) (pos 1) ≡ unit)
 
 -- The coefficient 2^47 on two axes at 1 and 262,143: the weights are 2 and 524,286, and the joint weight 0. Twice the distance is more than 99 hundredths of
 -- the bound.
 abbrev pub NearlyAttained : Type 0
 NearlyAttained =
-    Answers 2 (pos (2 ^ 47)) (1 ∷ 262143 ∷ []) (record { estimate = pos 0; reached = 2 ^ 47; margin = 134217729 })
+    Answers 2 (pos (2 ^ 47)) (1 ∷ 262143 ∷ []) (record { estimate = pos 0; absolute_sum = 2 ^ 47; margin = 134217729 })
     × (99 * (unit ^ 2 + 2 * (2 ^ 47 * unit)) ≤ 100 * (2 * apart (unit ^ 2) (exact 2 (pos (2 ^ 47)) (1 ∷ 262143 ∷ [])) (pos 0)))
 
 pub margins : JointWeightZero × HalfAttained × NearlyAttained
-unfolding above_zero is_reached size_reached reached rounded_up margin reached_in surface_in product_in prod_to estimate_with_margin sum_to all choose vectors shell start points is_index indexed is_point ending rank digit position first_of number check_shape points_of check_length level_on index_on block last_level level_of sum_at within level_at index_of index_at value_at first_failing total nearest_up nearest in_limit weighted weighted_sum unit is_coordinate distance weight weight_in joint joint_in joint_sum_in rounded estimate_in has is_other first_axis check_axes check_bits check_state content_at check_forward inside_at first_outside check_coordinates check_estimate
+unfolding above_zero is_reached absolute_reached absolute_sum rounded_up margin absolute_sum_in surface_in product_in prod_to estimate_with_margin sum_to all choose vectors shell start points is_index indexed is_point ending rank digit position first_of number check_shape points_of check_length level_on index_on block last_level level_of sum_at within level_at index_of index_at value_at first_failing total nearest_up nearest in_limit weighted weighted_sum unit is_coordinate distance weight weight_in joint joint_in joint_sum_in rounded estimate_in has is_other first_axis check_axes check_bits check_state content_at check_forward inside_at first_outside check_coordinates check_estimate
 margins = ((refl, refl), (refl, refl), (refl, omega arith))

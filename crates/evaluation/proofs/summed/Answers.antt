@@ -53,7 +53,7 @@ taken-term-requires c =
     )
 
 found : (c : After-taken-term) → length (take c.args.shape.axes c.tabulated-tabulated.result) ≡ c.args.shape.axes →
-    Found c.args.asked (take c.args.shape.axes c.tabulated-tabulated.result) (at c.loop-hats.vector.levels) c.args.shape.axes c.taken-term.result
+    Found (take c.args.shape.axes c.tabulated-tabulated.result) (at c.loop-hats.vector.levels) c.args.shape.axes c.taken-term.result
 found c long = rw long at c.taken-term.ensures
 
 -- The value read, as the table has it.
@@ -136,27 +136,27 @@ loop-hats-preserved c =
       stepped c.requires inv.0 here hats term c.next.new.self c.next.ensures (rw (is, value) at c.add.ensures.high) (rw (is, value) at c.add.ensures.low),
       omega (arith, c.split_at.ensures.back_len, inv.1),
       c.split_at.ensures.back ∙ ap₂ (λ (n : ℕ) (l : List ℤ). drop n l) size inv.2 ∙ drop-drop step before xs,
-      tallied c.requires inv.0 here hats term c.next.new.self inv.3 c.next.ensures (ap (λ (k : ℕ). c.loop-hats.reached + k) (rw (is, value) at c.size-reached.ensures)),
+      tallied c.requires inv.0 here hats term c.next.new.self inv.3 c.next.ensures (ap (λ (k : ℕ). c.loop-hats.absolute_sum + k) (rw (is, value) at c.absolute-absolute_sum.ensures)),
     )
 
-pub overflow_add-reached : goal.overflow_add-reached
+pub overflow_add-absolute_sum : goal.overflow_add-absolute_sum
 unfolding first
-overflow_add-reached c =
-    let seen = goal.at.overflow_add-reached c in
+overflow_add-absolute_sum c =
+    let seen = goal.at.overflow_add-absolute_sum c in
     let inv = c.loop-hats.invariant in
     let here = more seen.In-loop-hats in
     let hats = hats_at seen.After-tabulated-tabulated in
     let term = found seen.After-taken-term (hats_long seen.After-tabulated-tabulated) in
     let value = to_z-of_z w64 (get_or c.args.table.now (first seen.In-loop-hats + c.taken-term.result.position) (pos 0)) (value_fits c.requires inv.0 here hats term) in
-    record { fits = omega (arith, tallied_room inv.0 inv.3, rw (read seen.After-taken-term, value) at c.size-reached.ensures, size_in c.requires inv.0 here hats term) }
+    record { fits = omega (arith, tallied_room inv.0 inv.3, rw (read seen.After-taken-term, value) at c.absolute-absolute_sum.ensures, size_in c.requires inv.0 here hats term) }
 
 pub returns : goal.returns
 returns c =
     let none : length c.loop-hats.rest.now ≡ 0 = eqb-true (length c.loop-hats.rest.now) 0 (sym c.is_empty.ensures ∙ c.loop-hats-test.false) in
     let end : points_of c.args.shape ≤ length c.args.table.now - length c.loop-hats.rest.now = omega (arith, c.requires.long, none) in
     let estimate = to_z-of_z w64 c.joined.result (record { sfits = c.joined.type_inv }) ∙ c.joined.ensures ∙ walked_ends c.loop-hats.invariant.0 end in
-    let reached = tallied_ends c.loop-hats.invariant.0 c.loop-hats.invariant.3 end in
+    let absolute_sum = tallied_ends c.loop-hats.invariant.0 c.loop-hats.invariant.3 end in
     record {
-      value = rw (estimate, reached) refl;
+      value = rw (estimate, absolute_sum) refl;
       room = tallied_room c.loop-hats.invariant.0 c.loop-hats.invariant.3;
     }

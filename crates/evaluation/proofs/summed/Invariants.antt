@@ -12,7 +12,7 @@ invariant-loop-hats l =
     Walked l.fn.shape l.table (at l.coordinates) l.sum.high l.sum.low (length l.table - length l.rest) l.vector
     × (length l.rest ≤ length l.table)
     × (l.rest ≡ drop (length l.table - length l.rest) l.table)
-    × Tallied l.fn.asked l.fn.shape l.table (at l.coordinates) l.reached (length l.table - length l.rest) l.vector
+    × Tallied l.fn.asked l.fn.shape l.table (at l.coordinates) l.absolute_sum (length l.table - length l.rest) l.vector
 
 abbrev pub decreases-loop-hats : goal.decreases-loop-hats
 decreases-loop-hats l = length l.rest

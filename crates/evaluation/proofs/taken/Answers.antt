@@ -10,12 +10,12 @@ use Rattle.numbering.specs.Point.{at}
 use Rattle.surfaces.specs.Weights.{unit}
 use Rattle.surfaces.proofs.Unit.{unit_bits, unit_is}
 use Rattle.evaluation.specs.Steps.{weight_at}
-use Rattle.evaluation.proofs.Taking.{byte_is, taken_starts, level_small, sum_fits, position_fits, joint_fits, taken_steps}
+use Rattle.evaluation.proofs.Taking.{taken_starts, level_small, sum_fits, position_fits, joint_fits, taken_steps}
 use Rattle.evaluation.proofs.taken.Goals.{In-Some}
 use Rattle.evaluation.proofs.taken.Goals as goal
 
 pub loop-axis-init : goal.loop-axis-init
-loop-axis-init c = rw (c.from-reached.ensures, byte_is c.args.asked) (taken_starts _ _ _ _)
+loop-axis-init c = taken_starts _ _ _
 
 -- the hats and the level at hand are those of the axis at hand
 turn : (c : In-Some) →

@@ -6,4 +6,4 @@ use Rattle.evaluation.proofs.Taking.{Taken}
 use Rattle.evaluation.proofs.taken.Given as goal
 
 abbrev pub invariant-loop-axis : goal.invariant-loop-axis
-invariant-loop-axis l = Taken l.fn.asked l.hats (at l.levels) (length l.hats) (length l.yielded) l.position l.joint l.reached l.sum
+invariant-loop-axis l = Taken l.hats (at l.levels) (length l.hats) (length l.yielded) l.position l.joint l.reached l.sum

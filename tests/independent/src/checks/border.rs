@@ -20,7 +20,7 @@ pub fn border(draw: &mut Draw, report: &mut Report) {
                         let got = answered(draw, report, axes, level, inputs::all_bits(axes), &table, &coordinates);
                         let say = || format!("axes {axes} level {level} at {coordinates:?} table {}", short(&table));
                         report.same("estimate", "0 on the border", &Ok(0), &got.estimate, &say);
-                        let nothing = Estimated { estimate: 0, reached: 0, margin: 1 };
+                        let nothing = Estimated { estimate: 0, absolute_sum: 0, margin: 1 };
                         report.same("margin", "nothing on the border", &Ok(nothing), &got.with_margin, &say);
                     }
                 }

@@ -34,7 +34,7 @@ const SUMS: [(&str, Adds); 14] = [
 
 /// The margin, by d and S. To the nearest, halves down, is without the half; to the nearest, halves up, is 1 more than
 /// the rest rounded down.
-type Margin = fn(axes: i128, reached: i128) -> i128;
+type Margin = fn(axes: i128, absolute_sum: i128) -> i128;
 
 const MARGIN: Margin = |d, s| up(UNIT + 2 * (d - 1) * s);
 
@@ -109,7 +109,7 @@ pub fn of_call(report: &mut Report, axes: u32, level: u32, table: &[i64], coordi
             *sum += adds(c.into(), left);
         }
     }
-    let (d, s) = (i128::from(axes), i128::from(answer.reached));
+    let (d, s) = (i128::from(axes), i128::from(answer.absolute_sum));
     let say = || format!("axes {axes} level {level} coordinates {coordinates:?} table {}", super::short(table));
     let mut same = |what, one, other| report.same("separate code with itself", what, &one, &other, &say);
     same("S", s, right);

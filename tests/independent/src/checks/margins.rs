@@ -20,8 +20,8 @@ struct Outputs {
     before: u64,
     estimate: i64,
     after_estimate: u64,
-    reached: u64,
-    after_reached: u64,
+    absolute_sum: u64,
+    after_absolute_sum: u64,
     margin: u64,
     after_margin: u64,
     place: u64,
@@ -35,8 +35,8 @@ impl Outputs {
             before: draw.bits(),
             estimate: draw.bits() as i64,
             after_estimate: draw.bits(),
-            reached: draw.bits(),
-            after_reached: draw.bits(),
+            absolute_sum: draw.bits(),
+            after_absolute_sum: draw.bits(),
             margin: draw.bits(),
             after_margin: draw.bits(),
             place: draw.bits(),
@@ -45,7 +45,7 @@ impl Outputs {
     }
 
     fn answered(&self) -> Estimated {
-        Estimated { estimate: self.estimate, reached: self.reached, margin: self.margin }
+        Estimated { estimate: self.estimate, absolute_sum: self.absolute_sum, margin: self.margin }
     }
 }
 
@@ -71,7 +71,7 @@ pub fn beside(
     let junk = Outputs::any(draw);
     let mut out = junk;
     let (handed, handed_at) = (table.to_vec(), coordinates.to_vec());
-    let (estimate, reached, margin) = (&mut out.estimate, &mut out.reached, &mut out.margin);
+    let (estimate, absolute_sum, margin) = (&mut out.estimate, &mut out.absolute_sum, &mut out.margin);
     let got = boundary::estimate_with_margin(
         axes,
         level,
@@ -79,14 +79,14 @@ pub fn beside(
         &handed,
         &handed_at,
         estimate,
-        reached,
+        absolute_sum,
         margin,
         &mut out.place,
     );
     report.same(CALL, "answer and place", &answer(&want), &(got, out.place), &say);
     report.same(CALL, "estimate, S and margin", &want.unwrap_or(junk.answered()), &out.answered(), &say);
-    let Outputs { estimate, reached, margin, place, .. } = out;
-    report.same(CALL, "beside the outputs", &Outputs { estimate, reached, margin, place, ..junk }, &out, &say);
+    let Outputs { estimate, absolute_sum, margin, place, .. } = out;
+    report.same(CALL, "beside the outputs", &Outputs { estimate, absolute_sum, margin, place, ..junk }, &out, &say);
     report.same(CALL, "table", table, &handed[..], &say);
     report.same(CALL, "coordinates", coordinates, &handed_at[..], &say);
 
@@ -107,8 +107,8 @@ pub fn beside(
 
 /// The same as the wrapper says it.
 pub fn wrapped(answer: Estimated) -> numolefays::Estimated {
-    let Estimated { estimate, reached, margin } = answer;
-    numolefays::Estimated { estimate, reached, margin }
+    let Estimated { estimate, absolute_sum, margin } = answer;
+    numolefays::Estimated { estimate, absolute_sum, margin }
 }
 
 /// The answer against the exact value: within the margin, and within what was rounded up to it.

@@ -86,7 +86,7 @@ pub fn neighbouring_tables(seed: u64, rounds: u64, report: &mut Report) {
 fn turn_and_read(shape: Shape, table: &mut [i64], shared: &[i64], coordinates: &[u32]) -> Option<(u8, i64, Estimated)> {
     let mut state = shape.load(table).ok()?;
     let all = State::saved(shape, inputs::all_bits(shape.axes));
-    let (mut estimate, mut with_margin) = (0, Estimated { estimate: 0, reached: 0, margin: 0 });
+    let (mut estimate, mut with_margin) = (0, Estimated { estimate: 0, absolute_sum: 0, margin: 0 });
     for _ in 0..2 {
         for axis in 1..=shape.axes {
             state.forward(table, axis).ok()?;

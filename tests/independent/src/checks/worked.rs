@@ -218,7 +218,7 @@ fn margins(report: &mut Report) {
         for coefficient in [1 << 47, -1 << 47] {
             let there = margin_and_share(report, axes, 0, &[coefficient], &at, answer, 1_048_575 - 2 * u64::from(axes));
             let hundredth_less =
-                Estimated { estimate: 0, reached: answer[1] as u64 / 100 * 99, margin: answer[2] as u64 / 100 * 99 };
+                Estimated { estimate: 0, absolute_sum: answer[1] as u64 / 100 * 99, margin: answer[2] as u64 / 100 * 99 };
             let exact = there.exact();
             let within = (exact.within_margin(&hundredth_less), exact.within_bound(axes, &hundredth_less));
             let say = || format!("worked: coordinates {at:?} coefficient {coefficient}");
@@ -246,11 +246,11 @@ fn margin_and_share(
     level: u32,
     table: &[i64],
     at: &[u32],
-    [estimate, reached, margin]: [i64; 3],
+    [estimate, absolute_sum, margin]: [i64; 3],
     share: u64,
 ) -> Reached {
     let say = || format!("worked: axes {axes} level {level} coordinates {at:?} table {table:?}");
-    let want = Estimated { estimate, reached: reached as u64, margin: margin as u64 };
+    let want = Estimated { estimate, absolute_sum: absolute_sum as u64, margin: margin as u64 };
     let all = inputs::all_bits(axes);
     let library = State::saved(Shape::new(axes, level), all).estimate_with_margin(table, at);
     report.made("margin", 1);

@@ -10,7 +10,7 @@ use super::Refused;
 #[derive(Clone, Copy, Debug, PartialEq, Eq)]
 pub struct Estimated {
     pub estimate: i64,
-    pub reached: u64,
+    pub absolute_sum: u64,
     pub margin: u64,
 }
 
@@ -56,8 +56,8 @@ impl Reached {
     }
 
     pub fn with_margin(&self, estimate: i64) -> Estimated {
-        let reached = self.sum();
-        Estimated { estimate, reached, margin: margin(self.axes, reached) }
+        let absolute_sum = self.sum();
+        Estimated { estimate, absolute_sum, margin: margin(self.axes, absolute_sum) }
     }
 
     pub fn exact(&self) -> Exact {
@@ -83,9 +83,9 @@ impl Reached {
 }
 
 /// The least whole number that is not below 1/2 + (d − 1) × S / 1,048,576.
-fn margin(axes: u32, reached: u64) -> u64 {
+fn margin(axes: u32, absolute_sum: u64) -> u64 {
     // in 2,097,152nds
-    let bound = UNIT + 2 * i128::from(axes - 1) * i128::from(reached);
+    let bound = UNIT + 2 * i128::from(axes - 1) * i128::from(absolute_sum);
     let about = bound / (2 * UNIT);
     let least = (about - 1..=about + 1).find(|whole| whole * 2 * UNIT >= bound).expect("three numbers");
     u64::try_from(least).expect("a margin fits 64 bits")
@@ -139,17 +139,17 @@ impl Exact {
 
     /// Whether it is no more than 1/2 + (d − 1) × S / 1,048,576 from it.
     pub fn within_bound(&self, axes: u32, answer: &Estimated) -> bool {
-        self.off(answer.estimate).times(2) <= self.twice_bound(axes, answer.reached)
+        self.off(answer.estimate).times(2) <= self.twice_bound(axes, answer.absolute_sum)
     }
 
     /// Whether it is more than so many 1,048,576ths of that from it.
     pub fn beyond_share(&self, share: u64, axes: u32, answer: &Estimated) -> bool {
-        self.off(answer.estimate).times(2 * UNIT as u64) > self.twice_bound(axes, answer.reached).times(share)
+        self.off(answer.estimate).times(2 * UNIT as u64) > self.twice_bound(axes, answer.absolute_sum).times(share)
     }
 
     /// 2 × (1/2 + (d − 1) × S / 1,048,576), times what is under the line: that of one axis less, where S is.
-    fn twice_bound(&self, axes: u32, reached: u64) -> Natural {
-        self.under.plus(power_of_unit(axes - 1).times(2 * u64::from(axes - 1)).times(reached))
+    fn twice_bound(&self, axes: u32, absolute_sum: u64) -> Natural {
+        self.under.plus(power_of_unit(axes - 1).times(2 * u64::from(axes - 1)).times(absolute_sum))
     }
 }
 
