@@ -23,7 +23,7 @@ use Rattle.grids.specs.Grids.{numbered}
 use Rattle.interpolation.specs.Weighted.{weighted, weighted_sum}
 use Rattle.interpolation.proofs.Weighted.{weighted_sum_cong, weighted_sum_plus, weighted_sum_times}
 use Rattle.surfaces.specs.Weights.{unit, joint}
-use Rattle.surfaces.specs.Surface.{weight_in, product_in, joint_in, surface_in, joint_sum_in, rounded, estimate_in, exact_value_in, exact_value, estimate_at}
+use Rattle.surfaces.specs.Surface.{Fraction, weight_in, product_in, joint_in, surface_in, joint_sum_in, rounded, estimate_in, exact_value_in, exact_value, estimate_at}
 use Rattle.surfaces.specs.Margin.{absolute_reached, absolute_sum, WithinMargin, rounded_up, margin, DiffersByAtMost, absolute_sum_in, absolute_sum_at}
 use Rattle.surfaces.proofs.Unit.{unit_pos}
 use Rattle.surfaces.proofs.Cells.{weight_le}
@@ -63,6 +63,13 @@ module _ (m d u : ℕ) (some : 0 < u) (w : ℕ → ℕ → ℕ) (small : (p t : 
 
   abbrev joint_weight : ℕ → ℕ
   joint_weight p = joint u (w p) d
+
+  -- The estimate and the exact value of such weights.
+  abbrev found : ℤ
+  found = rounded u (weighted_sum m c joint_weight)
+
+  abbrev exact : Fraction
+  exact = record { numerator = weighted_sum m c product; denominator = u ^ d }
 
   -- What rounding loses of a point's product, counted in the unit to the d + 1.
   loss : ℕ → ℕ
@@ -138,20 +145,18 @@ module _ (m d u : ℕ) (some : 0 < u) (w : ℕ → ℕ → ℕ) (small : (p t : 
       )
 
   -- The margin, times twice the unit and the unit to the d.
-  margin_times : apart (u ^ d) (weighted_sum m c product) (rounded u (weighted_sum m c joint_weight)) * (2 * u) ≤ (u + 2 * ((d - 1) * absolute_sum m d w c)) * u ^ d
+  margin_times : apart (u ^ d) (exact.numerator) found * (2 * u) ≤ (u + 2 * ((d - 1) * absolute_sum m d w c)) * u ^ d
   unfolding rounded
   margin_times =
-      distance_bound (rounded u (weighted_sum m c joint_weight)) (weighted_sum m c joint_weight) (weighted_sum m c product) (weighted_sum m c loss)
+      distance_bound found (weighted_sum m c joint_weight) (exact.numerator) (weighted_sum m c loss)
       (u ^ d) (d - 1) (absolute_sum m d w c)
       sum_with_loss
       (nearest_half u (weighted_sum m c joint_weight) some)
       lost
 
   -- The paper's bound, times twice the unit to the d.
-  pub weights_within_margin :
-      2 * apart (u ^ d) (weighted_sum m c product) (rounded u (weighted_sum m c joint_weight)) ≤ u ^ d + 2 * ((d - 1) * absolute_sum m d w c * u ^ (d - 1))
-  weights_within_margin =
-      cancelled d (apart (u ^ d) (weighted_sum m c product) (rounded u (weighted_sum m c joint_weight))) (absolute_sum m d w c) margin_times
+  pub weights_within_margin : WithinMargin u d (absolute_sum m d w c) found exact
+  weights_within_margin = cancelled d (apart (u ^ d) (exact.numerator) found) (absolute_sum m d w c) margin_times
     where
       one_power : (a r e D : ℕ) → D ≡ e * u → a * (2 * u) ≤ (u + 2 * r) * D → 2 * a ≤ D + 2 * (r * e)
       one_power a r e D power h =
@@ -164,11 +169,11 @@ module _ (m d u : ℕ) (some : 0 < u) (w : ℕ → ℕ → ℕ) (small : (p t : 
           rw last (one_power a (k * r) (u ^ k) (u ^ suc k) (pow-suc u k) (rw last at h))
 
   -- Rounded up to a whole number.
-  pub weights_within_whole : apart (u ^ d) (weighted_sum m c product) (rounded u (weighted_sum m c joint_weight)) ≤ margin u d (absolute_sum m d w c) * u ^ d
+  pub weights_within_whole : DiffersByAtMost (margin u d (absolute_sum m d w c)) found exact
   unfolding margin
   weights_within_whole =
       let bound : ℕ = u + 2 * ((d - 1) * absolute_sum m d w c) in
-      widened (apart (u ^ d) (weighted_sum m c product) (rounded u (weighted_sum m c joint_weight))) bound (rounded_up (2 * u) bound) (u ^ d)
+      widened (apart (u ^ d) (exact.numerator) found) bound (rounded_up (2 * u) bound) (u ^ d)
       margin_times
       (rounded_up_is (2 * u) bound (omega (arith, some))).0
     where
