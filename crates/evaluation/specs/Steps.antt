@@ -68,7 +68,7 @@ pub record Found (hats : List (List Hat)) (l : ℕ → ℕ) (d : ℕ) (term : Te
   pub joint : term.joint ≡ joint_of hats l d
   pub reached : term.reached ≡ reached_of hats l d
 
--- On the first d axes, weights of at most the unit, cells among those of their level, and 0 or 1.
+-- On the first d axes, weights of at most the unit, cells among those of their level, and beside each weight a 0 or a 1.
 pub record Bounded (d : ℕ) (hats : List (List Hat)) : Type 0 where
   pub few : d ≤ 8
   pub weight : (t l : ℕ) → t < d → l < 9 → (hat_of hats t l).weight ≤ unit

@@ -7,13 +7,12 @@ ghost use Rattle.surfaces.specs.Margin.{margin};
 
 use surfaces::BITS;
 
-// 1/2 + (d − 1) × S / the unit, rounded up: the unit less one is added before the division. (S is of at most 12,870 points, so that 7 times S and more fits 64
-// bits, and nothing need be divided first.)
+// 1/2 + (d − 1) × S / the unit, rounded up. (S is of at most 12,870 points, so that 7 times S and more fits 64 bits, and nothing need be divided first.)
+#[tactic(auto, using(crate::proofs::Dividing::divided))]
 pub fn margin(axes: u32, absolute_sum: u64) -> u64
     requires { (1 ≤ axes) × (axes ≤ 8) × (absolute_sum ≤ 12870 * 2 ^ 47) }
     ensures { result ≡ margin unit axes absolute_sum }
 {
     let half = 1 << (BITS - 1);
-    let last = (1 << BITS) - 1;
-    (u64::from(axes - 1) * absolute_sum + half + last) >> BITS
+    (u64::from(axes - 1) * absolute_sum + half).div_ceil(1 << BITS)
 }

@@ -7,6 +7,7 @@ use mathlib.Core.Logic.{⊎_elim}
 use Prim.Native.Nat.{ℕ, zero, suc, ◌+◌, ◌-◌, ◌*◌, ◌^◌, ◌≤◌, ◌<◌}
 use native.Mathlib.Nat.{mul-le-mul_left, mul-le-mul_right, le_of_mul-le-mul_right, mul-zero, zero-mul, add-mul, div-add-mod', mod-lt, pow-zero, pow-suc, eq-zero-or-pos}
 use native.Mathlib.Omega.{arith}
+use Rattle.std.proofs.lemmas.Grind.{div_ceil_times}
 use Rattle.std.proofs.lemmas.Int.{ints}
 use lib.IntN.{ℤ, pos, neg_ℤ, nat_abs, ◌+ℤ◌, ◌-ℤ◌, ◌*ℤ◌}
 use Rattle.naturals.specs.Sum.{sum_to, prod_to}
@@ -24,7 +25,7 @@ use Rattle.interpolation.specs.Weighted.{weighted, weighted_sum}
 use Rattle.interpolation.proofs.Weighted.{weighted_sum_cong, weighted_sum_plus, weighted_sum_times}
 use Rattle.surfaces.specs.Weights.{unit, joint}
 use Rattle.surfaces.specs.Surface.{Fraction, weight_in, product_in, joint_in, surface_in, joint_sum_in, rounded, estimate_in, exact_value_in, exact_value, estimate_at}
-use Rattle.surfaces.specs.Margin.{absolute_reached, absolute_sum, WithinMargin, rounded_up, margin, DiffersByAtMost, absolute_sum_in, absolute_sum_at}
+use Rattle.surfaces.specs.Margin.{absolute_reached, absolute_sum, WithinMargin, margin, DiffersByAtMost, absolute_sum_in, absolute_sum_at}
 use Rattle.surfaces.proofs.Unit.{unit_pos}
 use Rattle.surfaces.proofs.Cells.{weight_le}
 use Rattle.surfaces.proofs.Joint.{joint_under, joint_over}
@@ -32,13 +33,11 @@ use Rattle.surfaces.proofs.Reached.{product_reached}
 
 -- ---- the margin rounded up
 
--- The smallest whole number that is not below the quotient.
-pub rounded_up_is : (m n : ℕ) → 0 < m → (n ≤ rounded_up m n * m) × (rounded_up m n * m < n + m)
-unfolding rounded_up
-rounded_up_is m n some =
-    let whole = div-add-mod' (n + (m - 1)) m in
-    let left = mod-lt (n + (m - 1)) some in
-    (omega (arith, whole, left), omega (arith, whole, some))
+-- The smallest whole number that is not below 1/2 + (d − 1) × s / u, both times 2 × u.
+module _ (u d s : ℕ) (some : 0 < u) where
+  pub margin_least : (u + 2 * ((d - 1) * s) ≤ margin u d s * (2 * u)) × (margin u d s * (2 * u) < u + 2 * ((d - 1) * s) + 2 * u)
+  unfolding margin
+  margin_least = div_ceil_times (u + 2 * ((d - 1) * s)) (2 * u) (omega (arith, some))
 
 -- ---- sums
 
@@ -170,12 +169,10 @@ module _ (m d u : ℕ) (some : 0 < u) (w : ℕ → ℕ → ℕ) (small : (p t : 
 
   -- Rounded up to a whole number.
   pub weights_within_whole : DiffersByAtMost (margin u d (absolute_sum m d w c)) found exact
-  unfolding margin
   weights_within_whole =
-      let bound : ℕ = u + 2 * ((d - 1) * absolute_sum m d w c) in
-      widened (apart (u ^ d) (exact.numerator) found) bound (rounded_up (2 * u) bound) (u ^ d)
+      widened (apart (u ^ d) (exact.numerator) found) (u + 2 * ((d - 1) * absolute_sum m d w c)) (margin u d (absolute_sum m d w c)) (u ^ d)
       margin_times
-      (rounded_up_is (2 * u) bound (omega (arith, some))).0
+      (margin_least u d (absolute_sum m d w c) some).0
     where
       widened : (a b k D : ℕ) → a * (2 * u) ≤ b * D → b ≤ k * (2 * u) → a ≤ k * D
       widened a b k D h up =

@@ -1,7 +1,8 @@
 -- How far an estimate can be off from the exact value of the surface (document 02, f): by at most 1/2 + (d − 1) × S / the unit. First of any points, w p t
 -- being the weight of point number p on axis t, whatever grid they are of; then of numbered points and of a shape.
 -- Assumes nothing.
-use Rattle.std.specs.Prelude.{Bool, ℕ, suc, ◌+◌, ◌-◌, ◌*◌, ◌/◌, ◌^◌, ◌≤◌, ltb, ℤ, nat_abs, if◌then◌else◌}
+use Rattle.std.specs.Prelude.{Bool, ℕ, suc, ◌+◌, ◌-◌, ◌*◌, ◌^◌, ◌≤◌, ltb, ℤ, nat_abs, if◌then◌else◌}
+use Rattle.std.specs.Int.{div_ceil}
 use Rattle.naturals.specs.Sum.{sum_to}
 use Rattle.naturals.specs.Test.{all}
 use Rattle.integers.specs.Nearest.{apart}
@@ -36,13 +37,9 @@ absolute_sum m d w c = sum_to (absolute_reached d w c) m
 abbrev pub WithinMargin : ℕ → ℕ → ℕ → ℤ → Fraction → Type 0
 WithinMargin u d s z f = 2 * apart f.denominator f.numerator z ≤ f.denominator + 2 * ((d - 1) * s * u ^ (d - 1))
 
--- A natural number divided by m and rounded up.
-unfoldable pub rounded_up : ℕ → ℕ → ℕ
-rounded_up m n = (n + (m - 1)) / m
-
--- 1/2 + (d − 1) × s / u, which is u + 2 × (d − 1) × s over 2 × u, rounded up.
+-- 1/2 + (d − 1) × s / u, which is u + 2 × (d − 1) × s over 2 × u, rounded up to a whole number.
 unfoldable pub margin : ℕ → ℕ → ℕ → ℕ
-margin u d s = rounded_up (2 * u) (u + 2 * ((d - 1) * s))
+margin u d s = div_ceil (u + 2 * ((d - 1) * s)) (2 * u)
 
 -- The whole number z differs from the fraction f by at most k.
 abbrev pub DiffersByAtMost : ℕ → ℤ → Fraction → Type 0

@@ -1,5 +1,5 @@
 -- How far estimates are off, by computing: with a joint weight of 0 the exact value can be far from 0; on one axis half a unit is attained; on two axes an
--- estimate is more than 99 hundredths of the bound off.
+-- estimate is at least 99 hundredths of the bound off.
 -- Assumes nothing.
 use Rattle.std.specs.Prelude.{Ok}
 use mathlib.Core.List.{List, [], ◌∷◌}
@@ -24,7 +24,7 @@ use Rattle.grids.specs.Grids.{level_on, index_on}
 use Rattle.interpolation.specs.Weighted.{weighted, weighted_sum}
 use Rattle.surfaces.specs.Weights.{unit, is_coordinate, distance, weight, joint}
 use Rattle.surfaces.specs.Surface.{weight_in, product_in, joint_in, surface_in, joint_sum_in, rounded, estimate_in, surface}
-use Rattle.surfaces.specs.Margin.{above_zero, is_reached, absolute_reached, absolute_sum, rounded_up, margin, absolute_sum_in}
+use Rattle.surfaces.specs.Margin.{above_zero, is_reached, absolute_reached, absolute_sum, margin, absolute_sum_in}
 use Rattle.states.specs.States.{has, is_other, first_axis, check_axes, check_bits, check_state}
 use Rattle.estimates.specs.declared.Estimated.{Estimated}
 use Rattle.estimates.specs.Estimates.{check_forward, inside_at, first_outside, check_coordinates, check_estimate}
@@ -51,7 +51,7 @@ HalfAttained =
     Answers 1 (pos 1) (262144 ∷ []) (record { estimate = pos 1; absolute_sum = 1; margin = 1 })
     × (2 * apart unit (exact 1 (pos 1) (262144 ∷ [])) (pos 1) ≡ unit)
 
--- The coefficient 2^47 on two axes at 1 and 262,143: the weights are 2 and 524,286, and the joint weight 0. Twice the distance is more than 99 hundredths of
+-- The coefficient 2^47 on two axes at 1 and 262,143: the weights are 2 and 524,286, and the joint weight 0. Twice the distance is at least 99 hundredths of
 -- the bound.
 abbrev pub NearlyAttained : Type 0
 NearlyAttained =
@@ -59,5 +59,5 @@ NearlyAttained =
     × (99 * (unit ^ 2 + 2 * (2 ^ 47 * unit)) ≤ 100 * (2 * apart (unit ^ 2) (exact 2 (pos (2 ^ 47)) (1 ∷ 262143 ∷ [])) (pos 0)))
 
 pub margins : JointWeightZero × HalfAttained × NearlyAttained
-unfolding above_zero is_reached absolute_reached absolute_sum rounded_up margin absolute_sum_in surface_in product_in prod_to estimate_with_margin sum_to all choose vectors shell start points is_index indexed is_point ending rank digit position first_of number check_shape points_of check_length level_on index_on block last_level level_of sum_at within level_at index_of index_at value_at first_failing total nearest_up nearest in_limit weighted weighted_sum unit is_coordinate distance weight weight_in joint joint_in joint_sum_in rounded estimate_in has is_other first_axis check_axes check_bits check_state content_at check_forward inside_at first_outside check_coordinates check_estimate
+unfolding above_zero is_reached absolute_reached absolute_sum margin absolute_sum_in surface_in product_in prod_to estimate_with_margin sum_to all choose vectors shell start points is_index indexed is_point ending rank digit position first_of number check_shape points_of check_length level_on index_on block last_level level_of sum_at within level_at index_of index_at value_at first_failing total nearest_up nearest in_limit weighted weighted_sum unit is_coordinate distance weight weight_in joint joint_in joint_sum_in rounded estimate_in has is_other first_axis check_axes check_bits check_state content_at check_forward inside_at first_outside check_coordinates check_estimate
 margins = ((refl, refl), (refl, refl), (refl, omega arith))
