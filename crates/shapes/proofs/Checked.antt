@@ -2,9 +2,10 @@
 -- length. The checks are tests of just this.
 -- Assumes nothing.
 use Rattle.std.specs.Prelude.{Ok}
-use mathlib.Core.Path.{◌≡◌}
-use mathlib.Core.Bool.{true, ◌&&◌}
+use mathlib.Core.Path.{◌≡◌, refl}
+use mathlib.Core.Bool.{Bool, true, false, ◌&&◌}
 use Prim.Native.Nat.{ℕ, ◌≤◌}
+use native.Mathlib.Omega.{arith}
 use lib.Dec.{leb, eqb}
 use borrow.Author.Tests.{leb-true, le-leb, eqb-true, eq-eqb}
 use Rattle.naturals.proofs.Tests.{and_left, and_right}
@@ -13,12 +14,26 @@ use Rattle.refusals.specs.Checks.{unless}
 use Rattle.refusals.proofs.Passing.{first_passed, next_passed, test_passed}
 use Rattle.shapes.specs.declared.Shape.{Shape}
 use Rattle.shapes.specs.declared.CheckedShape.{CheckedShape}
-use Rattle.shapes.specs.Shapes.{check_shape, check_axis, points_of, check_length}
+use Rattle.shapes.specs.Shapes.{most_axes, check_shape, check_axis, points_of, check_length}
 
 pub record InRange (s : Shape) : Type 0 where
   pub low : 1 ≤ s.axes
   pub high : s.axes ≤ 8
   pub top : s.level ≤ 8
+  pub most : s.axes ≤ most_axes s.border
+
+-- No sort of shape has more than 8 axes.
+pub most_small : (border : Bool) → most_axes border ≤ 8
+most_small true = omega arith
+most_small false = omega arith
+
+-- A shape with values on the border does not pass.
+pub plain : {s : Shape} → InRange s → s.border ≡ false
+plain {s} r = each s.border r.most
+  where
+    each : (border : Bool) → s.axes ≤ most_axes border → border ≡ false
+    each true few = absurd (omega (arith, r.low, few))
+    each false few = refl
 
 -- A number between two bounds, from the two tests.
 between : (a k b : ℕ) → leb a k && leb k b ≡ true → (a ≤ k) × (k ≤ b)
@@ -27,22 +42,24 @@ between a k b e = (leb-true a k (and_left (leb a k) (leb k b) e), leb-true k b (
 pub passed_in_range : (s : Shape) → check_shape s ≡ Ok tt → InRange s
 unfolding check_shape
 passed_in_range s e =
-    let axes = unless (leb 1 s.axes && leb s.axes 8) Axes in
+    let few : Bool = leb 1 s.axes && leb s.axes (most_axes s.border) in
+    let axes = unless few Axes in
     let level = unless (leb s.level 8) Level in
-    let bounds = between 1 s.axes 8 (test_passed (leb 1 s.axes && leb s.axes 8) Axes (first_passed axes level e)) in
+    let bounds = between 1 s.axes (most_axes s.border) (test_passed few Axes (first_passed axes level e)) in
     record {
       low = bounds.0;
-      high = bounds.1;
+      high = omega (arith, bounds.1, most_small s.border);
       top = leb-true s.level 8 (test_passed (leb s.level 8) Level (next_passed axes level e));
+      most = bounds.1;
     }
 
 pub in_range_passed : (s : Shape) → InRange s → check_shape s ≡ Ok tt
 unfolding check_shape
-in_range_passed s r = simp (le-leb 1 s.axes r.low, le-leb s.axes 8 r.high, le-leb s.level 8 r.top)
+in_range_passed s r = simp (le-leb 1 s.axes r.low, le-leb s.axes (most_axes s.border) r.most, le-leb s.level 8 r.top)
 
 -- The type of a checked shape says as much.
 pub checked_in_range : (c : CheckedShape) → InRange c.shape
-checked_in_range c = record { low = c.some; high = c.few; top = c.top }
+checked_in_range c = record { low = c.some; high = c.few; top = c.top; most = c.most }
 
 pub axis_in_range : (s : Shape) (axis : ℕ) → check_axis s axis ≡ Ok tt → (1 ≤ axis) × (axis ≤ s.axes)
 unfolding check_axis

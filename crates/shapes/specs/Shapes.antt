@@ -1,19 +1,24 @@
 -- Shapes, the count of their points, and the checks of a shape, of a table's length and of an axis (document 01, "Terms and limits").
 -- Assumes nothing.
 use Rattle.refusals.specs.declared.Refusal.{Refusal}
-use Rattle.std.specs.Prelude.{◌&&◌, ℕ, leb, eqb, Result, Ok, Err}
+use Rattle.std.specs.Prelude.{Bool, true, false, ◌&&◌, ℕ, leb, eqb, Result, Ok, Err}
 use Rattle.refusals.specs.declared.Refusal.TheVariants.{Axes, Level, TableLength, Axis}
 use Rattle.refusals.specs.Checks.{unless, ◌and_then◌, answer, Verdict}
 use Rattle.numbering.specs.Count.{points}
 use Rattle.shapes.specs.declared.Shape.{Shape}
 
--- The shape of d axes and top level n: one sparse table with a zero border (every shape is such today).
+-- The shape of d axes and top level n with a zero border: one sparse table.
 abbrev pub sparse : ℕ → ℕ → Shape
-sparse d n = record { axes = d; level = n }
+sparse d n = record { axes = d; level = n; border = false }
 
--- A shape has 1 to 8 axes, else refused with 1, and a top level of at most 8, else with 2.
+-- The most axes of a shape: 8 with a zero border. Tables with values on the border (document 02, g) are not built yet: no shape of theirs is passed.
+abbrev pub most_axes : Bool → ℕ
+most_axes true = 0
+most_axes false = 8
+
+-- A shape has from 1 to the most axes, else refused with 1, and a top level of at most 8, else with 2.
 unfoldable pub check_shape : Shape → Verdict
-check_shape s = unless (leb 1 s.axes && leb s.axes 8) Axes and_then unless (leb s.level 8) Level
+check_shape s = unless (leb 1 s.axes && leb s.axes (most_axes s.border)) Axes and_then unless (leb s.level 8) Level
 
 -- The largest number of points that is run (document 02, c).
 abbrev pub most_points : ℕ

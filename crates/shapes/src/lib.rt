@@ -4,16 +4,17 @@
 ghost use Rattle.std.specs.Prelude.{◌≡◌, ◌≤◌, IfOk};
 ghost use Rattle.refusals.specs.Checks.{verdict};
 ghost use Rattle.numbering.specs.Count.{vectors, start};
-ghost use Rattle.shapes.specs.Shapes.{check_shape, check_axis, points_of, check_length, counted};
+ghost use Rattle.shapes.specs.Shapes.{most_axes, check_shape, check_axis, points_of, check_length, counted};
 ghost use Rattle.shapes.specs.Rows.{Binomials};
 
 use refusals::Refusal;
 
-// A number of axes d and a top level n (document 01: a shape).
+// A number of axes d and a top level n, and whether there are values on the border (documents 01 and 02, g: a shape).
 #[derive(Clone, Copy)]
 pub struct Shape {
     pub axes: u32,
     pub level: u32,
+    pub border: bool,
 }
 
 // The largest number of points that is run (document 02, c).
@@ -31,23 +32,35 @@ const ROWS: [[u16; 9]; 8] = [
     [1, 8, 36, 120, 330, 792, 1716, 3432, 6435],
 ];
 
-// A shape that the check passes: 1 to 8 axes, and a top level of at most 8.
+// A shape that the check passes: 1 to 8 axes, no more than its sort may have, and a top level of at most 8.
 #[derive(Clone, Copy)]
 pub struct CheckedShape {
     pub shape: Shape,
     ghost some: { 1 ≤ shape.axes },
     ghost few: { shape.axes ≤ 8 },
     ghost top: { shape.level ≤ 8 },
+    ghost most: { shape.axes ≤ most_axes shape.border },
 }
 
 impl Shape {
+    // The most axes that a shape of its sort may have.
+    fn most_axes(self) -> u32
+        ensures { result ≡ most_axes self.border }
+    {
+        if self.border {
+            0
+        } else {
+            8
+        }
+    }
+
     // Refused with 1 or 2.
     pub fn check(self) -> Result<CheckedShape, Refusal>
         ensures verdict { verdict result ≡ check_shape self }
         ensures shape { IfOk result (λ checked. checked.shape ≡ self) }
     {
-        let Shape { axes, level } = self;
-        if !(1..=8).contains(&axes) {
+        let Shape { axes, level, .. } = self;
+        if !(1..=self.most_axes()).contains(&axes) {
             return Err(Refusal::Axes);
         }
         if 8 < level {

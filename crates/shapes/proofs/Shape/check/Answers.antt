@@ -3,13 +3,13 @@
 use Rattle.std.proofs.Common.{◌≡◌, refl, ◌&&◌, rules, tests, sym, arith}
 use lib.Dec.{leb}
 use borrow.Author.Tests.{le-leb, lt-leb}
-use Rattle.shapes.specs.Shapes.{check_shape}
+use Rattle.shapes.specs.Shapes.{most_axes, check_shape}
 use Rattle.shapes.proofs.Shape.check.Goals.{After-contains}
 use Rattle.shapes.proofs.Shape.check.Goals as goal
 
 -- the number of axes is tested
-few : (c : After-contains) → c.contains.result ≡ (leb 1 c.args.self.axes && leb c.args.self.axes 8)
-few c = search (rules, tests)
+few : (c : After-contains) → c.contains.result ≡ (leb 1 c.args.self.axes && leb c.args.self.axes (most_axes c.args.self.border))
+few c = rw (sym c.most_axes.ensures) (search (rules, tests))
 
 pub returns-then-not-contains-clause-verdict : goal.returns-then-not-contains-clause-verdict
 unfolding check_shape
