@@ -2,8 +2,8 @@
 -- So no refusal 4 follows a file that was read. True since every number that can be filed gives a rate, and the definition reads nothing else.
 -- Assumes nothing.
 use Rattle.std.specs.Prelude.{Ok, Err}
-use mathlib.Core.Path.{◌≡◌, refl, ap, ◌∙◌}
-use mathlib.Core.Bool.{true}
+use mathlib.Core.Path.{◌≡◌, refl, ap, ◌∙◌, sym}
+use mathlib.Core.Bool.{true, false}
 use mathlib.Core.List.{List, [], ◌∷◌}
 use Prim.Native.Nat.{ℕ, zero, suc, ◌≤◌}
 use native.Mathlib.Omega.{arith}
@@ -16,12 +16,12 @@ use Rattle.refusals.specs.Checks.{unless, Verdict}
 use Rattle.refusals.proofs.Passing.{test_passed}
 use Rattle.integers.specs.Half.{is_rate}
 use Rattle.shapes.specs.declared.Shape.{Shape}
-use Rattle.shapes.specs.Shapes.{check_shape, points_of}
+use Rattle.shapes.specs.Shapes.{sparse, check_shape, points_of}
 use Rattle.house_numbers.specs.Reading.{Read, got, refused, ◌next◌, ◌then_read◌}
 use Rattle.house_numbers.specs.Numbers.{groups, largest, limited, read_number, rate_of}
 use Rattle.house_rates.specs.Rates.{prepended, read_rates, all_read}
 use Rattle.house_rates.proofs.Rates.{nothing_left}
-use Rattle.house_file.specs.Files.{read_head, Contents, ended, read_table, read_contents}
+use Rattle.house_file.specs.Files.{read_head, Contents, ended, read_table, read_contents, named}
 use Rattle.house_file.specs.Written.{AllRates}
 use Rattle.house_numbers.proofs.Filing.{rate_filed}
 
@@ -162,7 +162,18 @@ contents_whole places bytes c rest e =
       ends = f.ends;
     }
 
+-- The head of a file names a shape with a zero border.
+head_plain : (bytes : List ℕ) (s : Shape) (rest : List ℕ) → read_head bytes ≡ got s rest → s.border ≡ false
+unfolding read_head
+head_plain bytes s rest e =
+    let t = through (read_number bytes) _ e in
+    let w = through (read_number t.middle) (named t.value) t.second in
+    let one : named t.value w.value w.middle ≡ got s rest = w.second in
+    let is : sparse t.value w.value ≡ s = cc in
+    ap (λ (q : Shape). q.border) (sym is)
+
 pub record Accepted (places : ℕ) (s : Shape) (rates : List ℤ) (rest : List ℕ) : Type 0 where
+  pub plain : s.border ≡ false
   pub shaped : check_shape s ≡ Ok tt
   pub room : points_of s ≤ places
   pub rated : Rated (points_of s) rates
@@ -173,6 +184,7 @@ pub contents_accepted : (places : ℕ) (bytes : List ℕ) (c : Contents) (rest :
 contents_accepted places bytes c rest e =
     let w = contents_whole places bytes c rest e in
     record {
+      plain = head_plain bytes c.shape w.after w.head;
       shaped = w.shaped;
       room = w.room;
       rated = rates_rated (points_of c.shape) w.after c.rates rest w.filled;

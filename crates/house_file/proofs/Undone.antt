@@ -3,7 +3,7 @@
 -- Assumes nothing.
 use Rattle.std.specs.Prelude.{Ok}
 use mathlib.Core.Path.{◌≡◌, refl, sym, ap, ◌∙◌}
-use mathlib.Core.Bool.{true}
+use mathlib.Core.Bool.{Bool, true, false}
 use mathlib.Core.List.{List, [], ◌∷◌, ◌++◌, append_assoc, append-nil}
 use Prim.Native.Nat.{ℕ, zero, suc, ◌+◌, ◌-◌, ◌*◌, ◌/◌, ◌%◌, ◌^◌, ◌≤◌, ◌<◌}
 use native.Mathlib.Nat.{div-lt_iff_lt-mul}
@@ -104,7 +104,7 @@ rates_back (rate ∷ rates) rest each =
     )
 
 -- A file of accepted rates.
-module _ (s : Shape) (rates : List ℤ) (places : ℕ) (passed : check_shape s ≡ Ok tt) (many : length rates ≡ points_of s)
+module _ (s : Shape) (plain : s.border ≡ false) (rates : List ℤ) (places : ℕ) (passed : check_shape s ≡ Ok tt) (many : length rates ≡ points_of s)
     (room : length rates ≤ places) (each : AllRates rates) where
   axes_filed : s.axes ≤ largest
   unfolding largest
@@ -128,6 +128,7 @@ module _ (s : Shape) (rates : List ℤ) (places : ℕ) (passed : check_shape s �
       head_first (written_file s rates) places
       ∙ ap (λ (x : Read Shape). x next read_table places)
       (head_named (written_file s rates) s.axes more (number_back s.axes more axes_filed)
-      (number_back s.level (written_rates rates) level_filed))
+      (number_back s.level (written_rates rates) level_filed)
+      ∙ ap (λ (b : Bool). got (record { axes = s.axes; level = s.level; border = b }) (written_rates rates)) (sym plain))
       ∙ placed places s (written_rates rates) fits
       ∙ ap (λ (x : Read (List ℤ)). x next ended s) all_back

@@ -8,7 +8,7 @@ use Rattle.naturals.specs.Sum.{sum_to}
 use Rattle.refusals.specs.declared.Refusal.TheVariants.{Axes, TableLength, FileEnds, FiledNumber, BytesLeft}
 use Rattle.numbering.specs.Binomial.{choose}
 use Rattle.numbering.specs.Count.{vectors, shell, start, points}
-use Rattle.shapes.specs.Shapes.{check_shape, points_of}
+use Rattle.shapes.specs.Shapes.{sparse, check_shape, points_of}
 use Rattle.house_numbers.specs.Reading.{got}
 use Rattle.house_numbers.specs.Numbers.{below, groups, largest, limited, read_number, rate_of}
 use Rattle.house_rates.specs.Rates.{prepended, read_rates}
@@ -17,7 +17,7 @@ use Rattle.house_file.specs.Files.{read_head, ended, read_table, read_contents, 
 -- 01 01 06 0A 0E, in a buffer of one place more.
 pub example_read :
     read_file (1 ∷ 1 ∷ 6 ∷ 10 ∷ 14 ∷ []) (pos 0 ∷ pos 0 ∷ pos 0 ∷ pos 9 ∷ [])
-    ≡ after_reading (Ok (record { axes = 1; level = 1 })) (pos 3 ∷ pos 5 ∷ pos 7 ∷ pos 9 ∷ [])
+    ≡ after_reading (Ok (sparse 1 1)) (pos 3 ∷ pos 5 ∷ pos 7 ∷ pos 9 ∷ [])
 unfolding read_file read_contents read_head read_table read_rates prepended ended read_number groups below limited largest rate_of check_shape points_of points start shell vectors sum_to choose
 example_read = refl
 

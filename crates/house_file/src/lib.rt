@@ -27,7 +27,7 @@ pub fn read_head(bytes: &[u8]) -> Result<(Shape, &[u8]), Refusal>
 {
     let (axes, more) = read_number(bytes)?;
     let (level, rest) = read_number(more)?;
-    Ok((Shape { axes, level }, rest))
+    Ok((Shape::sparse(axes, level), rest))
 }
 
 // Refused with 1, 2 or 3: the shape, and fewer than N places.

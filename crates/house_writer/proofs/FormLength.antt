@@ -9,6 +9,7 @@ use native.Mathlib.Omega.{arith}
 use lib.IntN.{ℤ}
 use lib.ListN.{length}
 use Rattle.shapes.specs.declared.Shape.{Shape}
+use Rattle.shapes.specs.Shapes.{sparse}
 use Rattle.shapes.proofs.Checked.{in_range_passed}
 use Rattle.tables.specs.Tables.{check_rated}
 use Rattle.tables.proofs.Checking.{rated_opens}
@@ -45,12 +46,15 @@ module _ (places : ℕ) (bytes : List ℕ) (c : Contents) (rest : List ℕ) (e :
 
 -- ---- writing
 
-module _ (s : Shape) (rates : List ℤ) (passed : check_rated s rates ≡ Ok tt) where
+module _ (d n : ℕ) (rates : List ℤ) (passed : check_rated (sparse d n) rates ≡ Ok tt) where
+  abbrev s : Shape
+  s = sparse d n
+
   pub written_most : length (written_file s rates) ≤ 2 + 5 * length rates
   written_most =
       let opens = rated_opens s rates passed in
       file_most s rates (in_range_passed s opens.range)
 
   -- Into 2 bytes and 5 for each rate, checked rates are always written.
-  pub written_room : (out : List ℕ) → 2 + 5 * length rates ≤ length out → (write_file s rates out).answer ≡ Ok (length (written_file s rates))
-  written_room out room = ap (λ (a : AfterWriting). a.answer) (written_answer s rates out passed (omega (arith, written_most)))
+  pub written_room : (out : List ℕ) → 2 + 5 * length rates ≤ length out → (write_file d n rates out).answer ≡ Ok (length (written_file s rates))
+  written_room out room = ap (λ (a : AfterWriting). a.answer) (written_answer d n rates out passed (omega (arith, written_most)))

@@ -37,7 +37,7 @@ module _ (places : ℕ) where
     pub form_accepted : read_contents places (form_of c) ≡ got c []
     form_accepted =
         let a = contents_accepted places bytes c rest e in
-        file_back c.shape c.rates places a.shaped a.rated.many (omega (arith, a.room, a.rated.many)) a.rated.each
+        file_back c.shape a.plain c.rates places a.shaped a.rated.many (omega (arith, a.room, a.rated.many)) a.rated.each
 
     -- It is read as the file is, for every number of places.
     pub form_alike : (q : ℕ) → read_contents q (form_of c) ≡ read_contents q bytes

@@ -11,7 +11,7 @@ use borrow.Author.Tests.{lt-leb}
 use Rattle.refusals.specs.declared.Refusal.{Refusal}
 use Rattle.refusals.specs.declared.Refusal.TheVariants.{TableLength}
 use Rattle.shapes.specs.declared.Shape.{Shape}
-use Rattle.shapes.specs.Shapes.{check_shape}
+use Rattle.shapes.specs.Shapes.{check_shape, sparse}
 use Rattle.tables.specs.Tables.{check_rated}
 use Rattle.buffers.specs.Put.{Put}
 use Rattle.buffers.proofs.Puts.{behind, past, put_behind, put_as, put_length, put_over}
@@ -21,12 +21,12 @@ use Rattle.house_writer.specs.Writing.{after_writing, kept_out, check_room, put_
 use Rattle.house_writer.proofs.Putting.{put_done}
 
 -- The checks of the writer.
-module _ (s : Shape) (rates : List ℤ) (out : List ℕ) where
-  pub write_refused : {r : Refusal} → check_rated s rates ≡ Err r → write_file s rates out ≡ kept_out out r
+module _ (d n : ℕ) (rates : List ℤ) (out : List ℕ) where
+  pub write_refused : {r : Refusal} → check_rated (sparse d n) rates ≡ Err r → write_file d n rates out ≡ kept_out out r
   unfolding write_file
   write_refused e = rw e
 
-  pub write_put : check_rated s rates ≡ Ok tt → write_file s rates out ≡ put_file (written_file s rates) out
+  pub write_put : check_rated (sparse d n) rates ≡ Ok tt → write_file d n rates out ≡ put_file (written_file (sparse d n) rates) out
   unfolding write_file put_file
   write_put e = rw e
 

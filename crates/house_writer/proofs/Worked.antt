@@ -23,25 +23,25 @@ use Rattle.house_writer.specs.Rewriting.{rewrite_file}
 
 -- The rates 3, 5, 7 on one axis, top level 1, into six bytes: 01 01 06 0A 0E, and the sixth byte stays.
 pub example_written :
-    write_file (sparse 1 1) (pos 3 ∷ pos 5 ∷ pos 7 ∷ []) (9 ∷ 9 ∷ 9 ∷ 9 ∷ 9 ∷ 9 ∷ [])
+    write_file 1 1 (pos 3 ∷ pos 5 ∷ pos 7 ∷ []) (9 ∷ 9 ∷ 9 ∷ 9 ∷ 9 ∷ 9 ∷ [])
     ≡ after_writing (Ok 5) (1 ∷ 1 ∷ 6 ∷ 10 ∷ 14 ∷ 9 ∷ [])
 unfolding write_file check_room check_table check_shape check_length check_rates rate_at first_failing is_rate value_at points_of points start shell vectors sum_to choose written_file written_rates written fewest filed
 example_written = refl
 
 -- Into exactly five bytes, and into four.
 pub example_exact :
-    write_file (sparse 1 1) (pos 3 ∷ pos 5 ∷ pos 7 ∷ []) (9 ∷ 9 ∷ 9 ∷ 9 ∷ 9 ∷ []) ≡ after_writing (Ok 5) (1 ∷ 1 ∷ 6 ∷ 10 ∷ 14 ∷ [])
+    write_file 1 1 (pos 3 ∷ pos 5 ∷ pos 7 ∷ []) (9 ∷ 9 ∷ 9 ∷ 9 ∷ 9 ∷ []) ≡ after_writing (Ok 5) (1 ∷ 1 ∷ 6 ∷ 10 ∷ 14 ∷ [])
 unfolding write_file check_room check_table check_shape check_length check_rates rate_at first_failing is_rate value_at points_of points start shell vectors sum_to choose written_file written_rates written fewest filed
 example_exact = refl
 
 pub example_short :
-    write_file (sparse 1 1) (pos 3 ∷ pos 5 ∷ pos 7 ∷ []) (9 ∷ 9 ∷ 9 ∷ 9 ∷ []) ≡ after_writing (Err TableLength) (9 ∷ 9 ∷ 9 ∷ 9 ∷ [])
+    write_file 1 1 (pos 3 ∷ pos 5 ∷ pos 7 ∷ []) (9 ∷ 9 ∷ 9 ∷ 9 ∷ []) ≡ after_writing (Err TableLength) (9 ∷ 9 ∷ 9 ∷ 9 ∷ [])
 unfolding write_file check_room check_table check_shape check_length check_rates rate_at first_failing is_rate value_at points_of points start shell vectors sum_to choose written_file written_rates written fewest filed
 example_short = refl
 
 -- A number that is no rate comes before a buffer that is too short.
 pub rate_before_room :
-    write_file (sparse 1 1) (pos 3 ∷ pos 2147483648 ∷ pos 7 ∷ []) [] ≡ after_writing (Err (Rate 1)) []
+    write_file 1 1 (pos 3 ∷ pos 2147483648 ∷ pos 7 ∷ []) [] ≡ after_writing (Err (Rate 1)) []
 unfolding write_file check_room check_table check_shape check_length check_rates rate_at first_failing is_rate value_at points_of points start shell vectors sum_to choose written_file written_rates written fewest filed
 rate_before_room = refl
 

@@ -4,7 +4,7 @@ use Rattle.std.specs.Prelude.{List, ◌++◌, ℕ, leb, ℤ, length, drop, Resul
 use Rattle.refusals.specs.declared.Refusal.{Refusal}
 use Rattle.refusals.specs.declared.Refusal.TheVariants.{TableLength}
 use Rattle.refusals.specs.Checks.{unless, ◌and_then◌, answer, Verdict}
-use Rattle.shapes.specs.declared.Shape.{Shape}
+use Rattle.shapes.specs.Shapes.{sparse}
 use Rattle.tables.specs.Tables.{check_rated}
 use Rattle.house_file.specs.Written.{written_file}
 
@@ -32,8 +32,10 @@ filled_out file out = after_writing (Ok (length file)) (file ++ drop (length fil
 unfoldable pub put_file : List ℕ → List ℕ → AfterWriting
 put_file file out = answer (kept_out out) (check_room file out) (filled_out file out)
 
--- The writer: refused with 1, 2, 3 (not N rates), 4 (smallest point number), then with 3 (the output buffer).
-unfoldable pub write_file : Shape → List ℤ → List ℕ → AfterWriting
-write_file s rates out =
+-- The writer, of the table of d axes and top level n with a zero border: refused with 1, 2, 3 (not N rates), 4 (smallest point number), then with 3 (the output
+-- buffer).
+unfoldable pub write_file : ℕ → ℕ → List ℤ → List ℕ → AfterWriting
+write_file d n rates out =
+    let s = sparse d n in
     let file = written_file s rates in
     answer (kept_out out) (check_rated s rates and_then check_room file out) (filled_out file out)

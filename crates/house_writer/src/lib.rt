@@ -75,11 +75,12 @@ fn put_file<R: FiledRates>(shape: Shape, rates: R, out: &mut [u8]) -> Result<usi
     Ok(head + put_rates(rates, &mut out[head..]))
 }
 
-// The writer: first all checks, then the file into the first bytes of the buffer.
+// The writer, of a table with a zero border: first all checks, then the file into the first bytes of the buffer.
 #[tactic(auto, using(crate::proofs::WholeFile::write_refused))]
-pub fn write(shape: Shape, rates: &[i64], out: &mut [u8]) -> Result<usize, Refusal>
-    ensures { after_writing result out.new ≡ write_file shape rates.now out.old }
+pub fn write(axes: u32, level: u32, rates: &[i64], out: &mut [u8]) -> Result<usize, Refusal>
+    ensures { after_writing result out.new ≡ write_file axes level rates.now out.old }
 {
+    let shape = Shape::sparse(axes, level);
     tables::check_rated(shape, rates)?;
     put_file(shape, TableRates { rates }, out)
 }

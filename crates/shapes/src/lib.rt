@@ -4,7 +4,7 @@
 ghost use Rattle.std.specs.Prelude.{◌≡◌, ◌≤◌, IfOk};
 ghost use Rattle.refusals.specs.Checks.{verdict};
 ghost use Rattle.numbering.specs.Count.{vectors, start};
-ghost use Rattle.shapes.specs.Shapes.{most_axes, check_shape, check_axis, points_of, check_length, counted};
+ghost use Rattle.shapes.specs.Shapes.{sparse, most_axes, check_shape, check_axis, points_of, check_length, counted};
 ghost use Rattle.shapes.specs.Rows.{Binomials};
 
 use refusals::Refusal;
@@ -43,6 +43,17 @@ pub struct CheckedShape {
 }
 
 impl Shape {
+    // That of d axes and top level n with a zero border.
+    pub fn sparse(axes: u32, level: u32) -> Shape
+        ensures { result ≡ sparse axes level }
+    {
+        Shape {
+            axes,
+            level,
+            border: false,
+        }
+    }
+
     // The most axes that a shape of its sort may have.
     fn most_axes(self) -> u32
         ensures { result ≡ most_axes self.border }

@@ -1,6 +1,8 @@
 -- `house_file::read_head` meets its contract: d and n are the numbers that two calls read, and the first that is refused decides.
 -- Assumes nothing.
-use mathlib.Core.Path.{sym}
+use mathlib.Core.Path.{ap, sym, ◌∙◌}
+use Rattle.shapes.specs.declared.Shape.{Shape}
+use Rattle.house_numbers.specs.Reading.{got}
 use Rattle.std.proofs.lemmas.Result.{err_from_is_err_and}
 use Rattle.house_file.proofs.Answering.{first_refused, second_refused, head_named}
 use Rattle.house_file.proofs.read_head.Goals as goal
@@ -18,4 +20,5 @@ returns-in_err-level c =
 
 pub returns : goal.returns
 returns c =
-    sym (head_named c.args.bytes.now c.in_ok-axes.axes c.in_ok-axes.more.now (sym c.in_ok-axes.ensures) (sym c.in_ok-level.ensures))
+    ap (λ (s : Shape). got s c.in_ok-level.rest.now) c.sparse.ensures
+    ∙ sym (head_named c.args.bytes.now c.in_ok-axes.axes c.in_ok-axes.more.now (sym c.in_ok-axes.ensures) (sym c.in_ok-level.ensures))
