@@ -11,7 +11,6 @@ use borrow.Author.Tests.{lt-ltb, le-ltb}
 use Rattle.naturals.specs.Sum.{sum_to}
 use Rattle.std.specs.Prelude.{if◌then◌else◌}
 use Rattle.naturals.proofs.Cases.{eq_or_not, le_or_lt}
-use Rattle.numbering.specs.Point.{IsPoint}
 use Rattle.numbering.specs.Number.{position, first_of, number}
 use Rattle.numbering.specs.Parent.{update}
 use Rattle.numbering.proofs.Parents.{update_same, update_other}
@@ -22,6 +21,7 @@ use Rattle.faces.specs.Packing.{before, axis_of, packed}
 use Rattle.faces.specs.Marked.{Marked, in_face}
 use Rattle.faces.proofs.Packing.{before_suc, before_mono, before_inner, before_border, before_cong, inner_axes, axis_of_before, axis_inner, packed_is, packed_position}
 use Rattle.faces.proofs.Numbering.{number_cong, in_face_is}
+use Rattle.faces.proofs.Beside.{across_marked}
 
 -- ---- a move within the face
 
@@ -125,16 +125,16 @@ module _ (m : ℕ → ℕ) (d t a : ℕ) (axis : t < d) (e : m t ≡ 0) (some : 
       ∙ sym (packed_is m d f (skip (before m t) j))
 
   -- The point across stands at the position without the axis's digit.
-  pub across_in_face : {n : ℕ} {l i : ℕ → ℕ} → IsPoint d n l i → Marked d n m' (update l t 0) (update i t 1) →
+  pub across_in_face : {n : ℕ} {l i : ℕ → ℕ} → a ≤ 2 → Marked d n m l i →
       in_face d m' (update l t 0) (update i t 1)
       ≡ first_of (d - borders m' d) (packed m' d (update l t 0)) + (position l i t + position l i d / 2 ^ sum_to l (suc t) * 2 ^ sum_to l t)
-  across_in_face {n} {l} {i} p y =
+  across_in_face {n} {l} {i} mark x =
       in_face_is d m' (update l t 0) (update i t 1)
       ∙ number_from_first (d - borders m' d) (packed m' d (update l t 0)) (packed m' d (update i t 1))
       ∙ ap (λ (q : ℕ). first_of (d - borders m' d) (packed m' d (update l t 0)) + q)
       (ap (position (packed m' d (update l t 0)) (packed m' d (update i t 1))) (sym (inner_axes m' d))
-      ∙ packed_position y
-      ∙ moved_position l i t 0 1 p axis
+      ∙ packed_position (across_marked x t axis e a mark)
+      ∙ moved_position l i t 0 1 x.point axis
       ∙ omega (
         arith,
         zero-mul (2 ^ sum_to l t),

@@ -104,7 +104,7 @@ module _ {d n : ℕ} {m l i : ℕ → ℕ} (x : Marked d n m l i) where
               x.point.sum,
             );
         odd = λ j h. rw packed_is (x.point.odd (axis_of m d j) (inner_at j h).axis);
-        below = λ j h. rw (packed_is, packed_is) (x.point.below (axis_of m d j) (inner_at j h).axis);
+        below = λ j h. rw (packed_is m d i j, packed_is m d l j) (x.point.below (axis_of m d j) (inner_at j h).axis);
       }
 
   pub in_face_lt : in_face d m l i < points (d - borders m d) n
