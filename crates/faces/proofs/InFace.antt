@@ -12,6 +12,7 @@ use Rattle.naturals.specs.Sum.{sum_to}
 use Rattle.std.specs.Prelude.{if◌then◌else◌}
 use Rattle.naturals.proofs.Cases.{eq_or_not, le_or_lt}
 use Rattle.numbering.specs.Number.{position, first_of, number}
+use Rattle.numbering.specs.Inverse.{level_at, index_at}
 use Rattle.numbering.specs.Parent.{update}
 use Rattle.numbering.proofs.Parents.{update_same, update_other}
 use Rattle.numbering.proofs.ParentPlaces.{moved_position}
@@ -20,7 +21,7 @@ use Rattle.faces.specs.Faces.{bit, borders}
 use Rattle.faces.specs.Packing.{before, axis_of, packed}
 use Rattle.faces.specs.Marked.{Marked, in_face}
 use Rattle.faces.proofs.Packing.{before_suc, before_mono, before_inner, before_border, before_cong, inner_axes, axis_of_before, axis_inner, packed_is, packed_position}
-use Rattle.faces.proofs.Numbering.{number_cong, in_face_is}
+use Rattle.faces.proofs.Numbering.{number_cong, in_face_is, level_in_face, index_in_face}
 use Rattle.faces.proofs.Beside.{across_marked}
 
 -- ---- a move within the face
@@ -47,6 +48,25 @@ moved_in_face d m l i t v w h e =
     ∙ number_cong (d - borders m d) _ _ _ _
     (λ j below. packed_update m d l t v h e j (omega (arith, inner_axes m d)))
     (λ j below. packed_update m d i t w h e j (omega (arith, inner_axes m d)))
+
+-- Two functions that agree below k agree there after a change at one place.
+update_cong : (f g : ℕ → ℕ) (k j v : ℕ) → ((u : ℕ) → u < k → f u ≡ g u) → (u : ℕ) → u < k → update f j v u ≡ update g j v u
+update_cong f g k j v same u h =
+    eq_or_not u j
+    (λ here. rw here (update_same f j v ∙ sym (update_same g j v)))
+    (λ other. update_other f j v u other ∙ same u h ∙ sym (update_other g j v u other))
+
+-- The same with levels and indices read off the point's number within the face.
+pub moved_number : {d n : ℕ} {m l i : ℕ → ℕ} → Marked d n m l i → (t v w : ℕ) → t < d → m t ≡ 0 →
+    in_face d m (update l t v) (update i t w)
+    ≡ number (d - borders m d)
+    (update (level_at (d - borders m d) n (in_face d m l i)) (before m t) v)
+    (update (index_at (d - borders m d) n (in_face d m l i)) (before m t) w)
+moved_number {d} {n} {m} {l} {i} x t v w h e =
+    moved_in_face d m l i t v w h e
+    ∙ number_cong (d - borders m d) _ _ _ _
+    (λ u below. sym (update_cong _ _ (d - borders m d) (before m t) v (level_in_face x) u below))
+    (λ u below. sym (update_cong _ _ (d - borders m d) (before m t) w (index_in_face x) u below))
 
 -- ---- across the border
 

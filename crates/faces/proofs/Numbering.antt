@@ -25,7 +25,7 @@ use Rattle.faces.specs.Faces.{faces, borders, face_rank, mark_of}
 use Rattle.faces.specs.Packing.{before, axis_of, packed}
 use Rattle.faces.specs.Marked.{Marked, layer, border_points, face_start, in_face, border_number, borders_at, within_layer, number_at, mark_at, border_level_at, border_index_at}
 use Rattle.faces.proofs.Ranks.{borders_le, face_rank_lt, mark_of_rank, mark_past, mark_le, borders_of_mark, rank_of_mark}
-use Rattle.faces.proofs.Packing.{inner_axes, before_lt, Inner, axis_inner, packed_is, packed_before, packed_sum}
+use Rattle.faces.proofs.Packing.{inner_axes, before_lt, Inner, axis_inner, packed_is, packed_before, packed_sum, place_lt}
 
 -- ---- what document 01's numbering gives
 
@@ -160,50 +160,45 @@ module _ {d n : ℕ} {m l i : ℕ → ℕ} (x : Marked d n m l i) where
       (λ past. mark_past d (borders m d) (face_rank m d) t past ∙ sym (x.no_mark t past))
       (λ h. mark_of_rank m d x.mark t h)
 
-  place_lt : (t : ℕ) → t < d → m t ≡ 0 → before m t < d - borders m d
-  place_lt t h e = omega (arith, before_lt m d t h e, inner_axes m d)
+  -- Within its face the levels and indices read off its number there are those of its inner axes, at their places.
+  pub level_in_face : (j : ℕ) → j < d - borders m d → level_at (d - borders m d) n (in_face d m l i) j ≡ packed m d l j
+  level_in_face j h = ap (λ (p : ℕ). level_at (d - borders m d) n p j) (in_face_is d m l i) ∙ inner.level_of_number inner_point j h
+
+  pub index_in_face : (j : ℕ) → j < d - borders m d → index_at (d - borders m d) n (in_face d m l i) j ≡ packed m d i j
+  index_in_face j h = ap (λ (p : ℕ). index_at (d - borders m d) n p j) (in_face_is d m l i) ∙ inner.index_of_number inner_point j h
+
+  pub level_at_place : (t : ℕ) → t < d → m t ≡ 0 → level_at (d - borders m d) n (in_face d m l i) (before m t) ≡ l t
+  level_at_place t h e = level_in_face (before m t) (place_lt m d t h e) ∙ packed_before m d l t h e
+
+  pub index_at_place : (t : ℕ) → t < d → m t ≡ 0 → index_at (d - borders m d) n (in_face d m l i) (before m t) ≡ i t
+  index_at_place t h e = index_in_face (before m t) (place_lt m d t h e) ∙ packed_before m d i t h e
+
+  -- What stands at the places of the inner axes, c on a border axis and 0 past the axes, is a function that has these.
+  spread : (f at_place : ℕ → ℕ) (c : ℕ) → ((t : ℕ) → t < d → m t ≡ 0 → at_place (before m t) ≡ f t) →
+      ((t : ℕ) → t < d → 0 < m t → f t ≡ c) → ((t : ℕ) → d ≤ t → f t ≡ 0) →
+      (t : ℕ) → (if ltb t d then (if eqb (m t) 0 then at_place (before m t) else c) else 0) ≡ f t
+  spread f at_place c inner_has border_has none t =
+      le_or_lt d t
+      (λ past. rw (le-ltb t d past) (sym (none t past)))
+      (λ h.
+      rw (lt-ltb t d h)
+      (eq_or_not (m t) 0
+      (λ e. rw (eq-eqb (m t) 0 e) (inner_has t h e))
+      (λ ne. rw (ne_eqb (m t) 0 ne) (sym (border_has t h (omega arith))))))
 
   pub levels_again : border_level_at d n (border_number d n m l i) ≡ l
   unfolding border_level_at
-  levels_again = fun_ext λ t. rw (marks_again, borders_at_lem, number_at_lem) (at_axis t)
-    where
-      at_axis : (t : ℕ) →
-          (if ltb t d
-          then (if eqb (m t) 0 then level_at (d - borders m d) n (in_face d m l i) (before m t) else 0)
-          else 0) ≡ l t
-      at_axis t =
-          le_or_lt d t
-          (λ past. rw (le-ltb t d past) (sym (x.no_level t past)))
-          (λ h.
-          rw (lt-ltb t d h)
-          (eq_or_not (m t) 0
-          (λ e.
-          rw (eq-eqb (m t) 0 e)
-          (ap (λ (p : ℕ). level_at (d - borders m d) n p (before m t)) (in_face_is d m l i)
-          ∙ inner.level_of_number inner_point (before m t) (place_lt t h e)
-          ∙ packed_before m d l t h e))
-          (λ ne. rw (ne_eqb (m t) 0 ne) (sym (x.level t h (omega arith))))))
+  levels_again =
+      fun_ext λ t.
+      rw (marks_again, borders_at_lem, number_at_lem)
+      (spread l (level_at (d - borders m d) n (in_face d m l i)) 0 level_at_place x.level x.no_level t)
 
   pub indices_again : border_index_at d n (border_number d n m l i) ≡ i
   unfolding border_index_at
-  indices_again = fun_ext λ t. rw (marks_again, borders_at_lem, number_at_lem) (at_axis t)
-    where
-      at_axis : (t : ℕ) →
-          (if ltb t d
-          then (if eqb (m t) 0 then index_at (d - borders m d) n (in_face d m l i) (before m t) else 1)
-          else 0) ≡ i t
-      at_axis t =
-          le_or_lt d t
-          (λ past. rw (le-ltb t d past) (sym (x.no_index t past)))
-          (λ h.
-          rw (lt-ltb t d h)
-          (eq_or_not (m t) 0
-          (λ e.
-          rw (eq-eqb (m t) 0 e)
-          (ap (λ (p : ℕ). index_at (d - borders m d) n p (before m t)) (in_face_is d m l i)
-          ∙ inner.index_of_number inner_point (before m t) (place_lt t h e)
-          ∙ packed_before m d i t h e))
-          (λ ne. rw (ne_eqb (m t) 0 ne) (sym (x.index t h (omega arith))))))
+  indices_again =
+      fun_ext λ t.
+      rw (marks_again, borders_at_lem, number_at_lem)
+      (spread i (index_at (d - borders m d) n (in_face d m l i)) 1 index_at_place x.index x.no_index t)
 
 -- ---- from number to point and back
 

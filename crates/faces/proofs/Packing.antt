@@ -55,6 +55,9 @@ inner_axes m d = omega (arith, before_borders m d)
 pub before_lt : (m : ℕ → ℕ) (d t : ℕ) → t < d → m t ≡ 0 → before m t < before m d
 before_lt m d t h e = omega (arith, before_inner m t e, before_mono m (suc t) d h)
 
+pub place_lt : (m : ℕ → ℕ) (d t : ℕ) → t < d → m t ≡ 0 → before m t < d - borders m d
+place_lt m d t h e = omega (arith, before_lt m d t h e, inner_axes m d)
+
 axis_here : (m : ℕ → ℕ) (d j : ℕ) → m d ≡ 0 → j ≡ before m d → axis_of m (suc d) j ≡ d
 unfolding axis_of
 axis_here m d j e f = rw (eq-eqb (m d) 0 e, eq-eqb j (before m d) f)
