@@ -4,4 +4,5 @@ pub mod Numbering
 pub mod Ordering
 pub mod Beside
 pub mod InFace
+pub mod Row
 pub mod Worked

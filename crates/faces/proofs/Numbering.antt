@@ -51,7 +51,7 @@ number_cong k l i o j same also =
 
 -- ---- layers
 
-layer_is : (d n b : ℕ) → layer d n b ≡ faces d b * points (d - b) n
+pub layer_is : (d n b : ℕ) → layer d n b ≡ faces d b * points (d - b) n
 unfolding layer
 layer_is d n b = refl
 
@@ -231,7 +231,7 @@ module _ (d n p : ℕ) (lt : p < border_points d n) where
   unfolding mark_at
   mark_is t = refl
 
-  borders_are : borders (mark_at d n p) d ≡ b
+  pub borders_are : borders (mark_at d n p) d ≡ b
   unfolding mark_at
   borders_are = borders_of_mark d b (within_layer d n p / size) face_lt
 
@@ -239,7 +239,7 @@ module _ (d n p : ℕ) (lt : p < border_points d n) where
   unfolding mark_at
   rank_is = rank_of_mark d b (within_layer d n p / size) face_lt
 
-  number_in_face : number_at d n p < size
+  pub number_in_face : number_at d n p < size
   unfolding number_at
   number_in_face = mod-lt (within_layer d n p) (points_pos (d - b) n)
 
@@ -320,7 +320,7 @@ module _ (d n p : ℕ) (lt : p < border_points d n) where
         no_index = λ t past. unfold border_index_at in rw (le-ltb t d past) refl;
       }
 
-  in_face_again : in_face d (mark_at d n p) (border_level_at d n p) (border_index_at d n p) ≡ number_at d n p
+  pub in_face_again : in_face d (mark_at d n p) (border_level_at d n p) (border_index_at d n p) ≡ number_at d n p
   in_face_again =
       in_face_is d (mark_at d n p) (border_level_at d n p) (border_index_at d n p)
       ∙ ap (λ (c : ℕ). number (d - c) (packed (mark_at d n p) d (border_level_at d n p)) (packed (mark_at d n p) d (border_index_at d n p))) borders_are
