@@ -1,3 +1,4 @@
 pub mod Binomials
 pub mod Totals
+pub mod Layers
 pub mod Checked

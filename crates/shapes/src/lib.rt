@@ -1,9 +1,12 @@
 // Shapes: the check of a shape, the constant rows of binomials, the count of points, and the check of a table's length.
 #![tactic(auto)]
 
-ghost use Rattle.std.specs.Prelude.{◌≡◌, ◌≤◌, IfOk};
+ghost use Rattle.std.specs.Prelude.{◌≡◌, suc, ◌≤◌, IfOk};
 ghost use Rattle.refusals.specs.Checks.{verdict};
-ghost use Rattle.numbering.specs.Count.{vectors, start};
+ghost use Rattle.naturals.specs.Sum.{sum_to};
+ghost use Rattle.numbering.specs.Count.{vectors, start, points};
+ghost use Rattle.faces.specs.Faces.{faces};
+ghost use Rattle.faces.specs.Marked.{layer, border_points};
 ghost use Rattle.shapes.specs.Shapes.{sparse, most_axes, check_shape, check_axis, points_of, check_length, counted};
 ghost use Rattle.shapes.specs.Rows.{Binomials};
 
@@ -58,11 +61,7 @@ impl Shape {
     fn most_axes(self) -> u32
         ensures { result ≡ most_axes self.border }
     {
-        if self.border {
-            0
-        } else {
-            8
-        }
+        if self.border { 0 } else { 8 }
     }
 
     // Refused with 1 or 2.
@@ -129,6 +128,54 @@ impl Rows {
             total += self.vectors(axes, j) << j;
         }
         total
+    }
+
+    // How many points a sparse table of these axes has: without axes one.
+    pub fn points(&self, axes: u32, level: u32) -> u64
+        requires { (axes ≤ 8) × (level ≤ 8) }
+        ensures { result ≡ points axes level }
+    {
+        if axes == 0 {
+            1
+        } else {
+            self.start(axes, level + 1)
+        }
+    }
+
+    // How many faces of these axes have this many border axes. (C(axes, borders) stands in the row of axes − borders + 1.)
+    pub fn faces(&self, axes: u32, borders: u32) -> u64
+        requires { (axes ≤ 4) × (borders ≤ axes) }
+        ensures { result ≡ faces axes borders }
+    {
+        self.vectors(axes - borders + 1, borders) << borders
+    }
+
+    // How many points lie on these faces.
+    pub fn layer(&self, axes: u32, level: u32, borders: u32) -> u64
+        requires { (axes ≤ 4) × (level ≤ 8) × (borders ≤ axes) }
+        ensures { result ≡ layer axes level borders }
+    {
+        self.faces(axes, borders) * self.points(axes - borders, level)
+    }
+
+    // How many points lie on the faces with fewer border axes than this.
+    pub fn layers(&self, axes: u32, level: u32, borders: u32) -> u64
+        requires { (axes ≤ 4) × (level ≤ 8) × (borders ≤ suc axes) }
+        ensures { result ≡ sum_to (layer axes level) borders }
+    {
+        let mut before: u64 = 0;
+        for b in 0..borders {
+            before += self.layer(axes, level, b);
+        }
+        before
+    }
+
+    // How many points a table with values on the border has.
+    pub fn border_points(&self, axes: u32, level: u32) -> u64
+        requires { (axes ≤ 4) × (level ≤ 8) }
+        ensures { result ≡ border_points axes level }
+    {
+        self.layers(axes, level, axes + 1)
     }
 }
 
