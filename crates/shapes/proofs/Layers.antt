@@ -2,7 +2,7 @@
 -- the width, since 4 axes have no more than 32 faces with as many border axes, by one test that antt computes.
 -- Assumes nothing.
 use mathlib.Core.Path.{◌≡◌, refl, ap, ◌∙◌}
-use mathlib.Core.Bool.{Bool, true}
+use mathlib.Core.Bool.{Bool, true, false}
 use Prim.Native.Nat.{ℕ, zero, suc, ◌+◌, ◌-◌, ◌*◌, ◌^◌, ◌%◌, ◌≤◌, ◌<◌}
 use native.Mathlib.Nat.{mul_comm, mul-le-mul, mod-eq_of_lt}
 use native.Mathlib.Omega.{arith}
@@ -13,13 +13,18 @@ use Rattle.naturals.specs.Test.{all}
 use Rattle.naturals.proofs.Sums.{sum_to_zero, sum_to_suc}
 use Rattle.naturals.proofs.Tests.{all_at}
 use Rattle.numbering.specs.Binomial.{choose}
-use Rattle.numbering.specs.Count.{vectors, shell, points}
+use Rattle.numbering.specs.Count.{vectors, shell, start, points}
 use Rattle.numbering.proofs.Vectors.{vectors_zero, no_axes}
 use Rattle.numbering.proofs.Numbering.{points_is, start_is, start_suc}
 use Rattle.faces.specs.Faces.{faces}
-use Rattle.faces.specs.Marked.{layer}
+use Rattle.faces.specs.Marked.{layer, border_points}
 use Rattle.faces.proofs.Numbering.{layer_is}
+use Rattle.std.specs.Prelude.{Ok}
+use Rattle.shapes.specs.declared.Shape.{Shape}
+use Rattle.shapes.specs.Shapes.{most_axes, check_shape, points_of}
+use Rattle.shapes.proofs.Checked.{InRange, passed_in_range}
 use Rattle.shapes.proofs.Totals.{start_small}
+use Rattle.naturals.proofs.Cases.{true_or_false}
 
 -- Without axes there is one point.
 pub points_none : (n : ℕ) → points 0 n ≡ 1
@@ -86,3 +91,44 @@ layers_small d n (suc b) few top le =
       layers_small d n b few top (omega arith),
       layer_small d n b few top (omega arith),
     )
+
+-- N of a table with values on the border is far below the width too: one test for every shape there is.
+few_points : ℕ → ℕ → Bool
+few_points d n = ltb (border_points d n) 4294967296
+
+every_table : ℕ → Bool
+every_table d = all (few_points d) 9
+
+all_tables : all every_table 5 ≡ true
+unfolding all every_table few_points border_points layer faces points start shell vectors sum_to choose
+all_tables = refl
+
+pub border_points_small : (d n : ℕ) → d ≤ 4 → n ≤ 8 → border_points d n < 4294967296
+unfolding every_table few_points
+border_points_small d n few top =
+    ltb-true (border_points d n) 4294967296 (all_at (few_points d) 9 (all_at every_table 5 all_tables d (omega arith)) n (omega arith))
+
+-- ---- N of a shape, by its sort
+
+module _ (s : Shape) where
+  pub points_plain : s.border ≡ false → points_of s ≡ points s.axes s.level
+  unfolding points_of
+  points_plain plain = rw plain refl
+
+  pub points_bordered : s.border ≡ true → points_of s ≡ border_points s.axes s.level
+  unfolding points_of
+  points_bordered on = rw on refl
+
+-- Tables with values on the border have at most 4 axes.
+pub most_bordered : {s : Shape} → InRange s → s.border ≡ true → s.axes ≤ 4
+most_bordered {s} r on = omega (arith, r.most, ap most_axes on)
+
+-- The points of a shape that the check passes.
+pub points_in_range : (s : Shape) → InRange s → points_of s < 4294967296
+points_in_range s r =
+    true_or_false s.border
+    (λ on. omega (arith, points_bordered s on, border_points_small s.axes s.level (most_bordered r on) r.top))
+    (λ off. omega (arith, points_plain s off, points_is s.axes s.level, start_small s.axes r.low r.high (suc s.level) (omega (arith, r.top))))
+
+pub points_small : (s : Shape) → check_shape s ≡ Ok tt → points_of s < 4294967296
+points_small s passed = points_in_range s (passed_in_range s passed)

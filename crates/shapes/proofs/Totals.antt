@@ -63,9 +63,3 @@ module _ (d : ℕ) (low : 1 ≤ d) (high : d ≤ 8) where
   -- A turn of the loop.
   pub turn : (j total count : ℕ) → j ≤ 8 → total ≡ start d j → count ≡ vectors d j → total + count * 2 ^ j % 2 ^ 64 ≡ start d (suc j)
   turn j total count le sum new = rw new (omega (arith, shifted j le, start_suc d j))
-
--- The points of a shape that the check passes.
-pub points_small : (s : Shape) → check_shape s ≡ Ok tt → points_of s < 4294967296
-unfolding points_of points
-points_small s passed =
-    let range = passed_in_range s passed in start_small s.axes range.low range.high (suc s.level) (omega (arith, range.top))

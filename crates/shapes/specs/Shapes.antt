@@ -1,10 +1,11 @@
 -- Shapes, the count of their points, and the checks of a shape, of a table's length and of an axis (document 01, "Terms and limits").
 -- Assumes nothing.
 use Rattle.refusals.specs.declared.Refusal.{Refusal}
-use Rattle.std.specs.Prelude.{Bool, true, false, ◌&&◌, ℕ, leb, eqb, Result, Ok, Err}
+use Rattle.std.specs.Prelude.{Bool, true, false, ◌&&◌, ℕ, leb, eqb, if◌then◌else◌, Result, Ok, Err}
 use Rattle.refusals.specs.declared.Refusal.TheVariants.{Axes, Level, TableLength, Axis}
 use Rattle.refusals.specs.Checks.{unless, ◌and_then◌, answer, Verdict}
 use Rattle.numbering.specs.Count.{points}
+use Rattle.faces.specs.Marked.{border_points}
 use Rattle.shapes.specs.declared.Shape.{Shape}
 
 -- The shape of d axes and top level n with a zero border: one sparse table.
@@ -26,7 +27,7 @@ most_points = 32768
 
 -- N, the number of points of a shape.
 unfoldable pub points_of : Shape → ℕ
-points_of s = points s.axes s.level
+points_of s = if s.border then border_points s.axes s.level else points s.axes s.level
 
 -- A table of a shape has N places, else refused with 3.
 unfoldable pub check_length : Shape → ℕ → Verdict

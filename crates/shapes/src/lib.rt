@@ -184,7 +184,17 @@ impl CheckedShape {
     pub fn points(self) -> u64
         ensures { result ≡ points_of self.shape }
     {
-        Rows::new().start(self.shape.axes, self.shape.level + 1)
+        let Shape {
+            axes,
+            level,
+            border,
+        } = self.shape;
+        let rows = Rows::new();
+        if border {
+            rows.border_points(axes, level)
+        } else {
+            rows.start(axes, level + 1)
+        }
     }
 
     // Refused with 3.

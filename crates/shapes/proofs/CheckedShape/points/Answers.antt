@@ -1,11 +1,17 @@
--- `CheckedShape::points` meets its contract: N counts the points with a level sum up to the top level, of a shape in the range of the table.
+-- `CheckedShape::points` meets its contract: N counts the points of all faces, or those with a level sum up to the top level.
 -- Assumes nothing.
-use mathlib.Core.Path.{ap, ◌∙◌}
+use mathlib.Core.Path.{ap, sym, ◌∙◌}
+use native.Mathlib.Omega.{arith}
 use native.Mathlib.Numerals.{add-one}
-use Rattle.numbering.specs.Count.{start, points}
-use Rattle.shapes.specs.Shapes.{points_of}
+use Rattle.numbering.specs.Count.{start}
+use Rattle.numbering.proofs.Numbering.{points_is}
+use Rattle.shapes.proofs.Layers.{points_plain, points_bordered}
 use Rattle.shapes.proofs.CheckedShape.points.Goals as goal
 
-pub returns : goal.returns
-unfolding points_of points
-returns c = c.start.ensures ∙ ap (start c.args.self.shape.axes) (add-one c.args.self.shape.level)
+pub returns-else-border : goal.returns-else-border
+returns-else-border c =
+    let s = c.args.self.shape in
+    c.start.ensures
+    ∙ ap (start s.axes) (add-one s.level)
+    ∙ sym (points_is s.axes s.level)
+    ∙ sym (points_plain s c.if-border.false)
