@@ -6,17 +6,22 @@ use Prim.Native.Nat.{ℕ}
 use Rattle.numbering.specs.Count.{points}
 use Rattle.numbering.specs.Number.{number}
 use Rattle.numbering.specs.Inverse.{level_at, index_at}
+use Rattle.numbered.specs.Numbered.{unmarked}
 use Rattle.shapes.specs.Shapes.{sparse, points_of}
-use Rattle.grids.specs.Grids.{number_of, level_on, index_on}
+use Rattle.grids.specs.Grids.{number_of, mark_on, level_on, index_on}
 
 module _ (d n : ℕ) where
   pub points_sparse : points_of (sparse d n) ≡ points d n
   unfolding points_of
   points_sparse = refl
 
-  pub number_sparse : (l i : ℕ → ℕ) → number_of (sparse d n) l i ≡ number d l i
+  pub number_sparse : (m l i : ℕ → ℕ) → number_of (sparse d n) m l i ≡ number d l i
   unfolding number_of
-  number_sparse l i = refl
+  number_sparse m l i = refl
+
+  pub marks_sparse : (p : ℕ) → mark_on (sparse d n) p ≡ unmarked
+  unfolding mark_on
+  marks_sparse p = refl
 
   pub levels_sparse : (p : ℕ) → level_on (sparse d n) p ≡ level_at d n p
   unfolding level_on

@@ -1,6 +1,6 @@
 -- Hierarchical parents on an axis: the parent of a point of the shape is one too, lies exactly at the neighbour's coordinate, is less deep on
--- that axis and has a smaller number; the maps of two axes commute. True since an even numerator within the borders has a factor of two to
--- drop and is an odd number times those dropped.
+-- that axis and has a smaller number. True since an even numerator within the borders has a factor of two to drop and is an odd number times
+-- those dropped.
 -- Assumes nothing.
 use mathlib.Core.Path.{◌≡◌, refl, ap, ap₂, sym, ◌∙◌, fun_ext}
 use mathlib.Core.Bool.{Bool, true, false, ◌||◌, true≢false}
@@ -19,7 +19,7 @@ use Rattle.numbering.specs.declared.Side.{Side}
 use Rattle.numbering.specs.declared.Side.TheVariants.{Left, Right}
 use Rattle.numbering.specs.Point.{IsPoint}
 use Rattle.numbering.specs.Number.{number}
-use Rattle.numbering.specs.Parent.{numerator, is_border, twos, parent_level, parent_index, update, border, inner, moved, parent, beyond}
+use Rattle.numbering.specs.Parent.{numerator, is_border, twos, parent_level, parent_index, update, border, inner, moved, parent}
 use Rattle.numbering.proofs.Twos.{zeros_divide, zeros_left_odd, width_enough}
 use Rattle.numbering.proofs.Ordering.{smaller_sum}
 
@@ -135,6 +135,10 @@ pub update_other : (f : ℕ → ℕ) (t v u : ℕ) → (u ≡ t → ⊥) → upd
 unfolding update
 update_other f t v u ne = rw (ne_eqb u t ne)
 
+pub update_none : (f : ℕ → ℕ) (t v : ℕ) → f t ≡ v → update f t v ≡ f
+update_none f t v e =
+    fun_ext λ u. eq_or_not u t (λ same. rw same (update_same f t v ∙ sym e)) (λ other. update_other f t v u other)
+
 pub update_sum : (f : ℕ → ℕ) (t v d : ℕ) → t < d → sum_to (update f t v) d + f t ≡ sum_to f d + v
 update_sum f t v zero h = omega arith
 update_sum f t v (suc d) h =
@@ -158,7 +162,7 @@ update_sum f t v (suc d) h =
       update_other f t v d (λ same. e (sym same)),
     ))
 
-update_swap : (f : ℕ → ℕ) (t s v w : ℕ) → (t ≡ s → ⊥) → update (update f t v) s w ≡ update (update f s w) t v
+pub update_swap : (f : ℕ → ℕ) (t s v w : ℕ) → (t ≡ s → ⊥) → update (update f t v) s w ≡ update (update f s w) t v
 update_swap f t s v w ne = fun_ext λ u. at_place u
   where
     at_place : (u : ℕ) → update (update f t v) s w u ≡ update (update f s w) t v u
@@ -252,39 +256,3 @@ module _ {d n : ℕ} {l i : ℕ → ℕ} (p : IsPoint d n l i) (t : ℕ) (axis :
   -- Its number is smaller.
   pub parent_number : number d (update l t (parent_level (l t) (numerator side (i t)))) (update i t (parent_index (numerator side (i t)))) < number d l i
   parent_number = smaller_sum parent_is_point p parent_sum
-
--- Parents on different axes commute, borders included: each looks at its own axis alone and changes that alone.
-after_other : (t s : ℕ) (b : Side) (l i : ℕ → ℕ) (v w : ℕ) → (t ≡ s → ⊥) →
-    parent t b (update l s v) (update i s w)
-    ≡ (if is_border (l t) (numerator b (i t))
-    then border
-    else inner
-    (update (update l s v) t (parent_level (l t) (numerator b (i t))))
-    (update (update i s w) t (parent_index (numerator b (i t)))))
-unfolding parent
-after_other t s b l i v w ne = rw (update_other l s v t ne, update_other i s w t ne)
-
-pub parents_commute : (t s : ℕ) (b c : Side) (l i : ℕ → ℕ) → (t ≡ s → ⊥) →
-    beyond t b (parent s c l i) ≡ beyond s c (parent t b l i)
-unfolding beyond
-parents_commute t s b c l i ne =
-    true_or_false (is_border (l s) (numerator c (i s)))
-    (λ bs.
-    ap (beyond t b) (parent_border s c l i bs)
-    ∙ true_or_false (is_border (l t) (numerator b (i t)))
-    (λ bt. sym (ap (beyond s c) (parent_border t b l i bt)))
-    (λ nt.
-    sym
-    (ap (beyond s c) (parent_inner t b l i nt)
-    ∙ after_other s t c l i _ _ (λ e. ne (sym e))
-    ∙ rw bs)))
-    (λ ns.
-    ap (beyond t b) (parent_inner s c l i ns)
-    ∙ after_other t s b l i _ _ ne
-    ∙ true_or_false (is_border (l t) (numerator b (i t)))
-    (λ bt. rw bt (sym (ap (beyond s c) (parent_border t b l i bt))))
-    (λ nt.
-    rw nt
-    (ap₂ inner (update_swap l s t _ _ (λ e. ne (sym e))) (update_swap i s t _ _ (λ e. ne (sym e)))
-    ∙ sym (rw ns)
-    ∙ sym (ap (beyond s c) (parent_inner t b l i nt) ∙ after_other s t c l i _ _ (λ e. ne (sym e))))))

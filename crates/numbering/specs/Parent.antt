@@ -42,8 +42,3 @@ moved t m l i = inner (update l t (parent_level (l t) m)) (update i t (parent_in
 unfoldable pub parent : ℕ → Side → (ℕ → ℕ) → (ℕ → ℕ) → Neighbour
 parent t side l i =
     if is_border (l t) (numerator side (i t)) then border else moved t (numerator side (i t)) l i
-
--- The parent of what lies beside a point: beyond the border there is only the border.
-unfoldable pub beyond : ℕ → Side → Neighbour → Neighbour
-beyond t side border = border
-beyond t side (inner l i) = parent t side l i

@@ -1,2 +1,3 @@
+pub mod Moves
 pub mod Beside
 pub mod Instance
