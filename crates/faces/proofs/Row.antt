@@ -120,7 +120,7 @@ module _ (d : ℕ) (m : ℕ → ℕ) (marks : (t : ℕ) → t < d → m t ≤ 2)
 abbrev pub unmarked : ℕ → ℕ
 unmarked t = 0
 
-no_borders : (d : ℕ) → borders unmarked d ≡ 0
+pub no_borders : (d : ℕ) → borders unmarked d ≡ 0
 no_borders zero = borders_zero unmarked
 no_borders (suc d) = omega (arith, borders_suc unmarked d, bit_inner 0 refl, no_borders d)
 
@@ -150,24 +150,34 @@ unmarked_start d n =
     )
 
 -- Every axis is at its own place.
-before_unmarked : (t : ℕ) → before unmarked t ≡ t
+pub before_unmarked : (t : ℕ) → before unmarked t ≡ t
 before_unmarked t = omega (arith, before_borders unmarked t, no_borders t)
+
+pub unmarked_packed : (d : ℕ) (f : ℕ → ℕ) (t : ℕ) → t < d → packed unmarked d f t ≡ f t
+unmarked_packed d f t h = ap (packed unmarked d f) (sym (before_unmarked t)) ∙ packed_before unmarked d f t h refl
 
 pub unmarked_number : (d n : ℕ) (l i : ℕ → ℕ) → border_number d n unmarked l i ≡ number d l i
 unmarked_number d n l i =
     omega (arith, border_number_is d n unmarked l i, unmarked_start d n, in_face_is d unmarked l i)
     ∙ ap (λ (k : ℕ). number k (packed unmarked d l) (packed unmarked d i)) (inner d)
-    ∙ number_cong d _ _ _ _ (same l) (same i)
+    ∙ number_cong d _ _ _ _ (unmarked_packed d l) (unmarked_packed d i)
   where
     inner : (d : ℕ) → d - borders unmarked d ≡ d
     inner d = omega (arith, no_borders d)
 
-    same : (f : ℕ → ℕ) (t : ℕ) → t < d → packed unmarked d f t ≡ f t
-    same f t h = ap (packed unmarked d f) (sym (before_unmarked t)) ∙ packed_before unmarked d f t h refl
+-- It has all axes inside.
+pub first_inner : (d : ℕ) → inner_of d 0 ≡ d
+first_inner d =
+    omega (
+      arith,
+      inner_of_is d 0,
+      ap (borders_of d) (sym (unmarked_first d)) ∙ borders_of_number d unmarked (λ t h. omega arith),
+      no_borders d,
+    )
 
 -- ---- the row
 
-row_zero : (d n : ℕ) → row d n 0 ≡ 0
+pub row_zero : (d n : ℕ) → row d n 0 ≡ 0
 unfolding row
 row_zero d n = sum_to_zero (points_on d n)
 

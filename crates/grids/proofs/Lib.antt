@@ -1,5 +1,6 @@
 pub mod Sparse
 pub mod Points
+pub mod Faces
 pub mod Beside
 pub mod Instance
 pub mod Turned
