@@ -148,9 +148,14 @@ module _ {d n : ℕ} {m l i : ℕ → ℕ} (x : Marked d n m l i) where
       (ap (sum_to (packed m d l)) (sym u.place) ∙ prefix_sum m d l x.level (axis_of m d j) (omega (arith, u.axis)))
       ∙ sym (packed_is m d (digit l i) j ∙ digit_is l i (axis_of m d j))
 
+  -- So do the first t axes together.
+  pub prefix_position : (t : ℕ) → t ≤ d → position (packed m d l) (packed m d i) (before m t) ≡ position l i t
+  prefix_position t le =
+      position_is (packed m d l) (packed m d i) (before m t)
+      ∙ sum_to_cong (digit (packed m d l) (packed m d i)) (packed m d (digit l i)) (before m t)
+      (λ j h. digit_packed j (omega (arith, h, before_mono m t d le)))
+      ∙ prefix_sum m d (digit l i) digit_border t le
+      ∙ sym (position_is l i t)
+
   pub packed_position : position (packed m d l) (packed m d i) (before m d) ≡ position l i d
-  packed_position =
-      position_is (packed m d l) (packed m d i) (before m d)
-      ∙ sum_to_cong (digit (packed m d l) (packed m d i)) (packed m d (digit l i)) (before m d) digit_packed
-      ∙ packed_sum m d (digit l i) digit_border
-      ∙ sym (position_is l i d)
+  packed_position = prefix_position d (omega arith)

@@ -4,3 +4,4 @@ pub mod Faces
 pub mod Beside
 pub mod Instance
 pub mod Turned
+pub mod Facets
