@@ -2,7 +2,7 @@
 -- border where that is 0 or 2^(n+1). True since document 01's numerators, index − 1 and index + 1, stand over 2^(level+1), and a step of that level is the
 -- reach: index times reach is x. So a neighbour's position is so many times the points of the axes before away, and its other places are the same.
 -- Assumes nothing.
-use mathlib.Core.Path.{◌≡◌, ap, ap₂, sym, ◌∙◌}
+use mathlib.Core.Path.{◌≡◌, refl, ap, ap₂, sym, ◌∙◌}
 use mathlib.Core.Bool.{Bool, true, false}
 use mathlib.Core.Logic.{⊎_elim}
 use Prim.Native.Nat.{ℕ, suc, ◌+◌, ◌-◌, ◌*◌, ◌^◌, ◌≤◌, ◌<◌}
@@ -14,7 +14,7 @@ use Rattle.numbering.specs.declared.Side.{Side}
 use Rattle.numbering.specs.declared.Side.TheVariants.{Left, Right}
 use Rattle.numbering.specs.Parent.{numerator, is_border, twos, parent_level, parent_index}
 use Rattle.numbering.proofs.Parents.{inside, twos_le, border_low, border_high, border_means, update_same, update_other}
-use Rattle.zero_border.proofs.Beside.{parent_levels, parent_indices, to_border, to_parent, parent_there}
+use Rattle.numbered.proofs.Beside.{parent_levels, parent_indices, to_border, to_parent, parent_there}
 use Rattle.component_grids.specs.Component.{points_to, place, position, place_at, level_at, index_at, component, neighbour}
 use Rattle.component_grids.proofs.Places.{Shifted, place_low, place_high, same_places, shift_up, shift_down}
 use Rattle.component_grids.proofs.Levels.{place_value, power_le, level_is, level_le, level_steps, index_odd, index_times, index_below}
@@ -124,15 +124,15 @@ module _ (d : ℕ) (tops : ℕ → ℕ) where
   module _ (t : ℕ) (b : Side) (p : ℕ) (axis : t < d) (there : p < points_to tops d) where
     none_beside : at_border tops t b p ≡ true → neighbour d tops t b (suc p) ≡ 0
     unfolding neighbour level_at index_at
-    none_beside e = to_border (component d tops) t b p there axis e
+    none_beside e = to_border (component d tops) t b p there axis refl e refl
 
     some_beside : at_border tops t b p ≡ false → neighbour d tops t b (suc p) ≡ suc (parent_at d tops t b p)
     unfolding neighbour level_at index_at
-    some_beside e = to_parent (component d tops) t b p there axis e
+    some_beside e = to_parent (component d tops) t b p there axis refl e
 
     parent_on_grid : at_border tops t b p ≡ false → OnGrid d tops (parent_levels (component d tops) t b p) (parent_indices (component d tops) t b p)
     unfolding level_at index_at
-    parent_on_grid e = parent_there (numbering d tops) t b p there axis e
+    parent_on_grid e = (parent_there (numbering d tops) t b p there axis refl e).inside
 
     -- The parent's places.
     own_place : at_border tops t b p ≡ false →
@@ -151,7 +151,7 @@ module _ (d : ℕ) (tops : ℕ → ℕ) where
     parent_beside e =
         let x = parent_on_grid e in
         record {
-          inside = (numbering d tops).number_lt x;
+          inside = (numbering d tops).number_lt (record { inside = x; marks = refl });
           own = place_of d tops x t axis ∙ own_place e;
           others = λ u other ne. place_of d tops x u other ∙ other_place u ne;
         }

@@ -2,7 +2,7 @@
 -- every position below it is that of its own, and parents are points. True since a position's places are digits, and each place is that of one level and index.
 -- Assumes nothing.
 use mathlib.Core.Path.{◌≡◌, refl, ap, ap₂, sym, ◌∙◌, fun_ext}
-use mathlib.Core.Bool.{false}
+use mathlib.Core.Bool.{false, false≢true}
 use Prim.Native.Nat.{ℕ, zero, suc, ◌+◌, ◌-◌, ◌*◌, ◌/◌, ◌%◌, ◌^◌, ◌≤◌, ◌<◌}
 use native.Mathlib.Nat.{add_comm, mul_comm, add-sub_cancel, sub_self, mod-one, mod-eq_of_lt}
 use native.Mathlib.Omega.{arith}
@@ -14,7 +14,7 @@ use Rattle.naturals.proofs.Sums.{sum_to_cong}
 use Rattle.numbering.specs.declared.Side.{Side}
 use Rattle.numbering.specs.Parent.{numerator, is_border, parent_level, parent_index, update}
 use Rattle.numbering.proofs.Parents.{Inside, inside, index_odd_up, index_below_up, level_falls, update_same, update_other}
-use Rattle.zero_border.specs.Numbered.{Numbering}
+use Rattle.numbered.specs.Numbered.{Unmarked, Numbering}
 use Rattle.component_grids.specs.Component.{across, points_to, place, share, position, place_at, level_at, index_at, component}
 use Rattle.component_grids.proofs.Places.{across_is, across_pos, points_to_zero, points_to_suc, points_to_pos, place_is_lem, place_low, place_high, place_below, place_past}
 use Rattle.component_grids.proofs.Levels.{place_value, place_again, level_le, index_odd, index_below, place_least, place_most, level_again, index_again}
@@ -226,16 +226,22 @@ module _ (d : ℕ) (tops : ℕ → ℕ) where
         indices = λ t past. index_of tops p t ∙ ap parent_index (place_past d tops p t h past) ∙ index_one;
       }
 
-  pub numbering : Numbering (component d tops) (OnGrid d tops)
+  pub numbering : Numbering (component d tops) (Unmarked (OnGrid d tops))
   numbering =
       record {
-        point_at = on_grid;
+        point_at = λ p h. record { inside = on_grid p h; marks = refl };
         number_at = λ p h. position_rest tops p d ∙ mod-eq_of_lt h;
-        number_lt = λ x. position_lt d tops x d (omega arith);
-        levels_again = λ x. level_same d tops x;
-        indices_again = λ x. index_same d tops x;
-        one_number = λ x y levels indices. position_cong d tops _ _ _ _ levels indices;
-        odd = λ x. x.odd;
-        below = λ x. x.below;
-        parent_there = λ x t b axis e. parent_on_grid d tops x t b axis e;
+        number_lt = λ x. position_lt d tops x.inside d (omega arith);
+        marks_again = λ x. sym x.marks;
+        levels_again = λ x. level_same d tops x.inside;
+        indices_again = λ x. index_same d tops x.inside;
+        one_number = λ x y marks levels indices. position_cong d tops _ _ _ _ levels indices;
+        odd = λ x. x.inside.odd;
+        below = λ x. x.inside.below;
+        mark_le = λ x t axis. omega (arith, ap (λ (m : ℕ → ℕ). m t) x.marks);
+        border_level = λ x t axis marked. absurd (omega (arith, ap (λ (m : ℕ → ℕ). m t) x.marks));
+        border_index = λ x t axis marked. absurd (omega (arith, ap (λ (m : ℕ → ℕ). m t) x.marks));
+        only = λ x zero t axis. ap (λ (m : ℕ → ℕ). m t) x.marks;
+        parent_there = λ x t b axis inner e. record { inside = parent_on_grid d tops x.inside t b axis e; marks = x.marks };
+        across_there = λ x t b axis on. absurd (false≢true on);
       }

@@ -1,12 +1,12 @@
 -- Component grids (document 02, c): full grids that are refined differently on each axis, with zero borders. Their points are those whose level on each axis is
 -- at most that axis's top level. Top levels are a function from an axis to a number, as levels and indices are.
 -- Assumes nothing.
-use Rattle.std.specs.Prelude.{ℕ, suc, ◌+◌, ◌-◌, ◌*◌, ◌/◌, ◌%◌, ◌^◌}
+use Rattle.std.specs.Prelude.{false, ℕ, suc, ◌+◌, ◌-◌, ◌*◌, ◌/◌, ◌%◌, ◌^◌}
 use Rattle.naturals.specs.Sum.{sum_to, prod_to}
 use Rattle.numbering.specs.declared.Side.{Side}
 use Rattle.numbering.specs.Parent.{parent_level, parent_index}
-use Rattle.zero_border.specs.Numbered.{Numbered}
-use Rattle.zero_border.specs.ZeroBorder as zero_border
+use Rattle.numbered.specs.Numbered.{unmarked, Numbered}
+use Rattle.numbered.specs.Neighbours as numbered_points
 
 -- How many points an axis of top level n has.
 unfoldable pub across : ℕ → ℕ
@@ -41,21 +41,23 @@ level_at tops p t = parent_level (tops t) (place_at tops p t)
 unfoldable pub index_at : (ℕ → ℕ) → ℕ → ℕ → ℕ
 index_at tops p t = parent_index (place_at tops p t)
 
--- The component grid of d axes: its points by position.
+-- The component grid of d axes: its points by position, with a zero border.
 abbrev pub component : ℕ → (ℕ → ℕ) → Numbered
 component d tops =
     record {
       axes = d;
       count = points_to tops d;
-      number = position d tops;
+      border = false;
+      number = λ m. position d tops;
+      mark = λ p. unmarked;
       level = level_at tops;
       index = index_at tops;
     }
 
 -- The neighbour of a code on axis t (from 0), on either side, by document 01's rule: code 0 is the border, code p + 1 is position p.
 unfoldable pub neighbour : ℕ → (ℕ → ℕ) → ℕ → Side → ℕ → ℕ
-neighbour d tops t side p = zero_border.neighbour (component d tops) t side p
+neighbour d tops t side p = numbered_points.neighbour (component d tops) t side p
 
--- How deep a code lies on an axis: its level there, and 0 at the border.
+-- How deep a code lies on an axis: one more than its level there, and 0 at the border.
 unfoldable pub depth : ℕ → (ℕ → ℕ) → ℕ → ℕ → ℕ
-depth d tops t p = zero_border.depth (component d tops) t p
+depth d tops t p = numbered_points.depth (component d tops) t p

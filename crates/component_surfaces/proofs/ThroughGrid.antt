@@ -12,7 +12,7 @@ use lib.Seq.{ext_get_or}
 use Rattle.hierarchy.specs.Turns.{value_at}
 use Rattle.hierarchy.specs.Sets.{table_of, every_axis}
 use Rattle.hierarchy.proofs.Values.{value_zero, value_suc, values_length, values_at}
-use Rattle.zero_border.specs.ZeroBorder.{neighbour}
+use Rattle.numbered.specs.Neighbours.{neighbour}
 use Rattle.component_grids.specs.Component.{place_at, level_at, component}
 use Rattle.component_grids.specs.Component as grids
 use Rattle.component_grids.proofs.Levels.{level_le}

@@ -4,7 +4,7 @@
 use mathlib.Core.Path.{◌≡◌, sym, ◌∙◌}
 use Prim.Native.Nat.{ℕ, ◌+◌, ◌^◌, ◌≤◌, ◌<◌}
 use lib.IntN.{ℤ, pos, ◌*ℤ◌}
-use Rattle.zero_border.specs.Numbered.{Numbered, Numbering}
+use Rattle.numbered.specs.Numbered.{Numbered, Numbering}
 use Rattle.shapes.specs.declared.Shape.{Shape}
 use Rattle.shapes.specs.Shapes.{points_of}
 use Rattle.grids.proofs.Points.{numbering}
@@ -14,7 +14,7 @@ use Rattle.surfaces.specs.Surface.{coordinates_in, product_in, joint_in, surface
 use Rattle.surfaces.proofs.Unit.{unit_bits, unit_is}
 use Rattle.surfaces.proofs.GridPoints.{WholeWeights, joint_exact_in, shape_weights}
 
-pub weighted_exact_in : (u bits : ℕ) → u ≡ 2 ^ bits → {g : Numbered} {Point : (ℕ → ℕ) → (ℕ → ℕ) → Type 0} → Numbering g Point →
+pub weighted_exact_in : (u bits : ℕ) → u ≡ 2 ^ bits → {g : Numbered} {Point : (ℕ → ℕ) → (ℕ → ℕ) → (ℕ → ℕ) → Type 0} → Numbering g Point →
     WholeWeights bits g → (c : ℕ → ℤ) (q : ℕ) → q < g.count →
     joint_sum_in u g c (coordinates_in u g q) *ℤ pos (u ^ g.axes) ≡ surface_in u g c (coordinates_in u g q) *ℤ pos u
 unfolding surface_in joint_sum_in

@@ -7,11 +7,11 @@ use native.Mathlib.Nat.{mul-le-mul}
 use native.Mathlib.Omega.{arith}
 use lib.IntN.{ℤ, pos, ◌*ℤ◌}
 use Rattle.integers.proofs.Nearest.{nearest_finer}
-use Rattle.zero_border.specs.Numbered.{Numbered}
+use Rattle.numbered.specs.Numbered.{Numbered}
 use Rattle.interpolation.proofs.Weighted.{weighted_sum_cong, weighted_sum_times}
 use Rattle.surfaces.specs.Weights.{joint}
 use Rattle.surfaces.specs.Surface.{weight_in, joint_in, joint_sum_in, rounded, estimate_in}
-use Rattle.surfaces.proofs.Hat.{weight_finer}
+use Rattle.surfaces.proofs.AxisHat.{axis_weight_finer}
 use Rattle.surfaces.proofs.Joint.{joint_one}
 
 -- The coordinates of the same place in a unit f times as fine.
@@ -24,7 +24,7 @@ module _ (u f : ℕ) (some : 0 < u) (more : 0 < f) (g : Numbered) (one : g.axes 
   joint_finer p =
       ap (joint (u * f) (weight_in (u * f) g (finer f x) p)) one
       ∙ joint_one (u * f) (weight_in (u * f) g (finer f x) p) (omega (arith, mul-le-mul some more))
-      ∙ weight_finer u f (x 0) (g.level p 0) (g.index p 0)
+      ∙ axis_weight_finer u f (x 0) (g.mark p 0) (g.level p 0) (g.index p 0)
       ∙ ap (λ (w : ℕ). w * f) (sym (ap (joint u (weight_in u g x p)) one ∙ joint_one u (weight_in u g x p) some))
 
   sum_finer : (c : ℕ → ℤ) → joint_sum_in (u * f) g c (finer f x) ≡ joint_sum_in u g c x *ℤ pos f

@@ -1,24 +1,26 @@
--- At a grid point rounding the joint weight down loses nothing: a weight at a point, times 2^(l+1) for the point's level l on the axis, is a multiple of the
+-- At a grid point rounding the joint weight down loses nothing, with a zero border or with values on it: a weight at a point, times 2^(l+1) for the point's level l on the axis, is a multiple of the
 -- unit, so the joint weight is one of the unit over 2 to the level sum plus the number of axes, and the unit has that many factors of two.
 -- Assumes nothing.
 use mathlib.Core.Path.{◌≡◌, refl, ap, ap₂, sym, ◌∙◌}
 use Prim.Native.Nat.{ℕ, zero, suc, ◌+◌, ◌-◌, ◌*◌, ◌/◌, ◌%◌, ◌^◌, ◌≤◌, ◌<◌}
-use native.Mathlib.Nat.{mul-div_cancel, eq_of_mul-eq-mul_right, pow-suc, pow-zero}
+use native.Mathlib.Nat.{mul-div_cancel, eq_of_mul-eq-mul_right, pow-suc, pow-zero, mul_comm, mul_assoc, mul-sub}
 use native.Mathlib.Omega.{arith}
 use lib.Pow.{pow-add, pow_pos}
 use Rattle.naturals.specs.Sum.{sum_to, prod_to}
 use Rattle.naturals.proofs.Cases.{le_or_lt}
 use Rattle.naturals.proofs.Sums.{sum_to_zero, sum_to_suc, sum_to_mono, term_le}
-use Rattle.zero_border.specs.Numbered.{Numbered, Numbering}
+use Rattle.numbered.specs.Numbered.{Numbered, Numbering}
 use Rattle.shapes.specs.declared.Shape.{Shape}
 use Rattle.shapes.specs.Shapes.{points_of}
 use Rattle.grids.specs.Grids.{numbered}
 use Rattle.grids.proofs.Points.{level_sum, numbering}
 use Rattle.interpolation.proofs.Products.{prod_to_zero, prod_to_suc}
-use Rattle.surfaces.specs.Weights.{unit, weight, joint}
+use Rattle.surfaces.specs.Weights.{unit, weight, axis_coordinate, axis_weight, joint}
 use Rattle.surfaces.specs.Surface.{coordinates_in, weight_in, product_in, joint_in, coordinates_of, product_at, joint_at}
 use Rattle.surfaces.proofs.Unit.{unit_bits, unit_is, WholeCoordinates, Share, unit_splits, coordinate_is}
-use Rattle.surfaces.proofs.Hat.{tent, share_above, weight_above, weight_below}
+use Rattle.surfaces.proofs.Hat.{tent, share_above, weight_above, weight_below, weight_low, weight_high}
+use Rattle.surfaces.proofs.AxisHat.{OnAxis, weight_inside, weight_lower, weight_upper, coordinate_inside, coordinate_lower, coordinate_upper}
+use Rattle.surfaces.proofs.Instance.{on_axis}
 use Rattle.surfaces.proofs.Joint.{joint_zero, joint_suc}
 
 -- w times 2^e is a multiple of the unit u.
@@ -88,6 +90,59 @@ module _ (u bits : ℕ) (binary : u ≡ 2 ^ bits) where
                 (ap (λ (k : ℕ). 2 ^ k) parts ∙ pow-add 2 (lq - lp) (suc lp));
           }
 
+  module _ (a l i : ℕ) (x : OnAxis a l i) where
+    none_multiple : (w e : ℕ) → w ≡ 0 → Multiple u w e
+    none_multiple w e none = record { times = 0; exact = ap (λ (y : ℕ). y * 2 ^ e) none ∙ zeros (2 ^ e) u }
+      where
+        zeros : (a u : ℕ) → 0 * a ≡ 0 * u
+        zeros a u = omega arith
+
+    whole_multiple : (w e : ℕ) → w ≡ u → Multiple u w e
+    whole_multiple w e all = record { times = 2 ^ e; exact = ap (λ (y : ℕ). y * 2 ^ e) all ∙ mul_comm u (2 ^ e) }
+
+    -- At a point inside, of level k and index j: a border's weight is so many shares.
+    inside_multiple : (k j v : ℕ) → j < 2 ^ suc k → v * 2 ^ suc k ≡ u → Multiple u (axis_weight u (j * v) a l i) (suc k)
+    inside_multiple k j v below whole = by_mark a
+      where
+        line : (j v b : ℕ) → (v * b - j * v) * b ≡ (b - j) * (v * b)
+        line j v b =
+            ap (λ (y : ℕ). (v * b - y) * b) (mul_comm j v)
+            ∙ ap (λ (y : ℕ). y * b) (sym (mul-sub v b j))
+            ∙ omega (arith, mul_comm v (b - j), mul_assoc (b - j) v b)
+
+        by_mark : (a : ℕ) → Multiple u (axis_weight u (j * v) a l i) (suc k)
+        by_mark zero = rw (weight_inside u (j * v) l i 0 refl) (weight_multiple l i k j v x.odd whole)
+        by_mark (suc zero) =
+            record {
+              times = 2 ^ suc k - j;
+              exact = ap (λ (y : ℕ). y * 2 ^ suc k) (weight_lower u (j * v) l i) ∙ rw (← whole) (line j v (2 ^ suc k));
+            }
+        by_mark (suc (suc a)) =
+            record {
+              times = j;
+              exact =
+                  ap (λ (y : ℕ). y * 2 ^ suc k) (weight_upper u (j * v) l i a)
+                  ∙ mul_assoc j v (2 ^ suc k)
+                  ∙ ap (λ (y : ℕ). j * y) whole;
+            }
+
+    -- At a border point a weight is 0 or the unit.
+    lower_multiple : (e : ℕ) → Multiple u (axis_weight u 0 a l i) e
+    lower_multiple e = by_mark a
+      where
+        by_mark : (a : ℕ) → Multiple u (axis_weight u 0 a l i) e
+        by_mark zero = none_multiple _ e (weight_inside u 0 l i 0 refl ∙ weight_low u l i (omega (arith, x.odd)))
+        by_mark (suc zero) = whole_multiple _ e (omega (arith, weight_lower u 0 l i))
+        by_mark (suc (suc a)) = none_multiple _ e (weight_upper u 0 l i a)
+
+    upper_multiple : (e : ℕ) → Multiple u (axis_weight u u a l i) e
+    upper_multiple e = by_mark a
+      where
+        by_mark : (a : ℕ) → Multiple u (axis_weight u u a l i) e
+        by_mark zero = none_multiple _ e (weight_inside u u l i 0 refl ∙ weight_high u l i x.below)
+        by_mark (suc zero) = none_multiple _ e (omega (arith, weight_lower u u l i))
+        by_mark (suc (suc a)) = whole_multiple _ e (weight_upper u u l i a)
+
   -- ---- one axis more
 
   module _ (j w s l : ℕ) (few : s + l ≤ bits) (mj : Multiple u j s) (mw : Multiple u w l) where
@@ -149,16 +204,31 @@ module _ (u bits : ℕ) (binary : u ≡ 2 ^ bits) where
 
   -- ---- the points
 
-  module _ {g : Numbered} {Point : (ℕ → ℕ) → (ℕ → ℕ) → Type 0} (n : Numbering g Point) (whole : WholeWeights bits g)
+  module _ {g : Numbered} {Point : (ℕ → ℕ) → (ℕ → ℕ) → (ℕ → ℕ) → Type 0} (n : Numbering g Point) (whole : WholeWeights bits g)
       (p q : ℕ) (p_in : p < g.count) (q_in : q < g.count) where
     axis_multiple : (t : ℕ) → t < g.axes → Multiple u (weight_in u g (coordinates_in u g q) p t) (deeper (g.level q) t)
     unfolding weight_in coordinates_in deeper
-    axis_multiple t axis =
-        let part = splits (suc (g.level q t)) (whole_coordinates bits g whole q t q_in axis) in
-        rw (coordinate_is u (g.level q t) (g.index q t) (g.level q t) (g.index q t) part.share part.whole refl)
-        (weight_multiple (g.level p t) (g.index p t) (g.level q t) (g.index q t) part.share
-        (n.odd (n.point_at p p_in) t axis)
-        part.whole)
+    axis_multiple t axis = by_mark (g.mark q t) (on_axis u n q q_in t axis).mark
+      where
+        by_mark : (c : ℕ) → c ≤ 2 →
+            Multiple u
+            (axis_weight u (axis_coordinate u c (g.level q t) (g.index q t)) (g.mark p t) (g.level p t) (g.index p t))
+            (suc (g.level q t))
+        by_mark zero h =
+            let part = splits (suc (g.level q t)) (whole_coordinates bits g whole q t q_in axis) in
+            rw (
+              coordinate_inside u (g.level q t) (g.index q t) 0 refl,
+              coordinate_is u (g.level q t) (g.index q t) (g.level q t) (g.index q t) part.share part.whole refl,
+            )
+            (inside_multiple (g.mark p t) (g.level p t) (g.index p t) (on_axis u n p p_in t axis) (g.level q t) (g.index q t) part.share
+            (on_axis u n q q_in t axis).below
+            part.whole)
+        by_mark (suc zero) h =
+            rw (coordinate_lower u (g.level q t) (g.index q t))
+            (lower_multiple (g.mark p t) (g.level p t) (g.index p t) (on_axis u n p p_in t axis) (suc (g.level q t)))
+        by_mark (suc (suc c)) h =
+            rw (coordinate_upper u (g.level q t) (g.index q t) c)
+            (upper_multiple (g.mark p t) (g.level p t) (g.index p t) (on_axis u n p p_in t axis) (suc (g.level q t)))
 
     pub joint_exact_in : joint_in u g (coordinates_in u g q) p * u ^ g.axes ≡ product_in u g (coordinates_in u g q) p * u
     unfolding joint_in product_in

@@ -69,6 +69,13 @@ shares_sum s a b c j u x y z ea eb ec ej e = omega (arith, ap (λ (w : ℕ). s *
 
 -- ---- weights in a unit
 
+pub weight_is : (u x l i : ℕ) → weight u x l i ≡ u - distance (x * 2 ^ suc l) (i * u)
+unfolding weight
+weight_is u x l i = refl
+
+pub weight_le : (u x l i : ℕ) → weight u x l i ≤ u
+weight_le u x l i = omega (arith, weight_is u x l i)
+
 module _ (unit : ℕ) where
   -- Where s * h is the unit and x * 2^(l+1) is s * y, the weight is s times a tent.
   weight_scaled : (x l i s h y : ℕ) → s * h ≡ unit → x * 2 ^ suc l ≡ s * y → weight unit x l i ≡ s * tent h (i * h) y

@@ -1,5 +1,5 @@
 -- The surface of the coefficients of rates passes through every rate, alone does so, and its estimate there is the rate times 2^d; one turn does the same on the
--- lines along its axis. True of every grid with hat functions, and numbered points with a zero border have them; the estimate loses nothing at a grid point.
+-- lines along its axis. True of every grid with hat functions, and numbered points have them; the estimate loses nothing at a grid point.
 -- Assumes nothing.
 use mathlib.Core.Path.{◌≡◌, refl, ap, ap₂, sym, ◌∙◌}
 use mathlib.Core.Bool.{Bool, true, false}
@@ -19,9 +19,9 @@ use Rattle.hierarchy.specs.Sets.{table_of, every_axis, no_axis}
 use Rattle.hierarchy.specs.Work.{put}
 use Rattle.hierarchy.proofs.Work.{put_same, put_other}
 use Rattle.hierarchy.proofs.Closed.{table_closed}
-use Rattle.zero_border.specs.Numbered.{Numbered, Numbering}
-use Rattle.zero_border.specs.ZeroBorder.{neighbour, depth}
-use Rattle.zero_border.proofs.Instance.{zero_border}
+use Rattle.numbered.specs.Numbered.{Numbered, Numbering}
+use Rattle.numbered.specs.Neighbours.{neighbour, depth}
+use Rattle.numbered.proofs.Instance.{numbered_grid}
 use Rattle.shapes.specs.declared.Shape.{Shape}
 use Rattle.shapes.specs.Shapes.{points_of}
 use Rattle.grids.specs.Grids.{numbered}
@@ -61,7 +61,7 @@ module _ (u bits : ℕ) (binary : u ≡ 2 ^ bits) where
   some : 0 < u
   some = omega (arith, binary, pow_pos bits)
 
-  module _ {g : Numbered} {Point : (ℕ → ℕ) → (ℕ → ℕ) → Type 0} (n : Numbering g Point) where
+  module _ {g : Numbered} {Point : (ℕ → ℕ) → (ℕ → ℕ) → (ℕ → ℕ) → Type 0} (n : Numbering g Point) where
     -- The surface at a point is the sum that interpolation speaks of.
     surface_factors : (c : ℕ → ℤ) (q : ℕ) →
         surface_in u g c (coordinates_in u g q) ≡ weighted_sum g.count c (factors (grid_weight u g) (grid_same g) g.axes no_axis (suc q))
@@ -75,7 +75,7 @@ module _ (u bits : ℕ) (binary : u ≡ 2 ^ bits) where
           (q : ℕ) → q < g.count → surface_in u g c (coordinates_in u g q) ≡ r (suc q) *ℤ pos (2 ^ g.axes) *ℤ pos (u ^ g.axes)
       surface_through_in c r z coefficients q point =
           surface_factors c q
-          ∙ passes_through g.count g.axes u (neighbour g) (depth g) (zero_border n) (grid_weight u g) (grid_same g)
+          ∙ passes_through g.count g.axes u (neighbour g) (depth g) (numbered_grid n) (grid_weight u g) (grid_same g)
           (hats_in u n bits binary whole) c r dim z
           (λ p lt. coefficients p lt ∙ ap (λ (f : ℕ → ℤ). f (suc p)) (table_closed (neighbour g) g.axes every_axis r))
           q point
@@ -86,7 +86,7 @@ module _ (u bits : ℕ) (binary : u ≡ 2 ^ bits) where
           ((q : ℕ) → q < g.count → surface_in u g c (coordinates_in u g q) ≡ r (suc q) *ℤ pos (2 ^ g.axes) *ℤ pos (u ^ g.axes)) →
           (q : ℕ) → q < g.count → c (suc q) ≡ table_of (neighbour g) g.axes every_axis r (suc q)
       only_surface_in c r z through q point =
-          only_coefficients g.count g.axes u (neighbour g) (depth g) (zero_border n) (grid_weight u g) (grid_same g)
+          only_coefficients g.count g.axes u (neighbour g) (depth g) (numbered_grid n) (grid_weight u g) (grid_same g)
           (hats_in u n bits binary whole) c r some dim z
           (λ p lt. sym (surface_factors c p) ∙ through p lt ∙ sym (double_times (r (suc p)) u g.axes))
           q point

@@ -1,5 +1,6 @@
 pub mod Unit
 pub mod Hat
+pub mod AxisHat
 pub mod Instance
 pub mod Joint
 pub mod GridPoints

@@ -5,29 +5,31 @@
 use mathlib.Core.Path.{◌≡◌, ap, sym, ◌∙◌}
 use mathlib.Core.Logic.{⊎_elim}
 use Prim.Native.Nat.{ℕ, zero, suc, ◌+◌, ◌-◌, ◌*◌, ◌^◌, ◌≤◌, ◌<◌}
-use native.Mathlib.Nat.{mul-le-mul_left, mul-le-mul_right, le_of_mul-le-mul_right, mul-zero, zero-mul, add-mul, div-add-mod', mod-lt, pow-zero, pow-suc, eq-zero-or-pos}
+use native.Mathlib.Nat.{mul-le-mul_left, mul-le-mul_right, le_of_mul-le-mul_right, mul-zero, zero-mul, add-mul, pow-zero, pow-suc, eq-zero-or-pos}
 use native.Mathlib.Omega.{arith}
 use Rattle.std.proofs.lemmas.Grind.{div_ceil_times}
 use Rattle.std.proofs.lemmas.Int.{ints}
 use lib.IntN.{ℤ, pos, neg_ℤ, nat_abs, ◌+ℤ◌, ◌-ℤ◌, ◌*ℤ◌}
 use Rattle.naturals.specs.Sum.{sum_to, prod_to}
 use Rattle.naturals.proofs.Sums.{sum_to_suc}
+use Rattle.naturals.proofs.Cases.{true_or_false}
 use Rattle.integers.specs.Nearest.{apart}
 use Rattle.integers.specs.Total.{total}
 use Rattle.integers.proofs.Nearest.{nearest_half}
 use Rattle.integers.proofs.Products.{neg_times, times_swap, plus_times, size_times}
 use Rattle.integers.proofs.Sizes.{sum_size, difference_size}
 use Rattle.integers.proofs.Totals.{total_zero, total_suc}
-use Rattle.zero_border.specs.Numbered.{Numbered}
+use Rattle.numbered.specs.Numbered.{Numbered, Numbering}
 use Rattle.shapes.specs.declared.Shape.{Shape}
 use Rattle.grids.specs.Grids.{numbered}
+use Rattle.grids.proofs.Points.{numbering}
 use Rattle.interpolation.specs.Weighted.{weighted, weighted_sum}
 use Rattle.interpolation.proofs.Weighted.{weighted_sum_cong, weighted_sum_plus, weighted_sum_times}
 use Rattle.surfaces.specs.Weights.{unit, joint}
 use Rattle.surfaces.specs.Surface.{Fraction, weight_in, product_in, joint_in, surface_in, joint_sum_in, rounded, estimate_in, exact_value_in, exact_value, estimate_at}
-use Rattle.surfaces.specs.Margin.{absolute_reached, absolute_sum, WithinMargin, margin, DiffersByAtMost, absolute_sum_in, absolute_sum_at}
+use Rattle.surfaces.specs.Margin.{absolute_reached, absolute_sum, WithinMargin, margin, DiffersByAtMost, WithinUnit, absolute_sum_in, absolute_sum_at}
 use Rattle.surfaces.proofs.Unit.{unit_pos}
-use Rattle.surfaces.proofs.Cells.{weight_le}
+use Rattle.surfaces.proofs.AxisHat.{axis_weight_le}
 use Rattle.surfaces.proofs.Joint.{joint_under, joint_over}
 use Rattle.surfaces.proofs.Reached.{product_reached}
 
@@ -178,12 +180,17 @@ module _ (m d u : ℕ) (some : 0 < u) (w : ℕ → ℕ → ℕ) (small : (p t : 
       widened a b k D h up =
           le_of_mul-le-mul_right {k = 2 * u} (omega (arith, h, mul-le-mul_right D up)) (omega (arith, some))
 
--- ---- the points of a shape
+-- ---- numbered points
 
-module _ (u : ℕ) (some : 0 < u) (g : Numbered) (c : ℕ → ℤ) (x : ℕ → ℕ) where
+module _ (u : ℕ) (some : 0 < u) {g : Numbered} {Point : (ℕ → ℕ) → (ℕ → ℕ) → (ℕ → ℕ) → Type 0} (n : Numbering g Point)
+    (c : ℕ → ℤ) (x : ℕ → ℕ) (within : WithinUnit u g x) where
   each_small : (p t : ℕ) → p < g.count → t < g.axes → weight_in u g x p t ≤ u
   unfolding weight_in
-  each_small p t h axis = weight_le u (x t) (g.level p t) (g.index p t)
+  each_small p t h axis =
+      axis_weight_le u (x t) (g.level p t) (g.index p t) (g.mark p t)
+      (λ marked.
+      true_or_false g.border (within t axis)
+      (λ zero. absurd (omega (arith, marked, n.only (n.point_at p h) zero t axis))))
 
   pub within_margin_in : WithinMargin u g.axes (absolute_sum_in u g c x) (estimate_in u g c x) (exact_value_in u g c x)
   unfolding surface_in estimate_in joint_sum_in product_in joint_in absolute_sum_in
@@ -193,11 +200,14 @@ module _ (u : ℕ) (some : 0 < u) (g : Numbered) (c : ℕ → ℤ) (x : ℕ → 
   unfolding surface_in estimate_in joint_sum_in product_in joint_in absolute_sum_in
   within_whole_in = weights_within_whole g.count g.axes u some (weight_in u g x) each_small c
 
-module _ (s : Shape) (c : ℕ → ℤ) (x : ℕ → ℕ) where
-  -- The estimate at any coordinates, of any coefficients, differs from the exact value by at most 1/2 + (d − 1) × S / the unit.
+-- ---- the points of a shape
+
+module _ (s : Shape) (c : ℕ → ℤ) (x : ℕ → ℕ) (within : WithinUnit unit (numbered s) x) where
+  -- The estimate, of any coefficients, differs from the exact value by at most 1/2 + (d − 1) × S / the unit: at any coordinates with a zero border, and else at
+  -- those of at most the unit.
   pub within_margin : WithinMargin unit s.axes (absolute_sum_at s c x) (estimate_at s c x) (exact_value s c x)
-  within_margin = within_margin_in unit unit_pos (numbered s) c x
+  within_margin = within_margin_in unit unit_pos (numbering s) c x within
 
   -- So by at most that rounded up.
   pub within_whole : DiffersByAtMost (margin unit s.axes (absolute_sum_at s c x)) (estimate_at s c x) (exact_value s c x)
-  within_whole = within_whole_in unit unit_pos (numbered s) c x
+  within_whole = within_whole_in unit unit_pos (numbering s) c x within

@@ -6,7 +6,7 @@ use Prim.Native.Nat.{ℕ, suc, ◌+◌, ◌-◌, ◌*◌, ◌/◌, ◌^◌, ◌�
 use native.Mathlib.Nat.{mul-div_cancel}
 use native.Mathlib.Omega.{arith}
 use lib.Pow.{pow-add, pow_pos}
-use Rattle.zero_border.specs.Numbered.{Numbered}
+use Rattle.numbered.specs.Numbered.{Numbered}
 use Rattle.surfaces.specs.declared.TheConstants.{BITS}
 use Rattle.surfaces.specs.Weights.{unit, coordinate}
 

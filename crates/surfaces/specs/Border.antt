@@ -1,4 +1,4 @@
--- The border, where the surface is 0 (document 01, "Terms and limits").
+-- The border, where the surface of a table with a zero border is 0 (document 01, "Terms and limits").
 -- Assumes nothing.
 use Rattle.std.specs.Prelude.{◌≡◌, ◌⊎◌, ℕ}
 

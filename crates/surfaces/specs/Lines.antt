@@ -2,16 +2,16 @@
 -- Assumes nothing.
 use Rattle.std.specs.Prelude.{Bool, ◌&&◌, ◌||◌, ℕ, eqb, ℤ, if◌then◌else◌}
 use Rattle.naturals.specs.Test.{all}
-use Rattle.zero_border.specs.Numbered.{Numbered}
+use Rattle.numbered.specs.Numbered.{Numbered}
 use Rattle.shapes.specs.declared.Shape.{Shape}
 use Rattle.shapes.specs.Shapes.{points_of}
 use Rattle.grids.specs.Grids.{numbered}
 use Rattle.interpolation.specs.Weighted.{weighted_sum}
 use Rattle.surfaces.specs.Surface.{coordinates_of, weight_on}
 
--- Point numbers p and q have the same level and index on axis t.
+-- Point numbers p and q have the same mark, level and index on axis t.
 unfoldable pub same_in : Numbered → ℕ → ℕ → ℕ → Bool
-same_in g p q t = eqb (g.level p t) (g.level q t) && eqb (g.index p t) (g.index q t)
+same_in g p q t = eqb (g.mark p t) (g.mark q t) && (eqb (g.level p t) (g.level q t) && eqb (g.index p t) (g.index q t))
 
 module _ (s : Shape) where
   abbrev pub same_on : ℕ → ℕ → ℕ → Bool

@@ -1,12 +1,12 @@
 -- How far an estimate can be off from the exact value of the surface (document 02, f): by at most 1/2 + (d − 1) × S / the unit. First of any points, w p t
 -- being the weight of point number p on axis t, whatever grid they are of; then of numbered points and of a shape.
 -- Assumes nothing.
-use Rattle.std.specs.Prelude.{Bool, ℕ, suc, ◌+◌, ◌-◌, ◌*◌, ◌^◌, ◌≤◌, ltb, ℤ, nat_abs, if◌then◌else◌}
+use Rattle.std.specs.Prelude.{Bool, true, ◌≡◌, ℕ, suc, ◌+◌, ◌-◌, ◌*◌, ◌^◌, ◌≤◌, ◌<◌, ltb, ℤ, nat_abs, if◌then◌else◌}
 use Rattle.std.specs.Int.{div_ceil}
 use Rattle.naturals.specs.Sum.{sum_to}
 use Rattle.naturals.specs.Test.{all}
 use Rattle.integers.specs.Nearest.{apart}
-use Rattle.zero_border.specs.Numbered.{Numbered}
+use Rattle.numbered.specs.Numbered.{Numbered}
 use Rattle.shapes.specs.declared.Shape.{Shape}
 use Rattle.grids.specs.Grids.{numbered}
 use Rattle.surfaces.specs.Weights.{unit}
@@ -45,10 +45,17 @@ margin u d s = div_ceil (u + 2 * ((d - 1) * s)) (2 * u)
 abbrev pub DiffersByAtMost : ℕ → ℤ → Fraction → Type 0
 DiffersByAtMost k z f = apart f.denominator f.numerator z ≤ k * f.denominator
 
--- ---- the points of a shape
+-- ---- numbered points
+
+-- Where the points have values on the border, the coordinates x are at most the unit u: an upper border's weight is the coordinate. With a zero border this
+-- says nothing.
+abbrev pub WithinUnit : ℕ → Numbered → (ℕ → ℕ) → Type 0
+WithinUnit u g x = (t : ℕ) → t < g.axes → g.border ≡ true → x t ≤ u
 
 unfoldable pub absolute_sum_in : ℕ → Numbered → (ℕ → ℤ) → (ℕ → ℕ) → ℕ
 absolute_sum_in u g c x = absolute_sum g.count g.axes (weight_in u g x) c
+
+-- ---- the points of a shape
 
 abbrev pub absolute_sum_at : Shape → (ℕ → ℤ) → (ℕ → ℕ) → ℕ
 absolute_sum_at s = absolute_sum_in unit (numbered s)

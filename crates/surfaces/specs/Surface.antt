@@ -1,23 +1,23 @@
 -- The surface of a table of coefficients: its exact value at coordinates, and the estimate (document 01, "Estimates"). A table is a function from
--- codes to whole numbers: code 0 is the border, and code p + 1 is point number p. First for any unit and any numbered points, then for those of a shape.
+-- codes to whole numbers: code 0 is the zero border, and code p + 1 is point number p. First for any unit and any numbered points, then for those of a shape.
 -- Assumes nothing.
 use Rattle.std.specs.Prelude.{◌≡◌, ℕ, ◌^◌, ℤ, pos, ◌*ℤ◌}
 use Rattle.naturals.specs.Sum.{prod_to}
 use Rattle.integers.specs.Nearest.{nearest}
-use Rattle.zero_border.specs.Numbered.{Numbered}
+use Rattle.numbered.specs.Numbered.{Numbered}
 use Rattle.shapes.specs.declared.Shape.{Shape}
 use Rattle.grids.specs.Grids.{numbered}
 use Rattle.interpolation.specs.Weighted.{weighted_sum}
-use Rattle.surfaces.specs.Weights.{unit, coordinate, weight, joint}
+use Rattle.surfaces.specs.Weights.{unit, axis_coordinate, axis_weight, joint}
 
 module _ (u : ℕ) (g : Numbered) where
   -- The coordinates of point number q, in the unit u.
   unfoldable pub coordinates_in : ℕ → ℕ → ℕ
-  coordinates_in q t = coordinate u (g.level q t) (g.index q t)
+  coordinates_in q t = axis_coordinate u (g.mark q t) (g.level q t) (g.index q t)
 
   -- The weight of point number p on axis t at the coordinates x.
   unfoldable pub weight_in : (ℕ → ℕ) → ℕ → ℕ → ℕ
-  weight_in x p t = weight u (x t) (g.level p t) (g.index p t)
+  weight_in x p t = axis_weight u (x t) (g.mark p t) (g.level p t) (g.index p t)
 
   -- The product of the axis weights of point number p at the coordinates x, and its joint weight.
   unfoldable pub product_in : (ℕ → ℕ) → ℕ → ℕ

@@ -25,6 +25,18 @@ distance a b = (a - b) + (b - a)
 unfoldable pub weight : ℕ → ℕ → ℕ → ℕ → ℕ
 weight u x l i = u - distance (x * 2 ^ suc l) (i * u)
 
+-- The same of a point of mark a on the axis (document 02, g): inside (0), of its level and index. A lower border (1) lies at 0, and its weight is the unit − x; an
+-- upper border (2) lies at the unit, and its weight is x.
+unfoldable pub axis_coordinate : ℕ → ℕ → ℕ → ℕ → ℕ
+axis_coordinate u zero l i = coordinate u l i
+axis_coordinate u (suc zero) l i = 0
+axis_coordinate u (suc (suc a)) l i = u
+
+unfoldable pub axis_weight : ℕ → ℕ → ℕ → ℕ → ℕ → ℕ
+axis_weight u x zero l i = weight u x l i
+axis_weight u x (suc zero) l i = u - x
+axis_weight u x (suc (suc a)) l i = x
+
 -- The joint weight over the first k axes, w t being the weight on axis t: it starts at the unit; for each axis in turn it is multiplied by the axis weight,
 -- divided by the unit and rounded down.
 unfoldable pub joint : ℕ → (ℕ → ℕ) → ℕ → ℕ
