@@ -41,15 +41,22 @@ faces_suc k b =
       ap (λ (x : ℕ). x * choose k b) (two-pow-succ b),
     )
 
-having_inner : (k b : ℕ) → having k b 0 ≡ faces k b
+-- No face has more border axes than axes.
+pub faces_over : (d b : ℕ) → d < b → faces d b ≡ 0
+faces_over d zero h = omega arith
+faces_over zero (suc b) h = no_faces b
+faces_over (suc k) (suc b) h =
+    omega (arith, faces_suc k b, faces_over k (suc b) (omega arith), faces_over k b (omega arith))
+
+pub having_inner : (k b : ℕ) → having k b 0 ≡ faces k b
 unfolding having
 having_inner k b = refl
 
-having_none : (k a : ℕ) → having k 0 (suc a) ≡ 0
+pub having_none : (k a : ℕ) → having k 0 (suc a) ≡ 0
 unfolding having
 having_none k a = refl
 
-having_border : (k b a : ℕ) → having k (suc b) (suc a) ≡ faces k b
+pub having_border : (k b a : ℕ) → having k (suc b) (suc a) ≡ faces k b
 unfolding having
 having_border k b a = refl
 
@@ -147,15 +154,15 @@ face_rank_cong m o (suc k) same =
 -- ---- the marks of a rank
 
 -- What is left of a rank past the blocks of smaller last marks.
-abbrev rest : ℕ → ℕ → ℕ → ℕ
+abbrev pub rest : ℕ → ℕ → ℕ → ℕ
 rest k b r = r - sum_to (having k b) (last_mark k b r)
 
 -- Its marks, and 0 past the axes.
-mark_last : (k b r : ℕ) → mark_of (suc k) b r k ≡ last_mark k b r
+pub mark_last : (k b r : ℕ) → mark_of (suc k) b r k ≡ last_mark k b r
 unfolding mark_of
 mark_last k b r = rw (eq-eqb k k refl)
 
-mark_before : (k b r t : ℕ) → t < k → mark_of (suc k) b r t ≡ mark_of k (b - bit (last_mark k b r)) (rest k b r) t
+pub mark_before : (k b r t : ℕ) → t < k → mark_of (suc k) b r t ≡ mark_of k (b - bit (last_mark k b r)) (rest k b r) t
 unfolding mark_of
 mark_before k b r t h = rw (ne_eqb t k (λ e. omega arith))
 
@@ -229,7 +236,7 @@ others_at k b r h =
     others k b (last_mark k b r) (omega (arith, last_low k b r, last_high k b r h, sum_to_suc (having k b) (last_mark k b r)))
 
 -- What is left is a rank on the other axes.
-rest_lt : (k b r : ℕ) → r < faces (suc k) b → rest k b r < faces k (b - bit (last_mark k b r))
+pub rest_lt : (k b r : ℕ) → r < faces (suc k) b → rest k b r < faces k (b - bit (last_mark k b r))
 rest_lt k b r h =
     omega (
       arith,
@@ -238,6 +245,9 @@ rest_lt k b r h =
       sum_to_suc (having k b) (last_mark k b r),
       (others_at k b r h).count,
     )
+
+pub last_enough : (k b r : ℕ) → r < faces (suc k) b → bit (last_mark k b r) ≤ b
+last_enough k b r h = (others_at k b r h).enough
 
 -- It has b border axes, and its rank is that.
 pub borders_of_mark : (k b r : ℕ) → r < faces k b → borders (mark_of k b r) k ≡ b

@@ -1,0 +1,3 @@
+pub mod Marks
+pub mod Found
+pub mod Laid
