@@ -12,7 +12,8 @@ use Rattle.naturals.specs.Test.{all}
 use Rattle.refusals.specs.declared.Refusal.TheVariants as refusal
 use Rattle.refusals.specs.Checks.{unless, ◌and_then◌, answer, Verdict}
 use Rattle.shapes.specs.declared.Shape.{Shape}
-use Rattle.points.specs.declared.Point.{Point}
+use Rattle.shapes.specs.Shapes.{sparse}
+use Rattle.points.specs.declared.MarkedPoint.{MarkedPoint}
 use Rattle.states.specs.declared.State.{State}
 use Rattle.states.specs.After.{After, after, kept, Left, left_by}
 use Rattle.states.specs.States.{check_state}
@@ -52,12 +53,12 @@ estimate_with_margin_keeps held (Ok x) e = absurd (e refl)
 estimate_with_margin_keeps held (Err r) e = refl
 
 -- The successor and the parent.
-pub located_keeps : (held : List ℕ × List ℕ × ℕ) (a : Result (Option Point) Refusal) → Keeps held (of_located held a)
+pub located_keeps : (held : List ℕ × List ℕ × List ℕ × ℕ) (a : Result (Option MarkedPoint) Refusal) → Keeps held (of_located held a)
 located_keeps held (Ok (Some p)) e = absurd (e refl)
 located_keeps held (Ok None) e = absurd (e refl)
 located_keeps held (Err r) e = refl
 
-pub point_of_number_keeps : (held : List ℕ × List ℕ) (a : Result Point Refusal) → Keeps held (of_point held a)
+pub point_of_number_keeps : (held : List ℕ × List ℕ × List ℕ) (a : Result MarkedPoint Refusal) → Keeps held (of_point held a)
 point_of_number_keeps held (Ok p) e = absurd (e refl)
 point_of_number_keeps held (Err r) e = refl
 
@@ -145,10 +146,10 @@ module _ (held : ℕ) (out : List ℕ) where
   unfolding put_file
   put_keeps file = room_keeps file (check_room file out)
 
-  pub write_house_file_keeps : (s : Shape) (rates : List ℤ) → Keeps (held, out) (of_writing held (write_file s rates out))
+  pub write_house_file_keeps : (d n : ℕ) (rates : List ℤ) → Keeps (held, out) (of_writing held (write_file d n rates out))
   unfolding write_file
-  write_house_file_keeps s rates =
-      let file = written_file s rates in room_keeps file (check_rated s rates and_then check_room file out)
+  write_house_file_keeps d n rates =
+      let s = sparse d n in let file = written_file s rates in room_keeps file (check_rated s rates and_then check_room file out)
 
   again_keeps : (contents : Read Contents) → Keeps (held, out) (of_writing held (written_again out contents))
   again_keeps (got c rest) e = put_keeps (form_of c) e

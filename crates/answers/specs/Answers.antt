@@ -1,12 +1,12 @@
 -- Each kind of answer of the library, as a number, a place and outputs. What the outputs held comes first: they hold it still where the call was refused.
 -- Assumes nothing.
 use Rattle.refusals.specs.declared.Refusal.{Refusal}
-use Rattle.std.specs.Prelude.{List, ℕ, zero, suc, ℤ, Option, Some, None, Result, Ok, Err}
+use Rattle.std.specs.Prelude.{not, eqb, List, ℕ, zero, suc, ℤ, Option, Some, None, Result, Ok, Err}
 use Rattle.numbering.specs.declared.Side.{Side}
 use Rattle.numbering.specs.declared.Side.TheVariants as side
 use Rattle.shapes.specs.declared.Shape.{Shape}
 use Rattle.shapes.specs.Shapes.{points_of}
-use Rattle.points.specs.declared.Point.{Point}
+use Rattle.points.specs.declared.MarkedPoint.{MarkedPoint}
 use Rattle.states.specs.declared.State.{State}
 use Rattle.states.specs.After.{After, Left}
 use Rattle.runs.specs.Calls.{Report}
@@ -15,12 +15,12 @@ use Rattle.house_file.specs.Files.{AfterReading}
 use Rattle.house_writer.specs.Writing.{AfterWriting}
 use Rattle.answers.specs.Returned.{Returned, told_of, leaving, done, refused}
 
--- A shape and a state, from the numbers that stand for them.
-abbrev pub shape_of : ℕ → ℕ → Shape
-shape_of axes level = record { axes = axes; level = level }
+-- A shape and a state, from the numbers that stand for them. Of the border, 0 says that it is zero, and every other number that it has values.
+abbrev pub shape_of : ℕ → ℕ → ℕ → Shape
+shape_of axes level border = record { axes = axes; level = level; border = not (eqb border 0) }
 
-abbrev pub state_of : ℕ → ℕ → ℕ → State
-state_of axes level forward = record { shape = shape_of axes level; forward = forward }
+abbrev pub state_of : ℕ → ℕ → ℕ → ℕ → State
+state_of axes level border forward = record { shape = shape_of axes level border; forward = forward }
 
 -- Side 0 is the left one, every other number the right one.
 abbrev pub side_of : ℕ → Side
@@ -32,15 +32,15 @@ abbrev pub of_value : {A : Type 0} → A → Result A Refusal → Returned A
 of_value held (Ok x) = done x
 of_value held (Err r) = refused held r
 
--- The levels and indices of a point.
-abbrev pub of_point : List ℕ × List ℕ → Result Point Refusal → Returned (List ℕ × List ℕ)
-of_point held (Ok p) = done (p.levels, p.indices)
+-- The marks, levels and indices of a point.
+abbrev pub of_point : List ℕ × List ℕ × List ℕ → Result MarkedPoint Refusal → Returned (List ℕ × List ℕ × List ℕ)
+of_point held (Ok p) = done (p.marks, p.point.levels, p.point.indices)
 of_point held (Err r) = refused held r
 
--- The same, and 0; or 1 where there is no point, at the end or the border, the two arrays holding what they held.
-abbrev pub of_located : List ℕ × List ℕ × ℕ → Result (Option Point) Refusal → Returned (List ℕ × List ℕ × ℕ)
-of_located held (Ok (Some p)) = done (p.levels, p.indices, 0)
-of_located held (Ok None) = done (held.0, held.1, 1)
+-- The same, and 0; or 1 where there is no point, at the end or the border, the three arrays holding what they held.
+abbrev pub of_located : List ℕ × List ℕ × List ℕ × ℕ → Result (Option MarkedPoint) Refusal → Returned (List ℕ × List ℕ × List ℕ × ℕ)
+of_located held (Ok (Some p)) = done (p.marks, p.point.levels, p.point.indices, 0)
+of_located held (Ok None) = done (held.0, held.1, held.2, 1)
 of_located held (Err r) = refused held r
 
 -- An estimate, S and the margin.

@@ -7,24 +7,28 @@ ghost use Rattle.answers.specs.Answers.{shape_of, state_of, side_of, of_value, o
 
 use estimates::Estimated;
 use numbering::Side;
-use points::Point;
+use points::MarkedPoint;
 use refusals::Refusal;
 use shapes::Shape;
 use states::State;
 
-// A shape, from the two numbers that stand for it.
-pub fn shape_of(axes: u32, level: u32) -> Shape
-    ensures { result ≡ shape_of axes level }
+// A shape, from the three numbers that stand for it: 0 is a zero border, every other number values on the border.
+pub fn shape_of(axes: u32, level: u32, border: u8) -> Shape
+    ensures { result ≡ shape_of axes level border }
 {
-    Shape { axes, level }
+    Shape {
+        axes,
+        level,
+        border: border != 0,
+    }
 }
 
-// A state, from a shape's two numbers and the set of forward axes.
-pub fn state_of(axes: u32, level: u32, forward: u8) -> State
-    ensures { result ≡ state_of axes level forward }
+// A state, from a shape's three numbers and the set of forward axes.
+pub fn state_of(axes: u32, level: u32, border: u8, forward: u8) -> State
+    ensures { result ≡ state_of axes level border forward }
 {
     State {
-        shape: Shape { axes, level },
+        shape: shape_of(axes, level, border),
         forward,
     }
 }
@@ -63,47 +67,57 @@ pub fn hand<T: Copy>(answer: Result<T, Refusal>, out: &mut T, place: &mut u64) -
     tell(answer, place)
 }
 
-// A point into two arrays. (By two variables: the borrow check does not cover a field that is an array, stored straight.)
-fn put_point(point: Point, levels: &mut [u32; 8], indices: &mut [u32; 8])
-    ensures { (levels.new ≡ point.levels) × (indices.new ≡ point.indices) }
+// A point into three arrays. (By three variables: the borrow check does not cover a field that is an array, stored straight.)
+fn put_point(
+    found: MarkedPoint,
+    marks: &mut [u32; 8],
+    levels: &mut [u32; 8],
+    indices: &mut [u32; 8],
+)
+    ensures { (marks.new ≡ found.marks) × (levels.new ≡ found.point.levels) × (indices.new ≡ found.point.indices) }
 {
+    let point_marks = found.marks;
+    let point = found.point;
     let point_levels = point.levels;
     let point_indices = point.indices;
+    *marks = point_marks;
     *levels = point_levels;
     *indices = point_indices;
 }
 
-// A point goes out into two arrays.
+// A point goes out into three arrays.
 pub fn hand_point(
-    answer: Result<Point, Refusal>,
+    answer: Result<MarkedPoint, Refusal>,
+    marks: &mut [u32; 8],
     levels: &mut [u32; 8],
     indices: &mut [u32; 8],
     place: &mut u64,
 ) -> u32
-    ensures { returned result place.new (levels.new, indices.new) ≡ of_point (levels.old, indices.old) answer }
+    ensures { returned result place.new (marks.new, levels.new, indices.new) ≡ of_point (marks.old, levels.old, indices.old) answer }
 {
     if let Ok(point) = answer {
-        put_point(point, levels, indices);
+        put_point(point, marks, levels, indices);
     }
     tell(answer, place)
 }
 
-// A point goes out into two arrays, and `none` is 0. Where there is none, at the end or the border, the arrays stay, and `none` is 1.
+// A point goes out into three arrays, and `none` is 0. Where there is none, at the end or the border, the arrays stay, and `none` is 1.
 // (C has numbers for yes and no.)
 pub fn hand_located(
-    answer: Result<Option<Point>, Refusal>,
+    answer: Result<Option<MarkedPoint>, Refusal>,
+    marks: &mut [u32; 8],
     levels: &mut [u32; 8],
     indices: &mut [u32; 8],
     none: &mut u32,
     place: &mut u64,
 ) -> u32
-    ensures { returned result place.new (levels.new, indices.new, none.new) ≡ of_located (levels.old, indices.old, none.old) answer }
+    ensures { returned result place.new (marks.new, levels.new, indices.new, none.new) ≡ of_located (marks.old, levels.old, indices.old, none.old) answer }
 {
     if let Ok(located) = answer {
         *none = 1;
         if let Some(point) = located {
             *none = 0;
-            put_point(point, levels, indices);
+            put_point(point, marks, levels, indices);
         }
     }
     tell(answer, place)

@@ -4,7 +4,7 @@ ghost use Rattle.house_file.specs.Files.{shape_of_file, read_file};
 ghost use Rattle.house_writer.specs.Writing.{write_file};
 ghost use Rattle.house_writer.specs.Rewriting.{rewrite_file};
 ghost use Rattle.answers.specs.Returned.{returned};
-ghost use Rattle.answers.specs.Answers.{shape_of, of_reading, of_named, of_writing};
+ghost use Rattle.answers.specs.Answers.{of_reading, of_named, of_writing};
 
 // A file's rates into the first places of the table, and its shape.
 #[unsafe(no_mangle)]
@@ -46,7 +46,7 @@ pub extern "C" fn numolefays_house_file_shape(
     answers::tell(answer, place)
 }
 
-// The file of a shape and its rates into the first bytes of `out`, and its length.
+// The file of a shape with a zero border and its rates into the first bytes of `out`, and its length.
 #[unsafe(no_mangle)]
 pub extern "C" fn numolefays_write_house_file(
     axes: u32,
@@ -56,9 +56,9 @@ pub extern "C" fn numolefays_write_house_file(
     length: &mut u64,
     place: &mut u64,
 ) -> u32
-    ensures { returned result place.new (length.new, out.new) ≡ of_writing length.old (write_file (shape_of axes level) rates.now out.old) }
+    ensures { returned result place.new (length.new, out.new) ≡ of_writing length.old (write_file axes level rates.now out.old) }
 {
-    let answer = house_writer::write(answers::shape_of(axes, level), rates, out);
+    let answer = house_writer::write(axes, level, rates, out);
     answers::hand_length(answer, length, place)
 }
 

@@ -10,15 +10,16 @@ ghost use Rattle.answers.specs.Answers.{state_of, of_value, of_estimated};
 pub extern "C" fn numolefays_estimate(
     axes: u32,
     level: u32,
+    border: u8,
     forward: u8,
     table: &[i64],
     coordinates: &[u32],
     estimate: &mut i64,
     place: &mut u64,
 ) -> u32
-    ensures { returned result place.new estimate.new ≡ of_value estimate.old (surface.estimate (state_of axes level forward) table.now coordinates.now) }
+    ensures { returned result place.new estimate.new ≡ of_value estimate.old (surface.estimate (state_of axes level border forward) table.now coordinates.now) }
 {
-    let answer = estimates::estimate(answers::state_of(axes, level, forward), table, coordinates);
+    let answer = estimates::estimate(answers::state_of(axes, level, border, forward), table, coordinates);
     answers::hand(answer, estimate, place)
 }
 
@@ -27,6 +28,7 @@ pub extern "C" fn numolefays_estimate(
 pub extern "C" fn numolefays_estimate_with_margin(
     axes: u32,
     level: u32,
+    border: u8,
     forward: u8,
     table: &[i64],
     coordinates: &[u32],
@@ -35,10 +37,10 @@ pub extern "C" fn numolefays_estimate_with_margin(
     margin: &mut u64,
     place: &mut u64,
 ) -> u32
-    ensures { returned result place.new (estimate.new, absolute_sum.new, margin.new) ≡ of_estimated (estimate.old, absolute_sum.old, margin.old) (surface_margin.estimate_with_margin (state_of axes level forward) table.now coordinates.now) }
+    ensures { returned result place.new (estimate.new, absolute_sum.new, margin.new) ≡ of_estimated (estimate.old, absolute_sum.old, margin.old) (surface_margin.estimate_with_margin (state_of axes level border forward) table.now coordinates.now) }
 {
     let answer = estimates::estimate_with_margin(
-        answers::state_of(axes, level, forward),
+        answers::state_of(axes, level, border, forward),
         table,
         coordinates,
     );

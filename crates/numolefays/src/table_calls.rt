@@ -10,13 +10,14 @@ ghost use Rattle.answers.specs.Answers.{shape_of, state_of, of_answer, of_after,
 pub extern "C" fn numolefays_load(
     axes: u32,
     level: u32,
+    border: u8,
     table: &mut [i64],
     forward: &mut u8,
     place: &mut u64,
 ) -> u32
-    ensures { returned result place.new (forward.new, table.new) ≡ of_after forward.old (load (shape_of axes level) table.old) }
+    ensures { returned result place.new (forward.new, table.new) ≡ of_after forward.old (load (shape_of axes level border) table.old) }
 {
-    let answer = tables::load(answers::shape_of(axes, level), table);
+    let answer = tables::load(answers::shape_of(axes, level, border), table);
     answers::hand_state(answer, forward, place)
 }
 
@@ -25,13 +26,14 @@ pub extern "C" fn numolefays_load(
 pub extern "C" fn numolefays_adopt(
     axes: u32,
     level: u32,
+    border: u8,
     table: &[i64],
     forward: &mut u8,
     place: &mut u64,
 ) -> u32
-    ensures { returned result place.new forward.new ≡ of_answer forward.old (adopt (shape_of axes level) table.now) }
+    ensures { returned result place.new forward.new ≡ of_answer forward.old (adopt (shape_of axes level border) table.now) }
 {
-    let answer = tables::adopt(answers::shape_of(axes, level), table);
+    let answer = tables::adopt(answers::shape_of(axes, level, border), table);
     answers::hand_state(answer, forward, place)
 }
 
@@ -40,13 +42,14 @@ pub extern "C" fn numolefays_adopt(
 pub extern "C" fn numolefays_unload(
     axes: u32,
     level: u32,
+    border: u8,
     forward: u8,
     table: &mut [i64],
     place: &mut u64,
 ) -> u32
-    ensures { returned result place.new table.new ≡ of_left (unload (state_of axes level forward) table.old) }
+    ensures { returned result place.new table.new ≡ of_left (unload (state_of axes level border forward) table.old) }
 {
-    let verdict = tables::unload(answers::state_of(axes, level, forward), table);
+    let verdict = tables::unload(answers::state_of(axes, level, border, forward), table);
     answers::tell(verdict, place)
 }
 
@@ -55,12 +58,13 @@ pub extern "C" fn numolefays_unload(
 pub extern "C" fn numolefays_rates_to_coefficients(
     axes: u32,
     level: u32,
+    border: u8,
     table: &mut [i64],
     place: &mut u64,
 ) -> u32
-    ensures { returned result place.new table.new ≡ of_left (rates_to_coefficients (shape_of axes level) table.old) }
+    ensures { returned result place.new table.new ≡ of_left (rates_to_coefficients (shape_of axes level border) table.old) }
 {
-    let verdict = whole::rates_to_coefficients(answers::shape_of(axes, level), table);
+    let verdict = whole::rates_to_coefficients(answers::shape_of(axes, level, border), table);
     answers::tell(verdict, place)
 }
 
@@ -69,11 +73,12 @@ pub extern "C" fn numolefays_rates_to_coefficients(
 pub extern "C" fn numolefays_coefficients_to_rates(
     axes: u32,
     level: u32,
+    border: u8,
     table: &mut [i64],
     place: &mut u64,
 ) -> u32
-    ensures { returned result place.new table.new ≡ of_left (coefficients_to_rates (shape_of axes level) table.old) }
+    ensures { returned result place.new table.new ≡ of_left (coefficients_to_rates (shape_of axes level border) table.old) }
 {
-    let verdict = whole::coefficients_to_rates(answers::shape_of(axes, level), table);
+    let verdict = whole::coefficients_to_rates(answers::shape_of(axes, level, border), table);
     answers::tell(verdict, place)
 }

@@ -10,14 +10,15 @@ ghost use Rattle.answers.specs.Answers.{state_of, of_after, of_report};
 pub extern "C" fn numolefays_forward(
     axes: u32,
     level: u32,
+    border: u8,
     forward: &mut u8,
     table: &mut [i64],
     axis: u32,
     place: &mut u64,
 ) -> u32
-    ensures { returned result place.new (forward.new, table.new) ≡ of_after forward.old (forward_turn (state_of axes level forward.old) table.old axis) }
+    ensures { returned result place.new (forward.new, table.new) ≡ of_after forward.old (forward_turn (state_of axes level border forward.old) table.old axis) }
 {
-    let answer = turns::hierarchize(answers::state_of(axes, level, *forward), table, axis);
+    let answer = turns::hierarchize(answers::state_of(axes, level, border, *forward), table, axis);
     answers::hand_state(answer, forward, place)
 }
 
@@ -26,14 +27,15 @@ pub extern "C" fn numolefays_forward(
 pub extern "C" fn numolefays_back(
     axes: u32,
     level: u32,
+    border: u8,
     forward: &mut u8,
     table: &mut [i64],
     axis: u32,
     place: &mut u64,
 ) -> u32
-    ensures { returned result place.new (forward.new, table.new) ≡ of_after forward.old (back_turn (state_of axes level forward.old) table.old axis) }
+    ensures { returned result place.new (forward.new, table.new) ≡ of_after forward.old (back_turn (state_of axes level border forward.old) table.old axis) }
 {
-    let answer = turns::dehierarchize(answers::state_of(axes, level, *forward), table, axis);
+    let answer = turns::dehierarchize(answers::state_of(axes, level, border, *forward), table, axis);
     answers::hand_state(answer, forward, place)
 }
 
@@ -42,6 +44,7 @@ pub extern "C" fn numolefays_back(
 pub extern "C" fn numolefays_run(
     axes: u32,
     level: u32,
+    border: u8,
     forward: &mut u8,
     table: &mut [i64],
     directions: &[u8],
@@ -50,9 +53,9 @@ pub extern "C" fn numolefays_run(
     places: &mut [u64],
     place: &mut u64,
 ) -> u32
-    ensures { returned result place.new (forward.new, table.new, numbers.new, places.new) ≡ of_report forward.old (run_calls (state_of axes level forward.old) table.old directions.now turned.now numbers.old places.old) }
+    ensures { returned result place.new (forward.new, table.new, numbers.new, places.new) ≡ of_report forward.old (run_calls (state_of axes level border forward.old) table.old directions.now turned.now numbers.old places.old) }
 {
-    let state = answers::state_of(axes, level, *forward);
+    let state = answers::state_of(axes, level, border, *forward);
     let answer = runs::run(state, table, directions, turned, numbers, places);
     answers::hand_state(answer, forward, place)
 }
