@@ -1,4 +1,4 @@
--- A point that was handed in and passed: by value it is a point of the shape, and has the levels and indices of the two lists.
+-- A point that was handed in and passed: by value it is a point of the shape, and has the levels and indices of the lists.
 -- Assumes nothing.
 use Rattle.std.specs.Prelude.{Ok, Err}
 use mathlib.Core.Path.{◌≡◌}
@@ -10,53 +10,53 @@ use Rattle.refusals.proofs.Passing.{result_passed, result_refused}
 use Rattle.shapes.specs.declared.Shape.{Shape}
 use Rattle.shapes.proofs.Checked.{InRange}
 use Rattle.points.specs.declared.Point.{Point}
-use Rattle.points.specs.Points.{check_lists, check_point, point_of, point_in, point_from}
+use Rattle.points.specs.Points.{check_lists, check_point, bare_point, point_in, point_from}
 use Rattle.points.specs.Steps.{PointIn}
 use Rattle.points.proofs.Passed.{Passes, passes_in, point_passed, levels_by_value, indices_by_value, point_by_value}
 
-pub record Handed (s : Shape) (ls is : List ℕ) (p : Point) : Type 0 where
-  pub shape : InRange s
+pub record Handed (s : Shape) (ms ls is : List ℕ) (p : Point) : Type 0 where
+  pub passes : Passes s ms ls is
   pub inside : PointIn s.axes s.level p.levels p.indices
   pub levels : at p.levels ≡ at ls
   pub indices : at p.indices ≡ at is
 
-by_value : (s : Shape) (ls is : List ℕ) → Passes s ls is → Handed s ls is (point_of (at ls) (at is))
-by_value s ls is passes =
+by_value : (s : Shape) (ms ls is : List ℕ) → Passes s ms ls is → Handed s ms ls is (bare_point (at ls) (at is))
+by_value s ms ls is passes =
     record {
-      shape = passes.shape;
+      passes = passes;
       inside = point_by_value passes;
       levels = levels_by_value passes;
       indices = indices_by_value passes;
     }
 
 -- A point that was refused, by the check.
-pub turned_away : (s : Shape) (ls is : List ℕ) {r : Refusal} → point_from s ls is ≡ Err r → check_point s ls is ≡ Err r
+pub turned_away : (s : Shape) (ms ls is : List ℕ) {r : Refusal} → point_from s ms ls is ≡ Err r → check_point s ms ls is ≡ Err r
 unfolding point_from
-turned_away s ls is {r} e = result_refused (check_point s ls is) (point_of (at ls) (at is)) r e
+turned_away s ms ls is {r} e = result_refused (check_point s ms ls is) (bare_point (at ls) (at is)) r e
 
-pub lists_refused : (s : Shape) (ls is : List ℕ) {r : Refusal} → point_in s ls is ≡ Err r → check_lists s ls is ≡ Err r
+pub lists_refused : (s : Shape) (ms ls is : List ℕ) {r : Refusal} → point_in s ms ls is ≡ Err r → check_lists s ms ls is ≡ Err r
 unfolding point_in
-lists_refused s ls is {r} e = result_refused (check_lists s ls is) (point_of (at ls) (at is)) r e
+lists_refused s ms ls is {r} e = result_refused (check_lists s ms ls is) (bare_point (at ls) (at is)) r e
 
-module _ (s : Shape) (ls is : List ℕ) {p : Point} (e : point_from s ls is ≡ Ok p) where
-  both : (check_point s ls is ≡ Ok tt) × (point_of (at ls) (at is) ≡ p)
+module _ (s : Shape) (ms ls is : List ℕ) {p : Point} (e : point_from s ms ls is ≡ Ok p) where
+  both : (check_point s ms ls is ≡ Ok tt) × (bare_point (at ls) (at is) ≡ p)
   unfolding point_from
-  both = result_passed (check_point s ls is) (point_of (at ls) (at is)) p e
+  both = result_passed (check_point s ms ls is) (bare_point (at ls) (at is)) p e
 
-  pub point_checked : check_point s ls is ≡ Ok tt
+  pub point_checked : check_point s ms ls is ≡ Ok tt
   point_checked = both.0
 
-  pub handed : Handed s ls is p
-  handed = rw (← both.1) (by_value s ls is (point_passed s ls is point_checked))
+  pub handed : Handed s ms ls is p
+  handed = rw (← both.1) (by_value s ms ls is (point_passed s ms ls is point_checked))
 
 -- Of a shape in range.
-module _ (s : Shape) (ls is : List ℕ) {p : Point} (e : point_in s ls is ≡ Ok p) where
-  given : (check_lists s ls is ≡ Ok tt) × (point_of (at ls) (at is) ≡ p)
+module _ (s : Shape) (ms ls is : List ℕ) {p : Point} (e : point_in s ms ls is ≡ Ok p) where
+  given : (check_lists s ms ls is ≡ Ok tt) × (bare_point (at ls) (at is) ≡ p)
   unfolding point_in
-  given = result_passed (check_lists s ls is) (point_of (at ls) (at is)) p e
+  given = result_passed (check_lists s ms ls is) (bare_point (at ls) (at is)) p e
 
-  pub lists_checked : check_lists s ls is ≡ Ok tt
+  pub lists_checked : check_lists s ms ls is ≡ Ok tt
   lists_checked = given.0
 
-  pub handed_in : InRange s → Handed s ls is p
-  handed_in range = rw (← given.1) (by_value s ls is (passes_in s ls is range lists_checked))
+  pub handed_in : InRange s → Handed s ms ls is p
+  handed_in range = rw (← given.1) (by_value s ms ls is (passes_in s ms ls is range lists_checked))

@@ -1,5 +1,6 @@
 pub mod Eight
 pub mod PointTest
+pub mod MarkTest
 pub mod Tested
 pub mod Passed
 pub mod Handed

@@ -1,9 +1,10 @@
-// Points by value, and the check of a point that is handed in as two lists.
+// Points by value, and the check of a point that is handed in as three lists.
 #![tactic(auto)]
 
-ghost use Rattle.std.specs.Prelude.{◌≡◌, ◌≤◌, length};
+ghost use Rattle.std.specs.Prelude.{◌≡◌, ℕ, ◌≤◌, ◌<◌, length, false};
+ghost use Rattle.naturals.specs.Test.{all};
 ghost use Rattle.numbering.specs.Point.{at, is_index, is_point};
-ghost use Rattle.points.specs.Points.{eight, check_lists, point_in, point_from};
+ghost use Rattle.points.specs.Points.{mark_fits, fitting, eight, check_lists, point_in, point_from};
 
 use refusals::Refusal;
 use shapes::{CheckedShape, Shape};
@@ -14,6 +15,13 @@ use shapes::{CheckedShape, Shape};
 pub struct Point {
     pub levels: [u32; 8],
     pub indices: [u32; 8],
+}
+
+// A point with its mark on each axis: 0 inside, 1 on the lower border, 2 on the upper border; places past the last axis are 0.
+#[derive(Clone, Copy)]
+pub struct MarkedPoint {
+    pub marks: [u32; 8],
+    pub point: Point,
 }
 
 // An odd index below 2^(l+1). (The level's bound is that of the shift.)
@@ -45,42 +53,102 @@ fn is_point(level: u32, levels: &[u32], indices: &[u32]) -> bool
     true
 }
 
+// Inside, or, where there are values on the border, on a border with level 0 and index 1.
+fn mark_fits(border: bool, mark: u32, level: u32, index: u32) -> bool
+    ensures { result ≡ mark_fits border mark level index }
+{
+    if mark == 0 {
+        return true;
+    }
+    if !border {
+        return false;
+    }
+    if 2 < mark {
+        return false;
+    }
+    if level != 0 {
+        return false;
+    }
+    index == 1
+}
+
+// A mark that fits on each axis.
+fn marks_fit(border: bool, marks: &[u32], levels: &[u32], indices: &[u32]) -> bool
+    requires { (length levels.now ≡ length marks.now) × (length indices.now ≡ length marks.now) }
+    ensures { result ≡ all (fitting border (at marks.now) (at levels.now) (at indices.now)) (length marks.now) }
+{
+    for (t, mark) in marks.iter().enumerate() {
+        if !mark_fits(border, *mark, levels[t], indices[t]) {
+            return false;
+        }
+    }
+    true
+}
+
 // Refused with 7 or 9.
-fn check_lists(checked: CheckedShape, levels: &[u32], indices: &[u32]) -> Result<(), Refusal>
-    ensures { result ≡ check_lists checked.shape levels.now indices.now }
+fn check_lists(
+    checked: CheckedShape,
+    marks: &[u32],
+    levels: &[u32],
+    indices: &[u32],
+) -> Result<(), Refusal>
+    ensures { result ≡ check_lists checked.shape marks.now levels.now indices.now }
 {
     let axes = checked.shape.axes as usize;
+    if marks.len() != axes {
+        return Err(Refusal::ListLength);
+    }
     if levels.len() != axes {
         return Err(Refusal::ListLength);
     }
     if indices.len() != axes {
         return Err(Refusal::ListLength);
     }
-    if is_point(checked.shape.level, levels, indices) {
-        Ok(())
-    } else {
-        Err(Refusal::NoPoint)
+    if !is_point(checked.shape.level, levels, indices) {
+        return Err(Refusal::NoPoint);
     }
+    if !marks_fit(checked.shape.border, marks, levels, indices) {
+        return Err(Refusal::NoPoint);
+    }
+    Ok(())
 }
 
-// A point of a checked shape that is handed in as two lists: by value.
+// A point of a checked shape that is handed in as three lists: its levels and indices by value.
 #[tactic(auto, unfolding(crate::specs::Points::point_in))]
-pub fn point_in(checked: CheckedShape, levels: &[u32], indices: &[u32]) -> Result<Point, Refusal>
-    ensures { result ≡ point_in checked.shape levels.now indices.now }
+pub fn point_in(
+    checked: CheckedShape,
+    marks: &[u32],
+    levels: &[u32],
+    indices: &[u32],
+) -> Result<Point, Refusal>
+    ensures { result ≡ point_in checked.shape marks.now levels.now indices.now }
 {
-    check_lists(checked, levels, indices)?;
+    check_lists(checked, marks, levels, indices)?;
     Ok(Point {
         levels: padded(levels),
         indices: padded(indices),
     })
 }
 
-// A point that is handed in as two lists: by value.
+// A point that is handed in as three lists: its levels and indices by value.
 #[tactic(auto, unfolding(crate::specs::Points::point_from, crate::specs::Points::check_point, crate::specs::Points::point_in))]
-pub fn point_from(shape: Shape, levels: &[u32], indices: &[u32]) -> Result<Point, Refusal>
-    ensures { result ≡ point_from shape levels.now indices.now }
+pub fn point_from(
+    shape: Shape,
+    marks: &[u32],
+    levels: &[u32],
+    indices: &[u32],
+) -> Result<Point, Refusal>
+    ensures { result ≡ point_from shape marks.now levels.now indices.now }
 {
-    point_in(shape.check()?, levels, indices)
+    point_in(shape.check()?, marks, levels, indices)
+}
+
+// The marks of a point by value. (Without values on the border all are 0, and the list is not read again.)
+pub fn marks_from(border: bool, marks: &[u32]) -> [u32; 8]
+    requires { border ≡ false → (t : ℕ) → t < 8 → at marks.now t ≡ 0 }
+    ensures { result ≡ eight (at marks.now) }
+{
+    if border { padded(marks) } else { [0; 8] }
 }
 
 // What a list holds at a place, and 0 past its end.
