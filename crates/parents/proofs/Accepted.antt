@@ -22,29 +22,29 @@ pub record Steps (t : ℕ) (l i : ℕ → ℕ) : Type 0 where
   pub odd : i t % 2 ≡ 1
   pub below : i t < 2 ^ suc (l t)
 
-pub record Accepted (s : Shape) (ls is : List ℕ) (axis : ℕ) (p : Point) : Type 0 where
+pub record Accepted (s : Shape) (ms ls is : List ℕ) (axis : ℕ) (p : Point) : Type 0 where
   pub low : 1 ≤ axis
-  pub handed : Handed s ls is p
+  pub handed : Handed s ms ls is p
   pub steps : Steps (axis - 1) (at p.levels) (at p.indices)
 
-module _ (s : Shape) (ls is : List ℕ) where
-  pub accepted : (axis : ℕ) {p : Point} → InRange s → check_axis s axis ≡ Ok tt → point_in s ls is ≡ Ok p → Accepted s ls is axis p
+module _ (s : Shape) (ms ls is : List ℕ) where
+  pub accepted : (axis : ℕ) {p : Point} → InRange s → check_axis s axis ≡ Ok tt → point_in s ms ls is ≡ Ok p → Accepted s ms ls is axis p
   accepted axis {p} range on_axis e =
       let one = axis_in_range s axis on_axis in
-      let h = handed_in s ls is e range in
+      let h = handed_in s ms ls is e range in
       let point = h.inside.point in
       record {
         low = one.0;
         handed = h;
         steps =
             record {
-              place = omega (arith, h.shape.high, one);
+              place = omega (arith, h.passes.shape.high, one);
               small =
                   omega (
                     arith,
                     term_le (at p.levels) s.axes (axis - 1) (omega (arith, one)),
                     point.sum,
-                    h.shape.top,
+                    h.passes.shape.top,
                   );
               odd = point.odd (axis - 1) (omega (arith, one));
               below = point.below (axis - 1) (omega (arith, one));

@@ -1,9 +1,9 @@
--- A step along one axis as the code takes it: a place that is written in a list of eight is one axis changed.
+-- A step along one axis as the code takes it: a place that is written in a list of eight is one axis changed; and what lies beside a point, case by case.
 -- Assumes nothing.
-use Rattle.std.specs.Prelude.{Some}
-use mathlib.Core.Bool.{true, false}
+use Rattle.std.specs.Prelude.{Option, Some, None}
+use mathlib.Core.Bool.{Bool, true, false}
 use mathlib.Core.List.{List}
-use mathlib.Core.Path.{◌≡◌, ap, sym, ◌∙◌}
+use mathlib.Core.Path.{◌≡◌, refl, sym, ◌∙◌}
 use Prim.Native.Nat.{ℕ, ◌<◌}
 use native.Mathlib.Omega.{arith}
 use lib.ListN.{length, set, length-set}
@@ -11,13 +11,17 @@ use lib.Seq.{get_or-set_same, get_or-set_other}
 use Rattle.naturals.proofs.Cases.{eq_or_not}
 use Rattle.numbering.specs.declared.Side.{Side}
 use Rattle.numbering.specs.Point.{at}
-use Rattle.numbering.specs.Parent.{numerator, is_border, parent_level, parent_index, update, border, parent}
-use Rattle.numbering.proofs.Parents.{update_same, update_other, parent_border, parent_inner}
-use Rattle.points.specs.Points.{eight}
+use Rattle.numbering.specs.Parent.{numerator, is_border, parent_level, parent_index, update}
+use Rattle.numbering.proofs.Parents.{update_same, update_other}
+use Rattle.numbered.specs.Numbered.{mark_of}
+use Rattle.numbered.specs.Neighbours.{beside}
+use Rattle.numbered.proofs.Moves.{move_still, move_border, move_inner, across_some, across_none, beside_stop, beside_to}
+use Rattle.points.specs.declared.MarkedPoint.{MarkedPoint}
+use Rattle.points.specs.Points.{eight, point_of}
 use Rattle.points.proofs.Eight.{eight_ext}
 use Rattle.parents.specs.Parents.{located}
 
-written : (xs : List ℕ) (t v : ℕ) → length xs ≡ 8 → t < 8 → set xs t v ≡ eight (update (at xs) t v)
+pub written : (xs : List ℕ) (t v : ℕ) → length xs ≡ 8 → t < 8 → set xs t v ≡ eight (update (at xs) t v)
 written xs t v e h = eight_ext (update (at xs) t v) (set xs t v) (length-set xs t v ∙ e) each
   where
     each : (u : ℕ) → u < 8 → at (set xs t v) u ≡ update (at xs) t v u
@@ -26,13 +30,41 @@ written xs t v e h = eight_ext (update (at xs) t v) (set xs t v) (length-set xs 
         (λ same. rw same (get_or-set_same xs t v 0 (omega arith) ∙ sym (update_same (at xs) t v)))
         (λ other. get_or-set_other xs t u v 0 other ∙ sym (update_other (at xs) t v u other))
 
--- A point with levels ls and indices is, and the numerator m of its neighbour on axis t.
-module _ (t : ℕ) (side : Side) (ls is : List ℕ) (m : ℕ) (e : m ≡ numerator side (at is t)) where
-  pub to_border : is_border (at ls t) m ≡ true → located border ≡ located (parent t side (at ls) (at is))
-  to_border there = ap located (sym (parent_border t side (at ls) (at is) (rw e at there)))
+-- A point of marks ms, levels ls and indices is, and the numerator m of its neighbour on axis t.
+module _ (border : Bool) (t : ℕ) (side : Side) (ms ls is : List ℕ) where
+  abbrev answer : Option MarkedPoint
+  answer = located (beside border t side (at ms) (at ls) (at is))
 
-  pub to_parent : is_border (at ls t) m ≡ false → t < 8 → length ls ≡ 8 → length is ≡ 8 → (l i : ℕ) → l ≡ parent_level (at ls t) m → i ≡ parent_index m →
-      Some (record { levels = set ls t l; indices = set is t i }) ≡ located (parent t side (at ls) (at is))
+  pub stays : (at ms t ≡ 0 → ⊥) → None ≡ answer
   unfolding located
-  to_parent inside h el ei l i level index =
-      rw (parent_inner t side (at ls) (at is) (rw e at inside), ← e, level, index, written ls t (parent_level (at ls t) m) el h, written is t (parent_index m) ei h)
+  stays marked = sym (rw (beside_stop border t side (at ms) (at ls) (at is) (move_still border side (at ms t) (at ls t) (at is t) (omega (arith, marked)))))
+
+  module _ (inner : at ms t ≡ 0) (m : ℕ) (e : m ≡ numerator side (at is t)) where
+    pub to_parent : is_border (at ls t) m ≡ false → (l i : ℕ) → l ≡ parent_level (at ls t) m → i ≡ parent_index m →
+        Some (point_of (update (at ms) t 0) (update (at ls) t l) (update (at is) t i)) ≡ answer
+    unfolding located
+    to_parent within l i level index =
+        sym
+        (rw
+        (beside_to border t side (at ms) (at ls) (at is) 0 _ _
+        (move_inner border side (at ms t) (at ls t) (at is t) inner (rw e at within)))
+        (rw (level, index, e) refl))
+
+    module _ (there : is_border (at ls t) m ≡ true) where
+      pub to_border : border ≡ false → None ≡ answer
+      unfolding located
+      to_border off =
+          sym
+          (rw
+          (beside_stop border t side (at ms) (at ls) (at is)
+          (move_border border side (at ms t) (at ls t) (at is t) inner (rw e at there) ∙ across_none border side off)))
+
+      pub to_across : border ≡ true → (a : ℕ) → a ≡ mark_of side →
+          Some (point_of (update (at ms) t a) (update (at ls) t 0) (update (at is) t 1)) ≡ answer
+      unfolding located
+      to_across on a mark =
+          sym
+          (rw
+          (beside_to border t side (at ms) (at ls) (at is) (mark_of side) 0 1
+          (move_border border side (at ms t) (at ls t) (at is t) inner (rw e at there) ∙ across_some border side on))
+          (rw mark refl))

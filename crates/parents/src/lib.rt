@@ -1,13 +1,16 @@
-// Hierarchical parents: the neighbours of a point on one axis, by trailing zeros of the neighbour's numerator.
+// Hierarchical parents: what lies beside a point on one axis, by trailing zeros of the neighbour's numerator; on a border of the axis nothing does.
 #![tactic(auto)]
 
 ghost use Rattle.std.specs.Prelude.{◌≡◌, ◌%◌, ◌^◌, ◌≤◌, ◌<◌, suc};
 ghost use Rattle.numbering.specs.Point.{at};
-ghost use Rattle.numbering.specs.Parent.{numerator, is_border, parent_level, parent_index, parent};
+ghost use Rattle.numbering.specs.Parent.{numerator, is_border, parent_level, parent_index, update};
+ghost use Rattle.numbered.specs.Numbered.{mark_of};
+ghost use Rattle.numbered.specs.Neighbours.{beside};
+ghost use Rattle.points.specs.Points.{point_of};
 ghost use Rattle.parents.specs.Parents.{located, parent_of};
 
 use numbering::Side;
-use points::Point;
+use points::{MarkedPoint, Point};
 use refusals::Refusal;
 use shapes::Shape;
 
@@ -49,36 +52,76 @@ pub fn reduce(level: u32, numerator: u32) -> Reduced
     }
 }
 
-// The parent on axis t (from 0) of a point whose level there is at most 8 and whose index is one of its level.
-fn parent_on(t: usize, side: Side, p: Point) -> Option<Point>
-    requires { (t < 8) × (at p.levels t ≤ 8) × (at p.indices t % 2 ≡ 1) × (at p.indices t < 2 ^ suc (at p.levels t)) }
-    ensures { result ≡ located (parent t side (at p.levels) (at p.indices)) }
+// The mark of the border on a side.
+fn mark_of(side: Side) -> u32
+    ensures { result ≡ mark_of side }
 {
-    let level = p.levels[t];
-    let numerator = neighbour(side, p.indices[t]);
-    if is_border(level, numerator) {
-        return None;
+    match side {
+        Side::Left => 1,
+        Side::Right => 2,
     }
-    let up = reduce(level, numerator);
-    let mut parent = p;
-    parent.levels[t] = up.level;
-    parent.indices[t] = up.index;
-    Some(parent)
 }
 
-// The parent of a point that is handed in as two lists, or none, the border.
+// A point moved on axis t (from 0) to this mark, level and index.
+fn moved(t: usize, p: MarkedPoint, mark: u32, level: u32, index: u32) -> MarkedPoint
+    requires { t < 8 }
+    ensures { result ≡ point_of (update (at p.marks) t mark) (update (at p.point.levels) t level) (update (at p.point.indices) t index) }
+{
+    let mut marks = p.marks;
+    let Point {
+        mut levels,
+        mut indices,
+    } = p.point;
+    marks[t] = mark;
+    levels[t] = level;
+    indices[t] = index;
+    MarkedPoint {
+        marks,
+        point: Point { levels, indices },
+    }
+}
+
+// What lies beside a point on axis t (from 0), whose level there is at most 8 and whose index is one of its level: the parent, or across the border the border point or
+// none; beside a border point none.
+fn beside(border: bool, t: usize, side: Side, p: MarkedPoint) -> Option<MarkedPoint>
+    requires { (t < 8) × (at p.point.levels t ≤ 8) × (at p.point.indices t % 2 ≡ 1) × (at p.point.indices t < 2 ^ suc (at p.point.levels t)) }
+    ensures { result ≡ located (beside border t side (at p.marks) (at p.point.levels) (at p.point.indices)) }
+{
+    if p.marks[t] != 0 {
+        return None;
+    }
+    let level = p.point.levels[t];
+    let numerator = neighbour(side, p.point.indices[t]);
+    if !is_border(level, numerator) {
+        let up = reduce(level, numerator);
+        return Some(moved(t, p, 0, up.level, up.index));
+    }
+    if !border {
+        return None;
+    }
+    Some(moved(t, p, mark_of(side), 0, 1))
+}
+
+// What lies beside a point that is handed in as three lists, or none.
 #[tactic(auto, using(points::proofs::Handed::lists_refused), unfolding(crate::specs::Parents::parent_of))]
 pub fn parent(
     shape: Shape,
+    marks: &[u32],
     levels: &[u32],
     indices: &[u32],
     axis: u32,
     side: Side,
-) -> Result<Option<Point>, Refusal>
-    ensures { result ≡ parent_of shape levels.now indices.now axis side }
+) -> Result<Option<MarkedPoint>, Refusal>
+    ensures { result ≡ parent_of shape marks.now levels.now indices.now axis side }
 {
     let checked = shape.check()?;
     shape.check_axis(axis)?;
-    let p = points::point_in(checked, levels, indices)?;
-    Ok(parent_on((axis - 1) as usize, side, p))
+    let point = points::point_in(checked, marks, levels, indices)?;
+    let marks = points::marks_from(shape.border, marks);
+    Ok(beside(
+        shape.border,
+        (axis - 1) as usize,
+        side,
+        MarkedPoint { marks, point },
+    ))
 }

@@ -1,0 +1,16 @@
+-- `parents::moved` meets its contract: each of the three lists has eight places, and one of them is written.
+-- Assumes nothing.
+use mathlib.Core.Path.{refl}
+use borrow.Author.Rules.{rules}
+use Rattle.parents.proofs.Stepped.{written}
+use Rattle.parents.proofs.moved.Goals as goal
+
+pub returns : goal.returns
+returns c =
+    let a = c.args in
+    rw (
+      written a.p.marks a.t a.mark (search rules) c.requires,
+      written a.p.point.levels a.t a.level (search rules) c.requires,
+      written a.p.point.indices a.t a.index (search rules) c.requires,
+    )
+    refl
