@@ -224,7 +224,20 @@ row_of_face d n m marks =
     ∙ row_in_layer d n b (face_rank m d) few (omega (arith, face_rank_lt m d marks)) (row_at_layer d n b (omega arith))
     ∙ sym (face_start_is d n m)
 
+-- A face ends where the table does, or before.
+pub face_inside : (d n : ℕ) (m : ℕ → ℕ) → ((t : ℕ) → t < d → m t ≤ 2) → face_start d n m + points (d - borders m d) n ≤ border_points d n
+face_inside d n m marks =
+    omega (
+      arith,
+      face_end d n m marks,
+      sum_to_mono (layer d n) (suc (borders m d)) (suc d) (omega (arith, borders_le m d)),
+      all_layers d n,
+    )
+
 module _ (d n f : ℕ) (lt : f < all_faces d) where
+  pub row_inside : row d n f + points (inner_of d f) n ≤ border_points d n
+  row_inside = omega (arith, row_suc d n f, row_mono d n (suc f) (all_faces d) lt, row_ends d n)
+
   pub row_start : row d n f ≡ face_start d n (marks_of d f)
   row_start =
       ap (row d n) (sym (number_of_face d f lt)) ∙ row_of_face d n (marks_of d f) (λ t h. mark_of_low d f t)
@@ -244,22 +257,24 @@ module _ (d n f : ℕ) (lt : f < all_faces d) where
         ap (λ (b : ℕ). sum_to (layer d n) (suc b)) (borders_of_marks d f lt),
       )
 
-  pub row_across : (t a : ℕ) → t < d → marks_of d f t ≡ 0 → 0 < a → row d n (suc f) ≤ face_start d n (update (marks_of d f) t a)
-  row_across t a h e some =
-      let b : ℕ = borders (update (marks_of d f) t a) d in
-      omega (
-        arith,
-        row_in,
-        face_start_is d n (update (marks_of d f) t a),
-        sum_to_mono (layer d n) (suc (borders_of d f)) b
-            (omega (
-              arith,
-              one_less (marks_of d f) d t a h e some,
-              before_borders (marks_of d f) d,
-              before_borders (update (marks_of d f) t a) d,
-              borders_of_marks d f lt,
-            )),
-      )
+  module _ (t a : ℕ) (h : t < d) (e : marks_of d f t ≡ 0) (some : 0 < a) where
+    one_border_more : borders (update (marks_of d f) t a) d ≡ suc (borders_of d f)
+    one_border_more =
+        omega (
+          arith,
+          one_less (marks_of d f) d t a h e some,
+          before_borders (marks_of d f) d,
+          before_borders (update (marks_of d f) t a) d,
+          borders_of_marks d f lt,
+        )
+
+    pub row_across : row d n (suc f) ≤ face_start d n (update (marks_of d f) t a)
+    row_across =
+        omega (arith, row_in, face_start_is d n (update (marks_of d f) t a), ap (sum_to (layer d n)) one_border_more)
+
+    -- Those have one inner axis less.
+    pub across_inner : suc (d - borders (update (marks_of d f) t a) d) ≡ inner_of d f
+    across_inner = omega (arith, one_border_more, borders_le (update (marks_of d f) t a) d, inner_of_is d f)
 
   -- ---- the points of a face
 
