@@ -168,12 +168,12 @@ fn last_levels(axes: u32, level: u32) -> [u32; 8]
     levels
 }
 
-// All faces of a table, in their order.
+// All faces of a table, in their order: 4 axes have 3^4.
 pub struct Layout {
     pub axes: u32,
     pub level: u32,
     pub count: usize,
-    pub faces: [Face; 81],
+    faces: [Face; 81],
     ghost few: { axes ≤ 4 },
     ghost top: { level ≤ 8 },
     ghost all: { count ≡ all_faces axes },
