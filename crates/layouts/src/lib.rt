@@ -169,6 +169,7 @@ fn last_levels(axes: u32, level: u32) -> [u32; 8]
 }
 
 // All faces of a table, in their order: 4 axes have 3^4.
+#[derive(Drop)]
 pub struct Layout {
     pub axes: u32,
     pub level: u32,
