@@ -219,6 +219,7 @@ impl Layout {
             faces,
         }
     }
+
     // Face number f.
     pub fn face(&self, f: usize) -> Face
         requires { f < self.now.count }
