@@ -7,5 +7,8 @@ pub mod Places
 pub mod Unranked
 pub mod Unpacked
 pub mod Read
+pub mod InnerAxes
+pub mod OnFaces
 pub mod Answers
 pub mod RoundTrips
+pub mod Ordered

@@ -14,9 +14,7 @@ use Rattle.numbering.specs.Inverse.{sum_at, within, level_of, level_at, index_of
 use Rattle.numbering.proofs.Block.{block_le}
 use Rattle.numbering.proofs.Unrank.{level_past, sum_of_level}
 use Rattle.numbering.proofs.Numbering.{rank_within, index_in, index_cong, index_zero}
-use Rattle.shapes.specs.Shapes.{sparse}
-use Rattle.grids.proofs.Sparse.{levels_sparse, indices_sparse}
-use Rattle.points.specs.Points.{eight, point_at}
+use Rattle.points.specs.Points.{eight, bare_point}
 use Rattle.points.proofs.Eight.{eight_length, eight_at, eight_whole, eight_cong}
 use Rattle.vectors.specs.Steps.{VectorIn}
 use Rattle.numbers.specs.Steps.{Lies, indices_of}
@@ -71,9 +69,7 @@ module _ (d n p : ℕ) (high : d ≤ 8) (lt : p < points d n) {levels : List ℕ
         ∙ sym (index_in d n p t before))
 
     pub point_found : {indices : List ℕ} → indices ≡ eight (indices_of d (at levels) q) →
-        record { levels = levels; indices = indices } ≡ point_at (sparse d n) p
-    unfolding point_at
+        record { levels = levels; indices = indices } ≡ bare_point (level_at d n p) (index_at d n p)
     point_found written =
-        rw (levels_sparse d n p, indices_sparse d n p)
-        (ap₂ (λ (ls is : List ℕ). record { levels = ls; indices = is }) made
-        (written ∙ eight_cong (indices_of d (at levels) q) (index_at d n p) index_found))
+        ap₂ (λ (ls is : List ℕ). record { levels = ls; indices = is }) made
+        (written ∙ eight_cong (indices_of d (at levels) q) (index_at d n p) index_found)
