@@ -4,7 +4,7 @@
 use mathlib.Core.Path.{◌≡◌, refl, ap}
 use mathlib.Core.Bool.{Bool, ◌&&◌}
 use Prim.Native.Nat.{ℕ, zero, suc, ◌+◌, ◌-◌, ◌*◌, ◌%◌, ◌^◌, ◌≤◌, ◌<◌}
-use native.Mathlib.Nat.{mul-le-mul_right, mul-sub, mul_comm, add-mul, suc-mul, one-mul}
+use native.Mathlib.Nat.{div-le_of_le-mul, mul-le-mul_right, mul-sub, mul_comm, add-mul, suc-mul, one-mul}
 use native.Mathlib.Omega.{arith}
 use lib.Dec.{eqb}
 use borrow.Author.Tests.{eq-eqb, ne_eqb}
@@ -58,6 +58,16 @@ module _ (u : ℕ) where
     pub coordinate_upper : (a : ℕ) → axis_coordinate u (suc (suc a)) l i ≡ u
     unfolding axis_coordinate
     coordinate_upper a = refl
+
+  -- A coordinate is at most the unit.
+  coordinate_le : (l i : ℕ) → i ≤ 2 ^ suc l → coordinate u l i ≤ u
+  unfolding coordinate
+  coordinate_le l i few = div-le_of_le-mul (2 ^ suc l) {m = i * u} {n = u} (mul-le-mul_right u few)
+
+  pub axis_coordinate_le : (a l i : ℕ) → i ≤ 2 ^ suc l → axis_coordinate u a l i ≤ u
+  axis_coordinate_le zero l i few = rw (coordinate_inside l i 0 refl) (coordinate_le l i few)
+  axis_coordinate_le (suc zero) l i few = omega (arith, coordinate_lower l i)
+  axis_coordinate_le (suc (suc a)) l i few = omega (arith, coordinate_upper l i a)
 
   -- ---- at a point inside, between its neighbours' coordinates
 

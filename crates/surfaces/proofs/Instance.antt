@@ -108,15 +108,16 @@ module _ (u : ℕ) {g : Numbered} {Point : (ℕ → ℕ) → (ℕ → ℕ) → (
       Still r = (grid_weight u g t p r ≡ grid_weight u g t p (suc q)) × (grid_same g t p r ≡ grid_same g t p (suc q))
 
       point_still : (m l i : ℕ → ℕ) → Point m l i → m t ≡ g.mark q t → l t ≡ g.level q t → i t ≡ g.index q t → Still (suc (g.number m l i))
-      point_still m l i x em el ei =
-          (weight_named t p x
-          ∙ ap (λ (c : ℕ). weight_to t p (axis_coordinate u c (l t) (i t))) em
-          ∙ ap₂ (λ (k j : ℕ). weight_to t p (axis_coordinate u (g.mark q t) k j)) el ei
-          ∙ sym (weight_at_lem t p q),
-          same_named t p x
-          ∙ ap (λ (c : ℕ). agrees t p c (l t) (i t)) em
-          ∙ ap₂ (λ (k j : ℕ). agrees t p (g.mark q t) k j) el ei
-          ∙ sym (same_at t p q))
+      point_still m l i x em el ei = (
+        weight_named t p x
+            ∙ ap (λ (c : ℕ). weight_to t p (axis_coordinate u c (l t) (i t))) em
+            ∙ ap₂ (λ (k j : ℕ). weight_to t p (axis_coordinate u (g.mark q t) k j)) el ei
+            ∙ sym (weight_at_lem t p q),
+        same_named t p x
+            ∙ ap (λ (c : ℕ). agrees t p c (l t) (i t)) em
+            ∙ ap₂ (λ (k j : ℕ). agrees t p (g.mark q t) k j) el ei
+            ∙ sym (same_at t p q),
+      )
 
       both_still : Still (neighbour g a b (suc q))
       both_still =

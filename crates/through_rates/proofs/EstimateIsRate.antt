@@ -5,7 +5,7 @@ use Rattle.std.specs.Prelude.{Ok}
 use mathlib.Core.Path.{◌≡◌, refl, ap, sym, ◌∙◌, fun_ext}
 use mathlib.Core.Bool.{true, false}
 use mathlib.Core.List.{List, [], ◌∷◌, ◌++◌}
-use Prim.Native.Nat.{ℕ, zero, suc, ◌*◌, ◌^◌, ◌≤◌, ◌<◌}
+use Prim.Native.Nat.{ℕ, zero, suc, ◌*◌, ◌/◌, ◌^◌, ◌≤◌, ◌<◌}
 use native.Mathlib.Nat.{mul-le-mul_right, zero-mul, zero-div, div-le_of_le-mul}
 use native.Mathlib.Omega.{arith}
 use lib.IntN.{ℤ, pos, nat_abs}
@@ -28,10 +28,11 @@ use Rattle.hierarchy.proofs.Bounds.{table_in_limit}
 use Rattle.shapes.specs.declared.Shape.{Shape}
 use Rattle.shapes.specs.Shapes.{points_of}
 use Rattle.shapes.proofs.Checked.{InRange, passed_in_range}
-use Rattle.grids.specs.Grids.{level_on, index_on, neighbour}
-use Rattle.grids.proofs.Points.{index_below, index_past}
+use Rattle.grids.specs.Grids.{mark_on, level_on, index_on, neighbour}
+use Rattle.grids.proofs.Points.{index_below, mark_past, index_past}
 use Rattle.surfaces.specs.Weights.{unit, is_coordinate, coordinate}
 use Rattle.surfaces.specs.Surface.{coordinates_in, coordinates_of, estimate_at}
+use Rattle.surfaces.proofs.AxisHat.{coordinate_inside, axis_coordinate_le}
 use Rattle.surfaces.proofs.Interpolates.{estimate_through}
 use Rattle.states.specs.States.{check_state}
 use Rattle.states.proofs.Bits.{all_bits_in}
@@ -72,11 +73,14 @@ module _ (s : Shape) (q : ℕ) where
   unfolding coordinate_list
   list_length = first_length s.axes (coordinates_of s q)
 
-  -- Past the last axis a point's level and index are 0, and so is what a list holds there.
+  -- Past the last axis a point's mark, level and index are 0, and so is what a list holds there.
   none_past : (t : ℕ) → s.axes ≤ t → coordinates_of s q t ≡ 0
   unfolding coordinates_in coordinate
   none_past t past =
-      rw (index_past s q t past, zero-mul unit) (zero-div (2 ^ suc (level_on s q t)))
+      coordinate_inside unit (level_on s q t) (index_on s q t) (mark_on s q t) (mark_past s q t past)
+      ∙ ap (λ (i : ℕ). i * unit / 2 ^ suc (level_on s q t)) (index_past s q t past)
+      ∙ ap (λ (x : ℕ). x / 2 ^ suc (level_on s q t)) (zero-mul unit)
+      ∙ zero-div (2 ^ suc (level_on s q t))
 
   list_holds : at (coordinate_list s q) ≡ coordinates_of s q
   unfolding coordinate_list
@@ -88,12 +92,9 @@ module _ (s : Shape) (q : ℕ) where
 
   -- A point's coordinate is at most the unit.
   coordinate_small : q < points_of s → (t : ℕ) → t < s.axes → coordinates_of s q t ≤ unit
-  unfolding coordinates_in coordinate
+  unfolding coordinates_in
   coordinate_small h t axis =
-      let l = level_on s q t in
-      let i = index_on s q t in
-      div-le_of_le-mul (2 ^ suc l) {m = i * unit} {n = unit}
-      (mul-le-mul_right unit (omega (arith, index_below s q h t axis)))
+      axis_coordinate_le unit (mark_on s q t) (level_on s q t) (index_on s q t) (omega (arith, index_below s q h t axis))
 
   module _ (h : q < points_of s) where
     is_coordinate_lem : (t : ℕ) → t < s.axes → inside_at unit (coordinate_list s q) t ≡ true

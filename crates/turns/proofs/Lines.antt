@@ -18,14 +18,15 @@ use Rattle.hierarchy.proofs.Inverse.{forward_is, backward_zero}
 use Rattle.hierarchy.proofs.Values.{value_zero, value_suc, values_at}
 use Rattle.shapes.specs.declared.Shape.{Shape}
 use Rattle.shapes.specs.Shapes.{points_of}
-use Rattle.grids.specs.Grids.{number_of, level_on, index_on, neighbour, depth, height}
-use Rattle.grids.proofs.Points.{number_lt, levels_again, indices_again}
-use Rattle.grids.proofs.Beside.{numerator_on, parent_levels, parent_indices, to_border, to_parent, parent_there}
+use Rattle.grids.specs.Grids.{number_of, mark_on, level_on, index_on, neighbour, depth, height}
+use Rattle.grids.proofs.Points.{PointOf, number_lt, marks_again, levels_again, indices_again}
+use Rattle.grids.proofs.Beside.{parent_levels, parent_indices, across_marks, across_levels, across_indices, to_across, to_parent, across_there, parent_there, none_or_point}
 use Rattle.grids.proofs.Instance.{grid}
 use Rattle.grids.specs.Turned.{turned_table, former_table}
 
 -- Two points on a line along place t: they differ on that axis at most.
 pub record OnLine (s : Shape) (t p q : ℕ) : Type 0 where
+  pub marks : (u : ℕ) → (u ≡ t → ⊥) → mark_on s q u ≡ mark_on s p u
   pub levels : (u : ℕ) → (u ≡ t → ⊥) → level_on s q u ≡ level_on s p u
   pub indices : (u : ℕ) → (u ≡ t → ⊥) → index_on s q u ≡ index_on s p u
 
@@ -38,34 +39,53 @@ pub record Beside (s : Shape) (t p code : ℕ) : Type 0 where
 
 -- The points of a line lie on one line, from whichever it is looked at.
 pub itself : (s : Shape) (t p : ℕ) → OnLine s t p p
-itself s t p = record { levels = λ u ne. refl; indices = λ u ne. refl }
+itself s t p = record { marks = λ u ne. refl; levels = λ u ne. refl; indices = λ u ne. refl }
 
 pub other_way : (s : Shape) (t p q : ℕ) → OnLine s t p q → OnLine s t q p
-other_way s t p q a = record { levels = λ u ne. sym (a.levels u ne); indices = λ u ne. sym (a.indices u ne) }
+other_way s t p q a =
+    record { marks = λ u ne. sym (a.marks u ne); levels = λ u ne. sym (a.levels u ne); indices = λ u ne. sym (a.indices u ne) }
 
 pub along : (s : Shape) (t p q r : ℕ) → OnLine s t p q → OnLine s t q r → OnLine s t p r
 along s t p q r a b =
-    record { levels = λ u ne. b.levels u ne ∙ a.levels u ne; indices = λ u ne. b.indices u ne ∙ a.indices u ne }
+    record {
+      marks = λ u ne. b.marks u ne ∙ a.marks u ne;
+      levels = λ u ne. b.levels u ne ∙ a.levels u ne;
+      indices = λ u ne. b.indices u ne ∙ a.indices u ne;
+    }
 
 module _ (s : Shape) (t : ℕ) (axis : t < s.axes) where
-  -- A neighbour is the border or lies on the line.
-  pub neighbour_on_line : (b : Side) (p : ℕ) → p < points_of s → (neighbour s t b (suc p) ≡ 0) ⊎ Beside s t p (neighbour s t b (suc p))
-  neighbour_on_line b p h =
-      true_or_false (is_border (level_on s p t) (numerator_on s t b p))
-      (λ e. inl (to_border s t b p h axis e))
-      (λ e.
-      let there = parent_there s t b p h axis e in
-      inr
-      (record {
-        point = number_of s (parent_levels s t b p) (parent_indices s t b p);
-        coded = to_parent s t b p h axis e;
-        below = number_lt s there;
+  -- A point that differs from point p on the axis at most lies beside it.
+  beside_named : (p code : ℕ) {m l i : ℕ → ℕ} → PointOf s m l i → code ≡ suc (number_of s m l i) → ((u : ℕ) → (u ≡ t → ⊥) → m u ≡ mark_on s p u) →
+      ((u : ℕ) → (u ≡ t → ⊥) → l u ≡ level_on s p u) → ((u : ℕ) → (u ≡ t → ⊥) → i u ≡ index_on s p u) → Beside s t p code
+  beside_named p code {m} {l} {i} x coded marks levels indices =
+      record {
+        point = number_of s m l i;
+        coded = coded;
+        below = number_lt s x;
         line =
             record {
-              levels = λ u ne. ap (λ (f : ℕ → ℕ). f u) (levels_again s there) ∙ update_other (level_on s p) t _ u ne;
-              indices = λ u ne. ap (λ (f : ℕ → ℕ). f u) (indices_again s there) ∙ update_other (index_on s p) t _ u ne;
+              marks = λ u ne. ap (λ (f : ℕ → ℕ). f u) (marks_again s x) ∙ marks u ne;
+              levels = λ u ne. ap (λ (f : ℕ → ℕ). f u) (levels_again s x) ∙ levels u ne;
+              indices = λ u ne. ap (λ (f : ℕ → ℕ). f u) (indices_again s x) ∙ indices u ne;
             };
-      }))
+      }
+
+  -- A neighbour is none or lies on the line.
+  pub neighbour_on_line : (b : Side) (p : ℕ) → p < points_of s → (neighbour s t b (suc p) ≡ 0) ⊎ Beside s t p (neighbour s t b (suc p))
+  neighbour_on_line b p h =
+      none_or_point s t b p inl
+      (λ h axis inner e.
+      inr
+      (beside_named p (neighbour s t b (suc p)) (parent_there s t b p h axis inner e) (to_parent s t b p h axis inner e)
+      (λ u ne. refl)
+      (λ u ne. update_other (level_on s p) t _ u ne)
+      (λ u ne. update_other (index_on s p) t _ u ne)))
+      (λ h axis inner e on.
+      inr
+      (beside_named p (neighbour s t b (suc p)) (across_there s t b p h axis inner on) (to_across s t b p h axis inner e on)
+      (λ u ne. update_other (mark_on s p) t _ u ne)
+      (λ u ne. update_other (level_on s p) t _ u ne)
+      (λ u ne. update_other (index_on s p) t _ u ne)))
 
   -- Tables that agree on the line of point p agree at p after the turn.
   pub own_line : (xs ys : List ℤ) (p : ℕ) → p < points_of s →

@@ -11,11 +11,11 @@ use Rattle.naturals.specs.Test.{all}
 use Rattle.naturals.specs.FirstFailing.{first_failing}
 use Rattle.refusals.specs.declared.Refusal.TheVariants.{TooManyPoints, Rate}
 use Rattle.integers.specs.Half.{half, is_rate}
-use Rattle.numbering.specs.Parent.{is_border, twos, parent_level, parent_index, update, parent}
+use Rattle.numbering.specs.Parent.{is_border, twos, parent_level, parent_index, update}
 use Rattle.hierarchy.specs.Turns.{value_at, values_of, sum_on, forward}
 use Rattle.hierarchy.specs.Sets.{scaled, swept, table_of}
-use Rattle.zero_border.specs.ZeroBorder.{code_of}
-use Rattle.zero_border.specs.ZeroBorder as zero_border
+use Rattle.numbered.specs.Neighbours.{move, moved, beside, code_of}
+use Rattle.numbered.specs.Neighbours as numbered_points
 use Rattle.component_grids.specs.Component.{across, across_on, points_to, place, share, position, place_at, level_at, index_at, neighbour}
 use Rattle.states.specs.After.{left}
 use Rattle.tables.specs.Tables.{rate_at, check_rates}
@@ -35,7 +35,7 @@ pub worked_components :
     ≡ left (Ok tt) (negsuc 5 ∷ pos 0 ∷ negsuc 9 ∷ pos 4 ∷ pos 16 ∷ pos 12 ∷ negsuc 13 ∷ pos 16 ∷ negsuc 17 ∷ []))
     × (component_coefficients (1 ∷ []) (pos 5 ∷ pos 2147483648 ∷ pos 7 ∷ []) ≡ left (Err (Rate 1)) (pos 5 ∷ pos 2147483648 ∷ pos 7 ∷ []))
     × (component_coefficients (8 ∷ 6 ∷ []) [] ≡ left (Err TooManyPoints) [])
-unfolding sum_to prod_to all first_failing half is_rate is_border twos parent_level parent_index update parent count_trailing_zeros value_at values_of sum_on forward scaled swept table_of code_of zero_border.neighbour across across_on points_to place share position place_at level_at index_at neighbour rate_at check_rates low_at check_levels grid_points check_grid check_component component_table component_coefficients
+unfolding sum_to prod_to all first_failing half is_rate is_border twos parent_level parent_index update count_trailing_zeros value_at values_of sum_on forward scaled swept table_of numbered_points.across move moved beside code_of numbered_points.neighbour across across_on points_to place share position place_at level_at index_at neighbour rate_at check_rates low_at check_levels grid_points check_grid check_component component_table component_coefficients
 worked_components = (refl, refl, refl, refl, refl)
 
 -- The step of axis a (from 0) at code p, which is position p − 1.

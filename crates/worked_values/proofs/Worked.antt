@@ -13,15 +13,15 @@ use Rattle.numbering.specs.Count.{vectors, shell, start, points}
 use Rattle.numbering.specs.Point.{is_index, indexed, is_point}
 use Rattle.numbering.specs.Number.{ending, rank, digit, position, first_of, number}
 use Rattle.numbering.specs.Inverse.{block, last_level, level_of, sum_at, within, level_at, index_of, index_at}
-use Rattle.numbering.specs.Parent.{is_border, twos, parent_level, parent_index, update, parent}
+use Rattle.numbering.specs.Parent.{is_border, twos, parent_level, parent_index, update}
 use Rattle.hierarchy.specs.Turns.{value_at, values_of, sum_on, forward}
 use Rattle.hierarchy.specs.Sets.{scaled, swept, table_of}
-use Rattle.zero_border.specs.ZeroBorder.{code_of}
-use Rattle.zero_border.specs.ZeroBorder as zero_border
+use Rattle.numbered.specs.Neighbours.{move, moved, beside, code_of}
+use Rattle.numbered.specs.Neighbours as numbered_points
 use Rattle.shapes.specs.Shapes.{check_shape, points_of, check_length, counted}
-use Rattle.grids.specs.Grids.{number_of, level_on, index_on, neighbour}
+use Rattle.grids.specs.Grids.{number_of, mark_on, level_on, index_on, neighbour}
 use Rattle.interpolation.specs.Weighted.{weighted, weighted_sum}
-use Rattle.surfaces.specs.Weights.{unit, is_coordinate, distance, weight, joint}
+use Rattle.surfaces.specs.Weights.{unit, is_coordinate, distance, weight, axis_weight, joint}
 use Rattle.surfaces.specs.Surface.{weight_in, joint_in, joint_sum_in, rounded, estimate_in}
 use Rattle.points.specs.Points.{check_lists, check_point}
 use Rattle.numbers.specs.Numbers.{number_of_point}
@@ -32,7 +32,7 @@ use Rattle.estimates.specs.Estimates.{check_forward, inside_at, first_outside, c
 use Rattle.worked_values.specs.Worked.{AllHold, examples}
 
 pub worked_values : AllHold examples
-unfolding sum_to all choose vectors shell start points is_index indexed is_point ending rank digit position first_of number check_shape points_of check_length counted number_of level_on index_on check_lists check_point number_of_point half is_rate block last_level level_of sum_at within level_at index_of index_at is_border twos parent_level parent_index update parent count_trailing_zeros value_at values_of sum_on forward scaled swept table_of code_of zero_border.neighbour neighbour first_failing check_table rate_at check_rates coefficients_of rates_to_coefficients total nearest_up nearest in_limit weighted weighted_sum unit is_coordinate distance weight weight_in joint joint_in joint_sum_in rounded estimate_in has is_other first_axis check_axes check_bits check_state content_at adopt check_forward inside_at first_outside check_coordinates check_estimate estimate_in_unit
+unfolding sum_to all choose vectors shell start points is_index indexed is_point ending rank digit position first_of number check_shape points_of check_length counted number_of mark_on level_on index_on check_lists check_point number_of_point half is_rate block last_level level_of sum_at within level_at index_of index_at is_border twos parent_level parent_index update count_trailing_zeros value_at values_of sum_on forward scaled swept table_of numbered_points.across move moved beside code_of numbered_points.neighbour neighbour first_failing check_table rate_at check_rates coefficients_of rates_to_coefficients total nearest_up nearest in_limit weighted weighted_sum unit is_coordinate distance weight axis_weight weight_in joint joint_in joint_sum_in rounded estimate_in has is_other first_axis check_axes check_bits check_state content_at adopt check_forward inside_at first_outside check_coordinates check_estimate estimate_in_unit
 worked_values = (
   refl,
   (refl, (refl, (refl, (refl, (refl, (refl, (refl, ((refl, refl), ((refl, refl), ((refl, refl), ((refl, refl), ((refl, refl), ((refl, refl), ((refl, refl), tt)))))))))))))),
