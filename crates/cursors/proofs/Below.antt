@@ -28,13 +28,16 @@ first_lowered d t s j l axis sum high =
     ∙ ap (λ (s : ℕ). start d s + 2 ^ s * rank m d) (sym (sum_lowered d t s j axis low l sum high))
     ∙ sym (first_is d m)
 
-pub cursors_below : {v : Subspace} {cs : List ℕ} → Cursors v.line v.vector.sum (rank (at v.vector.levels) v.line.shape.axes) cs → Below v cs
+pub cursors_below : {v : Subspace} {cs : List ℕ} → Cursors v.facet v.vector.sum (rank (at v.vector.levels) v.facet.axes) cs → Below v cs
 cursors_below {v} {cs} cursors =
     record { long = cursors.long; first = first }
   where
-    first : (j : ℕ) → 1 ≤ j → j ≤ v.own → at cs j ≡ first_of v.line.shape.axes (update (at v.vector.levels) v.line.place (v.own - j))
+    first : (j : ℕ) → 1 ≤ j → j ≤ v.own → at cs j ≡ v.facet.base + first_of v.facet.axes (update (at v.vector.levels) v.facet.place (v.own - j))
     first j from to =
-        let own : j ≤ at v.vector.levels v.line.place = omega (arith, v.there) in
-        cursors.first j from (omega (arith, (vector_of v).total, term_le (at v.vector.levels) v.line.shape.axes v.line.place v.line.axis))
-        ∙ first_lowered v.line.shape.axes v.line.place v.vector.sum j (at v.vector.levels) v.line.axis (vector_of v).total own
-        ∙ ap (λ (o : ℕ). first_of v.line.shape.axes (update (at v.vector.levels) v.line.place (o - j))) (sym v.there)
+        let own : j ≤ at v.vector.levels v.facet.place = omega (arith, v.there) in
+        omega (
+          arith,
+          cursors.first j from (omega (arith, (vector_of v).total, term_le (at v.vector.levels) v.facet.axes v.facet.place v.facet.inner)),
+          first_lowered v.facet.axes v.facet.place v.vector.sum j (at v.vector.levels) v.facet.inner (vector_of v).total own,
+          ap (λ (o : ℕ). first_of v.facet.axes (update (at v.vector.levels) v.facet.place (o - j))) (sym v.there),
+        )

@@ -1,7 +1,7 @@
 -- The starts of the level sums, and the cursors before the first and after the last level vector of a sum, as loops fill them in from the first place on.
 -- Assumes nothing.
 use mathlib.Core.List.{List}
-use mathlib.Core.Path.{◌≡◌, ap, sym, ◌∙◌}
+use mathlib.Core.Path.{◌≡◌, ap, ◌∙◌}
 use Prim.Native.Nat.{ℕ, suc, ◌+◌, ◌-◌, ◌*◌, ◌^◌, ◌≤◌, ◌<◌}
 use native.Mathlib.Nat.{mul-zero}
 use native.Mathlib.Omega.{arith}
@@ -11,7 +11,7 @@ use Rattle.naturals.proofs.Cases.{eq_or_not}
 use Rattle.numbering.specs.Count.{vectors, start}
 use Rattle.numbering.specs.Point.{at}
 use Rattle.numbering.proofs.Numbering.{start_suc}
-use Rattle.neighbours.specs.declared.subspaces.Line.{Line}
+use Rattle.neighbours.specs.declared.facets.Facet.{Facet}
 use Rattle.cursors.specs.declared.starts.Starts.{Starts}
 use Rattle.cursors.specs.Steps.{Filled, passed, Cursors}
 use Rattle.cursors.proofs.Lowering.{passed_none, passed_all}
@@ -30,34 +30,33 @@ fills {value} {long} {a} {list} j v filled inside e =
 -- ---- cursors
 
 -- Cursor j where the first b level vectors of sum s are passed.
-abbrev pub cursor_at : Line → ℕ → ℕ → ℕ → ℕ
-cursor_at line s b j = start line.shape.axes (s - j) + 2 ^ (s - j) * passed line.shape.axes line.place s j b
+abbrev pub cursor_at : Facet → ℕ → ℕ → ℕ → ℕ
+cursor_at facet s b j = facet.base + start facet.axes (s - j) + 2 ^ (s - j) * passed facet.axes facet.place s j b
 
 -- The place of a sum is where the next list of cursor j is, before the first list; the one after it, after the last.
-module _ (starts : Starts) (s j : ℕ) (low : s ≤ starts.line.shape.level) (le : j ≤ s) where
-  pub before_first : at starts.places (s + 0 - j) ≡ cursor_at starts.line s 0 j
+module _ (starts : Starts) (s j : ℕ) (low : s ≤ starts.facet.line.shape.level) (le : j ≤ s) where
+  pub before_first : at starts.places (s + 0 - j) ≡ cursor_at starts.facet s 0 j
   before_first =
       let same : s + 0 - j ≡ s - j = omega arith in
       ap (at starts.places) same
       ∙ omega (
         arith,
         starts.first (s - j) (omega arith),
-        ap (λ (r : ℕ). 2 ^ (s - j) * r) (passed_none starts.line.shape.axes starts.line.place s j),
+        ap (λ (r : ℕ). 2 ^ (s - j) * r) (passed_none starts.facet.axes starts.facet.place s j),
         mul-zero (2 ^ (s - j)),
       )
 
-  pub after_last : at starts.places (s + 1 - j) ≡ cursor_at starts.line s (vectors starts.line.shape.axes s) j
+  pub after_last : at starts.places (s + 1 - j) ≡ cursor_at starts.facet s (vectors starts.facet.axes s) j
   after_last =
-      let line = starts.line in
+      let facet = starts.facet in
       let next : s + 1 - j ≡ suc (s - j) = omega arith in
       ap (at starts.places) next
       ∙ starts.first (suc (s - j)) (omega arith)
-      ∙ start_suc line.shape.axes (s - j)
-      ∙ ap (λ (r : ℕ). start line.shape.axes (s - j) + 2 ^ (s - j) * r) (sym (passed_all line.shape.axes line.place s j line.axis le))
+      ∙ omega (arith, start_suc facet.axes (s - j), ap (λ (r : ℕ). 2 ^ (s - j) * r) (passed_all facet.axes facet.place s j facet.inner le))
 
 -- Cursors that are filled in from the places, each `past` after the start of its sum, are those where b level vectors of the sum are passed, if each is.
-pub cursors_filled : (starts : Starts) (s past b : ℕ) {list : List ℕ} → s ≤ starts.line.shape.level →
-    ((j : ℕ) → j ≤ s → at starts.places (s + past - j) ≡ cursor_at starts.line s b j) →
-    Filled (λ j. at starts.places (s + past - j)) 9 1 (suc s) list → Cursors starts.line s b list
+pub cursors_filled : (starts : Starts) (s past b : ℕ) {list : List ℕ} → s ≤ starts.facet.line.shape.level →
+    ((j : ℕ) → j ≤ s → at starts.places (s + past - j) ≡ cursor_at starts.facet s b j) →
+    Filled (λ j. at starts.places (s + past - j)) 9 1 (suc s) list → Cursors starts.facet s b list
 cursors_filled starts s past b low is filled =
     record { low = low; long = filled.size; first = λ j from to. filled.holds j from (omega arith) ∙ is j to }

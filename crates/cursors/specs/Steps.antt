@@ -5,7 +5,7 @@ use Rattle.naturals.specs.Sum.{sum_to}
 use Rattle.numbering.specs.Count.{start}
 use Rattle.numbering.specs.Point.{at}
 use Rattle.numbering.specs.Inverse.{level_of}
-use Rattle.neighbours.specs.declared.subspaces.Line.{Line}
+use Rattle.neighbours.specs.declared.facets.Facet.{Facet}
 
 -- A list of so many places that is filled in from place a on, up to place j, with the values of a function.
 pub record Filled (value : ℕ → ℕ) (long a j : ℕ) (list : List ℕ) : Type 0 where
@@ -22,7 +22,7 @@ passed d t s j b = sum_to (reaches d t s j) b
 
 -- Of the level lists of sum s the first b are passed. Those of them with a level of at least j on the axis, each lowered by j there, are the first level lists
 -- of sum s − j: cursor j is the number of the first point that comes after these. Places 0 and past s are not read.
-pub record Cursors (line : Line) (s b : ℕ) (cursors : List ℕ) : Type 0 where
-  pub low : s ≤ line.shape.level
+pub record Cursors (facet : Facet) (s b : ℕ) (cursors : List ℕ) : Type 0 where
+  pub low : s ≤ facet.line.shape.level
   pub long : length cursors ≡ 9
-  pub first : (j : ℕ) → 1 ≤ j → j ≤ s → at cursors j ≡ start line.shape.axes (s - j) + 2 ^ (s - j) * passed line.shape.axes line.place s j b
+  pub first : (j : ℕ) → 1 ≤ j → j ≤ s → at cursors j ≡ facet.base + start facet.axes (s - j) + 2 ^ (s - j) * passed facet.axes facet.place s j b

@@ -14,9 +14,9 @@ use neighbours::Subspace;
 pub use starts::Starts;
 
 impl Starts {
-    // Cursor j of a sum at the place that lies j before the one `past` after it. (`past` is added and no flag; that the sum is one of the shape's is asked by all three.)
+    // Cursor j of a sum at the place that lies j before the one `past` after it. (`past` is added and no flag; that the sum is one of the face's is asked by all three.)
     fn back_from(&self, sum: u32, past: u32) -> [u64; 9]
-        requires { (sum ≤ self.now.line.shape.level) × (past ≤ 1) }
+        requires { (sum ≤ self.now.facet.line.shape.level) × (past ≤ 1) }
         ensures { Filled (λ j. at self.now.places (sum + past - j)) 9 1 (suc sum) result }
     {
         let mut cursors = [0u64; 9];
@@ -28,16 +28,16 @@ impl Starts {
 
     // The cursors before the first level list of a sum.
     pub fn before_first(&self, sum: u32) -> [u64; 9]
-        requires { sum ≤ self.now.line.shape.level }
-        ensures { Cursors self.now.line sum 0 result }
+        requires { sum ≤ self.now.facet.line.shape.level }
+        ensures { Cursors self.now.facet sum 0 result }
     {
         self.back_from(sum, 0)
     }
 
     // The cursors after the last level list of a sum.
     pub fn after_last(&self, sum: u32) -> [u64; 9]
-        requires { sum ≤ self.now.line.shape.level }
-        ensures { Cursors self.now.line sum (vectors self.now.line.shape.axes sum) result }
+        requires { sum ≤ self.now.facet.line.shape.level }
+        ensures { Cursors self.now.facet sum (vectors self.now.facet.axes sum) result }
     {
         self.back_from(sum, 1)
     }
@@ -46,8 +46,8 @@ impl Starts {
 // One level list on: each cursor that stands at a list below this one steps over it. (The loop needs j for the cursor and for the
 // step; with `..=` it left goals open. Its twin back is as short as a call with a closure that adds or subtracts, which would have to ask that the result fits.)
 pub fn pass(v: Subspace, cursors: &mut [u64; 9])
-    requires { Cursors v.line v.vector.sum (rank (at v.vector.levels) v.line.shape.axes) cursors.old }
-    ensures { Cursors v.line v.vector.sum (suc (rank (at v.vector.levels) v.line.shape.axes)) cursors.new }
+    requires { Cursors v.facet v.vector.sum (rank (at v.vector.levels) v.facet.axes) cursors.old }
+    ensures { Cursors v.facet v.vector.sum (suc (rank (at v.vector.levels) v.facet.axes)) cursors.new }
 {
     for j in 1..v.own + 1 {
         cursors[j as usize] += 1 << (v.vector.sum - j);
@@ -56,8 +56,8 @@ pub fn pass(v: Subspace, cursors: &mut [u64; 9])
 
 // One level list back: each cursor that stands after a list below this one steps back to it.
 pub fn pass_back(v: Subspace, cursors: &mut [u64; 9])
-    requires { Cursors v.line v.vector.sum (suc (rank (at v.vector.levels) v.line.shape.axes)) cursors.old }
-    ensures { Cursors v.line v.vector.sum (rank (at v.vector.levels) v.line.shape.axes) cursors.new }
+    requires { Cursors v.facet v.vector.sum (suc (rank (at v.vector.levels) v.facet.axes)) cursors.old }
+    ensures { Cursors v.facet v.vector.sum (rank (at v.vector.levels) v.facet.axes) cursors.new }
 {
     for j in 1..v.own + 1 {
         cursors[j as usize] -= 1 << (v.vector.sum - j);

@@ -1,28 +1,29 @@
-// Where the points of each level sum start.
-ghost use Rattle.std.specs.Prelude.{ℕ, suc, ◌≡◌, ◌≤◌};
+// Where the points of each level sum of a face start.
+ghost use Rattle.std.specs.Prelude.{ℕ, suc, ◌≡◌, ◌+◌, ◌≤◌};
 ghost use Rattle.numbering.specs.Count.{start};
 ghost use Rattle.numbering.specs.Point.{at};
 
-use neighbours::Line;
+use neighbours::Facet;
 
 // The number of the first point of each level sum from 0 to the top level; in the next place, N. Other places are not read.
 #[derive(Clone, Copy)]
 pub struct Starts {
-    pub line: Line,
+    pub facet: Facet,
     pub places: [u64; 10],
-    ghost first: { (s : ℕ) → s ≤ suc line.shape.level → at places s ≡ start line.shape.axes s },
+    ghost first: { (s : ℕ) → s ≤ suc facet.line.shape.level → at places s ≡ facet.base + start facet.axes s },
 }
 
 impl Starts {
-    // The starts of a shape, each from the one before. (Asked of `Rows::start`, which adds them up from 0, a turn at (1, 3) takes 7 of 100 instructions more.)
-    pub fn of(line: Line) -> Starts
-        ensures { result.line ≡ line }
+    // The starts of a face, each from the one before. (Asked of `Rows::start`, which adds them up from 0, a turn at (1, 3) takes 7 of 100 instructions more.)
+    pub fn of(facet: Facet) -> Starts
+        ensures { result.facet ≡ facet }
     {
         let rows = shapes::Rows::new();
         let mut places = [0u64; 10];
-        for s in 0..line.shape.level + 1 {
-            places[s as usize + 1] = places[s as usize] + (rows.vectors(line.shape.axes, s) << s);
+        places[0] = facet.base;
+        for s in 0..facet.line.shape.level + 1 {
+            places[s as usize + 1] = places[s as usize] + (rows.vectors(facet.axes, s) << s);
         }
-        Starts { line, places }
+        Starts { facet, places }
     }
 }

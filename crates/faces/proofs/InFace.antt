@@ -18,7 +18,7 @@ use Rattle.numbering.proofs.Parents.{update_same, update_other}
 use Rattle.numbering.proofs.ParentPlaces.{moved_position}
 use Rattle.numbering.proofs.Subspaces.{number_from_first}
 use Rattle.faces.specs.Faces.{bit, borders}
-use Rattle.faces.specs.Packing.{before, axis_of, packed}
+use Rattle.faces.specs.Packing.{before, axis_of, packed, skip}
 use Rattle.faces.specs.Marked.{Marked, in_face}
 use Rattle.faces.proofs.Packing.{before_suc, before_mono, before_inner, before_border, before_cong, inner_axes, axis_of_before, axis_inner, packed_is, packed_position}
 use Rattle.faces.proofs.Numbering.{number_cong, in_face_is, level_in_face, index_in_face}
@@ -69,10 +69,6 @@ moved_number {d} {n} {m} {l} {i} x t v w h e =
     (λ u below. sym (update_cong _ _ (d - borders m d) (before m t) w (index_in_face x) u below))
 
 -- ---- across the border
-
--- The places but one, in their order.
-unfoldable pub skip : ℕ → ℕ → ℕ
-skip k j = if ltb j k then j else suc j
 
 skip_low : (k j : ℕ) → j < k → skip k j ≡ j
 unfolding skip

@@ -1,6 +1,6 @@
 -- The inner axes of a face, one after the other: the axes that its sparse table is over (document 02, g).
 -- Assumes nothing.
-use Rattle.std.specs.Prelude.{◌&&◌, ℕ, zero, suc, ◌-◌, eqb, if◌then◌else◌}
+use Rattle.std.specs.Prelude.{◌&&◌, ℕ, zero, suc, ◌-◌, eqb, ltb, if◌then◌else◌}
 use Rattle.naturals.specs.Sum.{sum_to}
 use Rattle.faces.specs.Faces.{bit}
 
@@ -20,3 +20,7 @@ axis_of m (suc d) j = if eqb (m d) 0 && eqb j (before m d) then d else axis_of m
 -- What the inner axes have, levels or indices, one after the other: that of the inner axis that j others come before.
 unfoldable pub packed : (ℕ → ℕ) → ℕ → (ℕ → ℕ) → ℕ → ℕ
 packed m d f j = f (axis_of m d j)
+
+-- The places but place k, in their order: what is left where one inner axis becomes a border axis.
+unfoldable pub skip : ℕ → ℕ → ℕ
+skip k j = if ltb j k then j else suc j

@@ -24,12 +24,12 @@ use Rattle.numbered.specs.Numbered.{mark_of}
 use Rattle.numbered.proofs.Moves.{mark_pos}
 use Rattle.numbered.proofs.Instance.{across_still}
 use Rattle.faces.specs.Faces.{borders}
-use Rattle.faces.specs.Packing.{before, packed}
+use Rattle.faces.specs.Packing.{before, packed, skip}
 use Rattle.faces.specs.Marked.{Marked, face_start, in_face, border_number, mark_at, border_level_at, border_index_at}
 use Rattle.faces.specs.Row.{all_faces, marks_of, inner_of, row}
 use Rattle.faces.proofs.Packing.{inner_axes, place_lt, prefix_sum, prefix_position, packed_position, packed_sum, before_inner}
 use Rattle.faces.proofs.Numbering.{border_number_is, level_in_face, index_in_face}
-use Rattle.faces.proofs.InFace.{skip, moved_number, one_less, packed_skip, across_in_face}
+use Rattle.faces.proofs.InFace.{moved_number, one_less, packed_skip, across_in_face}
 use Rattle.faces.proofs.Row.{row_suc, row_mono, row_ends, row_start, inner_of_marks, row_marks, row_number, row_level, row_index, row_across}
 use Rattle.shapes.specs.declared.Shape.{Shape}
 use Rattle.shapes.specs.Shapes.{points_of}

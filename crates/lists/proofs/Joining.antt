@@ -1,8 +1,8 @@
--- Points stepped one part after the other. The parents of all of them stand before the first, where nothing moves, so each sum is what it was in the table at
--- the start: a run of points that follow, stepped in the table as the earlier steps left it, is stepped in that one too.
+-- Points stepped one part after the other. The parents of all of them stand elsewhere, where nothing moves, so each sum is what it was in the table at the
+-- start: a run of points that follow, stepped in the table as the earlier steps left it, is stepped in that one too.
 -- Assumes nothing.
 use mathlib.Core.Path.{◌≡◌, refl, ap, ap₂, sym, ◌∙◌}
-use mathlib.Core.Logic.{inl, inr, ⊎_elim}
+use mathlib.Core.Logic.{◌⊎◌, inl, inr, ⊎_elim}
 use mathlib.Core.Bool.{Bool}
 use mathlib.Core.List.{List}
 use Prim.Native.Nat.{ℕ, zero, suc, ◌+◌, ◌-◌, ◌*◌, ◌≤◌, ◌<◌}
@@ -17,10 +17,12 @@ use Rattle.integers.specs.Half.{odd_of, stepped}
 use Rattle.integers.proofs.Steps.{odd_small}
 use Rattle.numbering.specs.declared.Side.{Side}
 use Rattle.numbering.specs.declared.Side.TheVariants.{Left, Right}
+use Rattle.hierarchy.specs.Grid.{Neighbours}
 use Rattle.hierarchy.specs.Turns.{value_at, sum_on}
 use Rattle.hierarchy.proofs.Values.{value_zero}
 use Rattle.shapes.specs.declared.Shape.{Shape}
 use Rattle.grids.specs.Grids.{neighbour}
+use Rattle.neighbours.specs.Facets.{Apart}
 use Rattle.lists.specs.Lists.{stepped_at, odd_at, odd_sums}
 use Rattle.lists.specs.Steps.{RunStepped, Stepped}
 
@@ -50,6 +52,14 @@ stepped_is ahead s t f q = refl
 
 -- ---- the points from number lo on
 
+-- A code that is none of the points from number lo to hi − 1.
+abbrev pub Outside : ℕ → ℕ → ℕ → Type 0
+Outside lo hi q = (q ≤ lo) ⊎ (hi < q)
+
+-- One that is apart from them is such a code.
+pub outside : (nb : Neighbours) (t : ℕ) {lo hi q : ℕ} → Apart nb t lo hi q → Outside lo hi q
+outside nb t {lo} {hi} {q} apart = le_or_lt q lo (λ low. inl low) (λ more. inr (apart more).0)
+
 -- No step so far.
 pub none_stepped : (ahead : Bool) (s : Shape) (t lo : ℕ) (xs : List ℤ) → Stepped ahead s t lo lo xs 0 xs
 none_stepped ahead s t lo xs =
@@ -60,19 +70,23 @@ module _ {ahead : Bool} {s : Shape} {t lo mid k : ℕ} {xs ys : List ℤ} (done 
   pub stepped_few : k ≤ 2 * mid
   stepped_few = omega (arith, done.odds, odds_few s t xs mid)
 
-  -- Before the first of them nothing moves.
-  pub before_held : (q : ℕ) → q ≤ lo → value_at ys q ≡ value_at xs q
-  before_held zero h = value_zero ys ∙ sym (value_zero xs)
-  before_held (suc p) h = done.off p (inl (omega arith))
+  -- Elsewhere nothing moves.
+  pub outside_held : (q : ℕ) → Outside lo mid q → value_at ys q ≡ value_at xs q
+  outside_held zero h = value_zero ys ∙ sym (value_zero xs)
+  outside_held (suc p) h = done.off p (⊎_elim (λ low. inl (omega arith)) (λ high. inr (omega arith)) h)
 
   -- So a sum of parents that stand there is what it was.
-  sum_held : (q : ℕ) → ((b : Side) → neighbour s t b q ≤ lo) → sum_on (neighbour s) t (value_at ys) q ≡ sum_on (neighbour s) t (value_at xs) q
+  sum_held : (q : ℕ) → ((b : Side) → Outside lo mid (neighbour s t b q)) → sum_on (neighbour s) t (value_at ys) q ≡ sum_on (neighbour s) t (value_at xs) q
   unfolding sum_on
-  sum_held q before = ap₂ ◌+ℤ◌ (before_held _ (before Left)) (before_held _ (before Right))
+  sum_held q apart = ap₂ ◌+ℤ◌ (outside_held _ (apart Left)) (outside_held _ (apart Right))
 
-  -- The points of a run that follow.
+  -- The points of a run that follow, whose parents stand elsewhere.
   module _ {w k' : ℕ} {sum : ℕ → ℤ} {zs : List ℤ} (order : lo ≤ mid) (run : RunStepped ahead mid w sum ys k' zs)
-      (sums : (i : ℕ) → i < w → sum i ≡ sum_on (neighbour s) t (value_at xs) (suc (mid + i))) where
+      (parents : (i : ℕ) → i < w → sum i ≡ sum_on (neighbour s) t (value_at ys) (suc (mid + i)))
+      (apart : (i : ℕ) → i < w → (b : Side) → Outside lo mid (neighbour s t b (suc (mid + i)))) where
+    sums : (i : ℕ) → i < w → sum i ≡ sum_on (neighbour s) t (value_at xs) (suc (mid + i))
+    sums i h = parents i h ∙ sum_held (suc (mid + i)) (apart i h)
+
     here : (i : ℕ) → i < w → value_at zs (suc (mid + i)) ≡ stepped_at ahead s t (value_at xs) (suc (mid + i))
     here i h =
         run.on i h
@@ -103,7 +117,7 @@ module _ {ahead : Bool} {s : Shape} {t lo mid k : ℕ} {xs ys : List ℤ} (done 
 
   -- Points that follow, stepped as a part of their own.
   module _ {hi k' : ℕ} {zs : List ℤ} (order : lo ≤ mid) (more : mid ≤ hi) (next : Stepped ahead s t mid hi ys k' zs)
-      (before : (p : ℕ) → mid ≤ p → p < hi → (b : Side) → neighbour s t b (suc p) ≤ lo) where
+      (apart : (p : ℕ) → mid ≤ p → p < hi → (b : Side) → Outside lo mid (neighbour s t b (suc p))) where
     abbrev sum_there : ℕ → ℤ
     sum_there i = sum_on (neighbour s) t (value_at ys) (suc (mid + i))
 
@@ -127,4 +141,4 @@ module _ {ahead : Bool} {s : Shape} {t lo mid k : ℕ} {xs ys : List ℤ} (done 
     pub part_joins : Stepped ahead s t lo hi xs (k + k') zs
     part_joins =
         let e : mid + (hi - mid) ≡ hi = omega arith in
-        rw e at (run_joins order as_run (λ i h. sum_held (suc (mid + i)) (before (mid + i) (omega arith) (omega arith))))
+        rw e at (run_joins order as_run (λ i h. refl) (λ i h. apart (mid + i) (omega arith) (omega arith)))

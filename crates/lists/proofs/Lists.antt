@@ -1,8 +1,9 @@
--- A level list, block after block from its first point on: all parents stand before the list, so the blocks join. A list of level 0 on the axis has no parents
--- there: its steps move nothing and its sums are even.
+-- A level list, block after block from its first point on: all parents stand apart from the list, so the blocks join. A list of level 0 on the axis has no parents
+-- there if nothing lies across the border: its steps move nothing and its sums are even.
 -- Assumes nothing.
 use mathlib.Core.Path.{◌≡◌, refl, ap, ap₂, sym, ◌∙◌}
-use mathlib.Core.Logic.{inl, inr}
+use mathlib.Core.Logic.{inl, inr, ⊎_elim}
+use Rattle.std.specs.Prelude.{Option, None}
 use mathlib.Core.Bool.{Bool}
 use mathlib.Core.List.{List}
 use Prim.Native.Nat.{ℕ, zero, suc, ◌+◌, ◌-◌, ◌*◌, ◌%◌, ◌^◌, ◌≤◌, ◌<◌}
@@ -27,13 +28,15 @@ use Rattle.shapes.specs.declared.Shape.{Shape}
 use Rattle.shapes.specs.Shapes.{points_of}
 use Rattle.grids.specs.Grids.{neighbour}
 use Rattle.neighbours.specs.declared.subspaces.Subspace.{Subspace}
-use Rattle.neighbours.specs.Steps.{Below}
+use Rattle.neighbours.specs.declared.facets.Rims.{Rims}
+use Rattle.neighbours.specs.Facets.{across, Apart}
+use Rattle.neighbours.specs.Steps.{Below, rims_of}
 use Rattle.neighbours.proofs.Seeing.{Seen, seen, vector_of}
-use Rattle.neighbours.proofs.Beside.{end_inside, parent_before, flat}
+use Rattle.neighbours.proofs.Beside.{beyond_of, end_inside, beside_apart, beside_flat}
 use Rattle.lists.specs.Lists.{between, stepped_at, stepped_between, list_worked}
 use Rattle.lists.specs.Steps.{OnAxis, NoLarger, RunStepped, Stepped, Workable, BlockAt}
 use Rattle.lists.proofs.Between.{between_low, between_inside, between_high}
-use Rattle.lists.proofs.Joining.{none_stepped, stepped_few, run_joins, part_joins}
+use Rattle.lists.proofs.Joining.{Outside, outside, none_stepped, stepped_few, run_joins, part_joins}
 use Rattle.lists.proofs.Blocks.{table_small}
 
 -- ---- the list as a table
@@ -63,18 +66,19 @@ stepped_list {ahead} {s} {t} {lo} {hi} {k} {xs} {ys} done long order =
 
 module _ {v : Subspace} (s : Seen v) where
   pub some_points : v.start < v.end
-  some_points = omega (arith, s.start, s.end, pow_pos (sum_to (at v.vector.levels) v.line.shape.axes))
+  some_points = omega (arith, s.end, pow_pos (sum_to (at v.vector.levels) v.facet.axes))
 
-  -- All parents stand before the list.
-  pub list_before : (p : ℕ) → v.start ≤ p → p < v.end → (b : Side) → neighbour v.line.shape v.line.place b (suc p) ≤ v.start
-  list_before p from to b = parent_before s p from to b
+  -- All parents stand apart from the list.
+  pub list_apart : (p : ℕ) → v.start ≤ p → p < v.end → (b : Side) →
+      Apart (neighbour v.facet.line.shape) v.facet.line.place v.start v.end (neighbour v.facet.line.shape v.facet.line.place b (suc p))
+  list_apart p from to b = beside_apart s p from to b
 
-  pub list_worked_lem : {ahead : Bool} {k : ℕ} {xs ys : List ℤ} → OnAxis v.line.shape v.line.place xs →
-      Stepped ahead v.line.shape v.line.place v.start v.end xs k ys → ys ≡ list_worked ahead v.line.shape v.line.place (at v.vector.levels) xs
+  pub list_worked_lem : {ahead : Bool} {k : ℕ} {xs ys : List ℤ} → OnAxis v.facet.line.shape v.facet.line.place xs →
+      Stepped ahead v.facet.line.shape v.facet.line.place v.start v.end xs k ys → ys ≡ list_worked ahead v.facet.line.shape v.facet.line.place v.facet.base v.facet.axes (at v.vector.levels) xs
   unfolding list_worked
   list_worked_lem {ahead} {k} {xs} {ys} on done =
       stepped_list done on.long (omega (arith, some_points))
-      ∙ ap₂ (λ (lo hi : ℕ). stepped_between ahead v.line.shape v.line.place lo hi xs) s.start s.end
+      ∙ ap₂ (λ (lo hi : ℕ). stepped_between ahead v.facet.line.shape v.facet.line.place lo hi xs) s.start (omega (arith, s.start, s.end))
 
 -- ---- level 0
 
@@ -82,17 +86,27 @@ sum_of_none : (f : ℕ → ℕ) (m : ℕ) → ((i : ℕ) → f i ≡ 0) → sum_
 sum_of_none f zero none = sum_to_zero f
 sum_of_none f (suc m) none = omega (arith, sum_to_suc f m, sum_of_none f m none, none m)
 
-pub flat_stepped : {v : Subspace} → Seen v → v.own ≡ 0 → (ahead : Bool) (xs : List ℤ) →
-    Stepped ahead v.line.shape v.line.place v.start v.end xs 0 xs
-flat_stepped {v} s level ahead xs =
+pub flat_stepped : {v : Subspace} → Seen v → rims_of v ≡ None → v.own ≡ 0 → (ahead : Bool) (xs : List ℤ) →
+    Stepped ahead v.facet.line.shape v.facet.line.place v.start v.end xs 0 xs
+unfolding across
+flat_stepped {v} s open_border level ahead xs =
     let whole : v.start + (v.end - v.start) ≡ v.end = omega (arith, some_points s) in
-    rw whole at (run_joins (none_stepped ahead v.line.shape v.line.place v.start xs) (omega arith) still no_parents)
+    rw whole at (run_joins (none_stepped ahead v.facet.line.shape v.facet.line.place v.start xs) (omega arith) still no_parents apart)
   where
-    no_parents : (i : ℕ) → i < v.end - v.start → pos 0 ≡ sum_on (neighbour v.line.shape) v.line.place (value_at xs) (suc (v.start + i))
+    none : (b : Side) (i : ℕ) → i < v.end - v.start → neighbour v.facet.line.shape v.facet.line.place b (suc (v.start + i)) ≡ 0
+    none b i h =
+        let p : ℕ = v.start + i - v.start in
+        beside_flat s (v.start + i) (omega arith) (omega arith) b level
+        ∙ ap (λ (o : Option Rims). across o b (beyond_of v p * 2 ^ v.low + p % 2 ^ v.low)) open_border
+
+    apart : (i : ℕ) → i < v.end - v.start → (b : Side) → Outside v.start v.start (neighbour v.facet.line.shape v.facet.line.place b (suc (v.start + i)))
+    apart i h b = inl (omega (arith, none b i h))
+
+    no_parents : (i : ℕ) → i < v.end - v.start → pos 0 ≡ sum_on (neighbour v.facet.line.shape) v.facet.line.place (value_at xs) (suc (v.start + i))
     no_parents i h =
         sym
-        (sum_still (neighbour v.line.shape) v.line.place (value_at xs) (value_zero xs) (suc (v.start + i))
-        (λ b. flat s (v.start + i) (omega arith) (omega arith) level b))
+        (sum_still (neighbour v.facet.line.shape) v.facet.line.place (value_at xs) (value_zero xs) (suc (v.start + i))
+        (λ b. none b i h))
 
     still : RunStepped ahead v.start (v.end - v.start) (λ i. pos 0) xs 0 xs
     still =
@@ -120,15 +134,15 @@ module _ (v : Subspace) where
         v.before,
         v.there,
         (vector_of v).total,
-        sum_to_suc (at v.vector.levels) v.line.place,
-        sum_to_mono (at v.vector.levels) (suc v.line.place) v.line.shape.axes v.line.axis,
+        sum_to_suc (at v.vector.levels) v.facet.place,
+        sum_to_mono (at v.vector.levels) (suc v.facet.place) v.facet.axes v.facet.inner,
       )
 
   blocks_whole : blocks_of v * 2 ^ (v.low + v.own) ≡ 2 ^ v.vector.sum
   blocks_whole =
       let rest : ℕ = v.vector.sum - (v.low + v.own) in
       let all : rest + (v.low + v.own) ≡ v.vector.sum = omega (arith, bits_within) in
-      ap (λ (n : ℕ). n * 2 ^ (v.low + v.own)) (one_shifted 64 rest (omega (arith, v.inside, v.line.top)))
+      ap (λ (n : ℕ). n * 2 ^ (v.low + v.own)) (one_shifted 64 rest (omega (arith, v.inside, v.facet.line.top)))
       ∙ sym (pow-add 2 rest (v.low + v.own))
       ∙ ap (λ (n : ℕ). 2 ^ n) all
 
@@ -146,33 +160,36 @@ module _ (v : Subspace) where
     -- Its first point, as the code has it: no bit is lost.
     pub shift_exact : beyond * 2 ^ (v.low + v.own) % 2 ^ 64 ≡ beyond * 2 ^ (v.low + v.own)
     shift_exact =
-        let small : 2 ^ v.vector.sum ≤ 2 ^ 8 = pow_mono {i = v.vector.sum} {j = 8} (omega (arith, v.inside, v.line.top)) in
+        let small : 2 ^ v.vector.sum ≤ 2 ^ 8 = pow_mono {i = v.vector.sum} {j = 8} (omega (arith, v.inside, v.facet.line.top)) in
         mod-eq_of_lt (omega (arith, next_within, v.after, small, pow_pos (v.low + v.own)))
 
-    module _ {xs : List ℤ} (on : OnAxis v.line.shape v.line.place xs) where
+    module _ {xs : List ℤ} (on : OnAxis v.facet.line.shape v.facet.line.place xs) where
       list_small : v.end < 2 ^ 32
-      list_small = omega (arith, end_inside (seen v), on.long, table_small v.line xs on)
+      list_small = omega (arith, end_inside (seen v), on.long, table_small v xs on)
 
       pub block_small : block_at v beyond < 2 ^ 32
       block_small = omega (arith, next_within, list_small)
 
-      module _ {ahead : Bool} {k : ℕ} {ys : List ℤ} (done : Stepped ahead v.line.shape v.line.place v.start (block_at v beyond) xs k ys) where
+      module _ {ahead : Bool} {k : ℕ} {ys : List ℤ} (done : Stepped ahead v.facet.line.shape v.facet.line.place v.start (block_at v beyond) xs k ys) where
         -- What the next block asks.
-        pub workable : {starts : List ℕ} → Below v starts → 1 ≤ v.own → NoLarger (2 ^ 60) xs → Workable v starts (block_at v beyond) ys
-        workable below moves within =
+        pub workable : {starts : List ℕ} → Below v starts → NoLarger (2 ^ 61) xs → Workable v starts (block_at v beyond) ys
+        workable below within =
             record {
               below = below;
-              moves = moves;
               axis = record { few = on.few; low = on.low; place = on.place; long = done.long ∙ on.long };
               room = λ p outside. omega (arith, ap nat_abs (done.off p outside), within (suc p));
             }
 
-        module _ {k' : ℕ} {zs : List ℤ} (next : Stepped ahead v.line.shape v.line.place (block_at v beyond) (block_at v beyond + 2 ^ (v.low + v.own)) ys k' zs) where
-          pub next_done : Stepped ahead v.line.shape v.line.place v.start (block_at v (beyond + 1)) xs (k + k') zs
+        module _ {k' : ℕ} {zs : List ℤ} (next : Stepped ahead v.facet.line.shape v.facet.line.place (block_at v beyond) (block_at v beyond + 2 ^ (v.low + v.own)) ys k' zs) where
+          pub next_done : Stepped ahead v.facet.line.shape v.facet.line.place v.start (block_at v (beyond + 1)) xs (k + k') zs
           next_done =
               let end : block_at v beyond + 2 ^ (v.low + v.own) ≡ block_at v (beyond + 1) = omega arith in
               rw end at (part_joins done (omega arith) (omega arith) next
-              (λ p from to b. list_before (seen v) p (omega arith) (omega (arith, next_within)) b))
+              (λ p from to b.
+              ⊎_elim
+              (λ low. inl low)
+              (λ high. inr (omega (arith, high, next_within)))
+              (outside (neighbour v.facet.line.shape) v.facet.line.place (list_apart (seen v) p (omega arith) (omega (arith, next_within)) b))))
 
           pub next_few : k + k' ≤ 2 ^ 33
           next_few =

@@ -1,4 +1,4 @@
--- A run as its loop makes it: point after point, from the first on. The points behind, where the parents are, and those ahead hold what they held, so a step
+-- A run as its loop makes it: point after point, from the first on. The points elsewhere, where the parents are, and those ahead hold what they held, so a step
 -- reads what stood there before the run; and what is read leaves room in 64 bits.
 -- Assumes nothing.
 use mathlib.Core.Path.{◌≡◌, refl, ap, ap₂, sym, ◌∙◌}
@@ -9,21 +9,25 @@ use Prim.Native.Nat.{ℕ, suc, ◌+◌, ◌*◌, ◌^◌, ◌≤◌, ◌<◌}
 use native.Mathlib.Nat.{suc_inj}
 use native.Mathlib.Numerals.{add-one}
 use native.Mathlib.Omega.{arith}
-use lib.IntN.{ℤ, pos, nat_abs, ◌+ℤ◌}
+use Rattle.std.specs.Prelude.{Option, Some, None}
+use lib.IntN.{ℤ, pos, nat_abs, ◌+ℤ◌, +ℤ_idl}
 use lib.ListN.{length, get_or, set, length-set}
 use mir.Syntax.{w64}
 use mir.Val.{to_z, of_z}
 use mir.ValLaws.{to_z-of_z}
 use Rattle.naturals.proofs.Cases.{eq_or_not}
-use Rattle.naturals.proofs.Sums.{sum_to_zero, sum_to_suc}
+use Rattle.naturals.proofs.Sums.{sum_to_zero, sum_to_suc, sum_to_cong}
 use Rattle.naturals.proofs.Summed.{sum_bound}
 use Rattle.integers.specs.Half.{odd_of, stepped}
 use Rattle.integers.proofs.Steps.{within_fits, sum_within, stepped_within, odd_small}
 use Rattle.hierarchy.specs.Turns.{value_at}
-use Rattle.hierarchy.proofs.Values.{value_suc}
+use Rattle.hierarchy.proofs.Values.{value_zero, value_suc}
+use Rattle.numbering.specs.declared.Side.{Side}
+use Rattle.neighbours.specs.declared.facets.Rims.{Rims}
+use Rattle.neighbours.specs.Facets.{rim_on, across}
 use Rattle.hierarchy.proofs.Sweeps.{value_set}
 use Rattle.hierarchy.proofs.Work.{put_same, put_other}
-use Rattle.lists.specs.Steps.{value_in, RoomIn, RunStepped}
+use Rattle.lists.specs.Steps.{value_in, RoomIn, Source, edge_sum, RunStepped}
 
 -- ---- numbers of 64 bits
 
@@ -87,21 +91,46 @@ module _ {ahead : Bool} {x : ℕ} {sum : ℕ → ℤ} {xs : List ℤ} where
     pub run_few : k ≤ 2 * i
     run_few = omega (arith, run.odds, sum_bound (λ j. odd_of (sum j)) 2 i (λ j. omega (arith, odd_small (sum j))))
 
-    -- What stands behind the run and what stands ahead is read as it was.
-    pub behind_read : (w a : ℕ) → a + w ≤ x → RoomIn a w xs → i < w → to_z w64 (of_z w64 (get_or ys (a + i) (pos 0))) ≡ value_in xs a i
-    behind_read w a before room h =
-        let same : value_at ys (suc (a + i)) ≡ value_at xs (suc (a + i)) = run.off (a + i) (inl (omega arith)) in
-        read_is ys (a + i) (omega (arith, ap nat_abs same, room i h)) ∙ same
+    -- What stands elsewhere and what stands ahead is read as it was.
+    pub source_read : (w a : ℕ) → Source x w a xs → i < w → to_z w64 (of_z w64 (get_or ys (a + i) (pos 0))) ≡ value_in xs a i
+    source_read w a source h =
+        let same : value_at ys (suc (a + i)) ≡ value_at xs (suc (a + i))
+        = run.off (a + i) (⊎_elim (λ before. inl (omega arith)) (λ behind. inr (omega arith)) source.clear) in
+        read_is ys (a + i) (omega (arith, ap nat_abs same, source.room i h)) ∙ same
 
     pub ahead_read : (w : ℕ) → RoomIn x w xs → i < w → to_z w64 (of_z w64 (get_or ys (x + i) (pos 0))) ≡ value_in xs x i
     ahead_read w room h =
         let same : value_at ys (suc (x + i)) ≡ value_at xs (suc (x + i)) = run.off (x + i) (inr (omega arith)) in
         read_is ys (x + i) (omega (arith, ap nat_abs same, room i h)) ∙ same
 
-    -- The sum of two that stand behind it.
-    pub pair_read : (w a b : ℕ) → a + w ≤ x → b + w ≤ x → RoomIn a w xs → RoomIn b w xs → i < w →
+    -- The sum of two that stand elsewhere.
+    pub pair_read : (w a b : ℕ) → Source x w a xs → Source x w b xs → i < w →
         to_z w64 (of_z w64 (to_z w64 (of_z w64 (get_or ys (a + i) (pos 0))) +ℤ to_z w64 (of_z w64 (get_or ys (b + i) (pos 0)))))
         ≡ value_in xs a i +ℤ value_in xs b i
-    pair_read w a b a_before b_before a_room b_room h =
-        ap₂ (λ (v u : ℤ). to_z w64 (of_z w64 (v +ℤ u))) (behind_read w a a_before a_room h) (behind_read w b b_before b_room h)
-        ∙ sum_is (value_in xs a i) (value_in xs b i) (a_room i h) (b_room i h)
+    pair_read w a b from_a from_b h =
+        ap₂ (λ (v u : ℤ). to_z w64 (of_z w64 (v +ℤ u))) (source_read w a from_a h) (source_read w b from_b h)
+        ∙ sum_is (value_in xs a i) (value_in xs b i) (from_a.room i h) (from_b.room i h)
+
+-- The sums of a run by another name.
+pub same_run : {ahead : Bool} {x w k : ℕ} {sum other : ℕ → ℤ} {xs ys : List ℤ} → ((i : ℕ) → i < w → sum i ≡ other i) → RunStepped ahead x w sum xs k ys →
+    RunStepped ahead x w other xs k ys
+same_run {ahead} {x} {w} {sum = sum} {other} {xs} same run =
+    record {
+      long = run.long;
+      on = λ i h. run.on i h ∙ ap (stepped ahead (value_at xs (suc (x + i)))) (same i h);
+      off = run.off;
+      odds = run.odds ∙ sum_to_cong (λ i. odd_of (sum i)) (λ i. odd_of (other i)) w (λ i h. ap odd_of (same i h));
+    }
+
+-- With a zero border nothing is added across it.
+pub nothing_across : (xs : List ℤ) (b : Side) (a i : ℕ) → value_in xs a i ≡ edge_sum xs b None a i
+unfolding across
+nothing_across xs b a i = sym (ap (λ (v : ℤ). v +ℤ value_in xs a i) (value_zero xs) ∙ +ℤ_idl (value_in xs a i))
+
+-- Else what lies across it is a run of points.
+pub something_across : (xs : List ℤ) (b : Side) (rims : Option Rims) (r : Rims) (o a i : ℕ) → rims ≡ Some r → o ≡ rim_on r b →
+    value_in xs o i +ℤ value_in xs a i ≡ edge_sum xs b rims a i
+unfolding across
+something_across xs b rims r o a i there on =
+    ap (λ (q : ℕ). value_at xs (suc (q + i)) +ℤ value_in xs a i) on
+    ∙ sym (ap (λ (o : Option Rims). value_at xs (across o b i) +ℤ value_in xs a i) there)

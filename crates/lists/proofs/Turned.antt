@@ -1,20 +1,24 @@
--- A turn that has come to a level list, and its work: the list's points then hold what the whole turn leaves them. Forward, the list and the lists before it
--- hold what they held at the start, so a step takes half of the parents' sum of the old values. Back, the lists before it hold the result already, and all
--- parents stand there: the result at a point is its value plus half the sum of the result at its parents.
+-- A turn that has come to a level list, and its work: the list's points then hold what the whole turn leaves them. Forward, the list and what stands before it
+-- hold what they held at the start, so a step takes half of the parents' sum of the old values. Back, what stands before it holds the result already: the
+-- result at a point is its value plus half the sum of the result at its parents. Parents behind the list do not move, so for them old and new are the same.
 -- Assumes nothing.
 use mathlib.Core.Path.{◌≡◌, refl, ap, ap₂, sym, ◌∙◌}
 use mathlib.Core.Bool.{Bool, true, false}
 use mathlib.Core.List.{List}
 use Prim.Native.Nat.{ℕ, zero, suc, ◌≤◌, ◌<◌}
 use native.Mathlib.Omega.{arith}
-use lib.IntN.{ℤ, ◌+ℤ◌, ◌-ℤ◌}
+use lib.IntN.{ℤ, pos, ◌+ℤ◌, ◌-ℤ◌}
 use lib.ListN.{length}
+use Rattle.std.specs.Prelude.{if◌then◌else◌}
+use Rattle.naturals.proofs.Cases.{le_or_lt}
 use Rattle.integers.specs.Half.{half, stepped}
-use Rattle.integers.proofs.Steps.{stepped_forward, stepped_back}
+use Rattle.integers.proofs.Steps.{stepped_forward, stepped_back, stepped_zero}
 use Rattle.numbering.specs.declared.Side.{Side}
 use Rattle.numbering.specs.declared.Side.TheVariants.{Left, Right}
 use Rattle.numbering.specs.Point.{at}
-use Rattle.hierarchy.specs.Turns.{value_at, values_of, sum_on, forward, backward}
+use Rattle.hierarchy.specs.Grid.{Still}
+use Rattle.hierarchy.specs.Turns.{value_at, sum_on, forward, backward}
+use Rattle.hierarchy.proofs.Still.{sum_still}
 use Rattle.hierarchy.proofs.Values.{value_zero}
 use Rattle.hierarchy.proofs.Sweeps.{result_at}
 use Rattle.shapes.specs.declared.Shape.{Shape}
@@ -25,11 +29,12 @@ use Rattle.grids.proofs.Turned.{turned_holds, former_holds}
 use Rattle.neighbours.specs.declared.subspaces.Subspace.{Subspace}
 use Rattle.neighbours.proofs.Seeing.{Seen}
 use Rattle.neighbours.proofs.Beside.{end_inside}
-use Rattle.lists.specs.Lists.{whole_turn, between, came_to, ListTurned}
+use Rattle.neighbours.specs.Facets.{Apart}
+use Rattle.lists.specs.Lists.{whole_turn, between, first_in, end_of, came_to, ListTurned}
 use Rattle.lists.specs.Steps.{Stepped}
 use Rattle.lists.proofs.Between.{between_low, between_inside, between_high, between_held}
 use Rattle.lists.proofs.Joining.{stepped_is}
-use Rattle.lists.proofs.Lists.{some_points, list_before}
+use Rattle.lists.proofs.Lists.{list_apart}
 
 -- ---- what the whole turn leaves
 
@@ -54,74 +59,153 @@ former_value s t xs long q =
     ∙ result_at (points_of s) (neighbour s) (depth s) (grid s) t (height s) (shallow s t) (value_at xs) (value_zero xs) q
     ∙ ap (λ (f : ℕ → ℤ). value_at xs q +ℤ half (sum_on (neighbour s) t f q)) (sym (former_values s t xs long))
 
+-- A code with no neighbours on the axis keeps its value.
+still_forward : (s : Shape) (t : ℕ) (xs : List ℤ) → length xs ≡ points_of s → (q : ℕ) → Still (neighbour s) t q →
+    value_at (whole_turn true s t xs) q ≡ value_at xs q
+still_forward s t xs long q still =
+    turned_value s t xs long q
+    ∙ ap (λ (z : ℤ). value_at xs q -ℤ half z) (sum_still (neighbour s) t (value_at xs) (value_zero xs) q still)
+    ∙ sym (stepped_forward (value_at xs q) (pos 0))
+    ∙ stepped_zero true (value_at xs q)
+
+still_back : (s : Shape) (t : ℕ) (xs : List ℤ) → length xs ≡ points_of s → (q : ℕ) → Still (neighbour s) t q →
+    value_at (whole_turn false s t xs) q ≡ value_at xs q
+still_back s t xs long q still =
+    former_value s t xs long q
+    ∙ ap (λ (z : ℤ). value_at xs q +ℤ half z)
+    (sum_still (neighbour s) t (value_at (whole_turn false s t xs)) (value_zero (whole_turn false s t xs)) q still)
+    ∙ sym (stepped_back (value_at xs q) (pos 0))
+    ∙ stepped_zero false (value_at xs q)
+
+pub still_turn : (ahead : Bool) (s : Shape) (t : ℕ) (xs : List ℤ) → length xs ≡ points_of s → (q : ℕ) → Still (neighbour s) t q →
+    value_at (whole_turn ahead s t xs) q ≡ value_at xs q
+still_turn true = still_forward
+still_turn false = still_back
+
 -- Sums of parents that hold the same.
-same_sums : (s : Shape) (t : ℕ) (f g : ℕ → ℤ) (q : ℕ) → ((b : Side) → f (neighbour s t b q) ≡ g (neighbour s t b q)) →
+pub same_sums : (s : Shape) (t : ℕ) (f g : ℕ → ℤ) (q : ℕ) → ((b : Side) → f (neighbour s t b q) ≡ g (neighbour s t b q)) →
     sum_on (neighbour s) t f q ≡ sum_on (neighbour s) t g q
 unfolding sum_on
 same_sums s t f g q same = ap₂ ◌+ℤ◌ (same Left) (same Right)
 
--- ---- the points from number lo to hi − 1, whose parents stand before them
+-- ---- the points from number lo to hi − 1, whose parents stand apart from them
 
-module _ (s : Shape) (t lo hi k : ℕ) (xs ys zs : List ℤ) (long : length xs ≡ points_of s) (order : lo ≤ hi) (inside : hi ≤ points_of s)
-    (before : (p : ℕ) → lo ≤ p → p < hi → (b : Side) → neighbour s t b (suc p) ≤ lo) where
-  module _ (came : ys ≡ values_of (points_of s) (between hi (points_of s) (value_at (whole_turn true s t xs)) (value_at xs)))
-      (done : Stepped true s t lo hi ys k zs) where
-    old_up_to : (q : ℕ) → q ≤ hi → value_at ys q ≡ value_at xs q
-    old_up_to q h =
-        between_held (points_of s) hi (points_of s) (value_at (whole_turn true s t xs)) xs ys long (omega arith) came q
-        ∙ between_low hi (points_of s) (value_at (whole_turn true s t xs)) (value_at xs) q h
+-- The table ys in which a turn of the table xs comes to them: they hold what they held; before them stands what the turn goes by, forward the old values, back
+-- the result. What does not move holds what it held.
+pub record Comes (ahead : Bool) (s : Shape) (t lo hi : ℕ) (xs ys : List ℤ) : Type 0 where
+  pub here : (p : ℕ) → lo ≤ p → p < hi → value_at ys (suc p) ≡ value_at xs (suc p)
+  pub before : (q : ℕ) → q ≤ lo → value_at ys q ≡ value_at (if ahead then xs else whole_turn false s t xs) q
+  pub still : (q : ℕ) → hi < q → Still (neighbour s) t q → value_at ys q ≡ value_at xs q
 
-    turned_forward : (p : ℕ) → lo ≤ p → p < hi → value_at zs (suc p) ≡ value_at (whole_turn true s t xs) (suc p)
-    turned_forward p from to =
-        done.on p from to
-        ∙ stepped_is true s t (value_at ys) (suc p)
-        ∙ ap₂ (stepped true) (old_up_to (suc p) to)
-        (same_sums s t (value_at ys) (value_at xs) (suc p) (λ b. old_up_to (neighbour s t b (suc p)) (omega (arith, before p from to b))))
-        ∙ stepped_forward (value_at xs (suc p)) (sum_on (neighbour s) t (value_at xs) (suc p))
-        ∙ sym (turned_value s t xs long (suc p))
+module _ (s : Shape) (t lo hi k : ℕ) (xs ys zs : List ℤ) (long : length xs ≡ points_of s)
+    (apart : (p : ℕ) → lo ≤ p → p < hi → (b : Side) → Apart (neighbour s) t lo hi (neighbour s t b (suc p))) where
+  turned_forward : Comes true s t lo hi xs ys → Stepped true s t lo hi ys k zs → (p : ℕ) → lo ≤ p → p < hi →
+      value_at zs (suc p) ≡ value_at (whole_turn true s t xs) (suc p)
+  turned_forward came done p from to =
+      done.on p from to
+      ∙ stepped_is true s t (value_at ys) (suc p)
+      ∙ ap₂ (stepped true) (came.here p from to) (same_sums s t (value_at ys) (value_at xs) (suc p) parent)
+      ∙ stepped_forward (value_at xs (suc p)) (sum_on (neighbour s) t (value_at xs) (suc p))
+      ∙ sym (turned_value s t xs long (suc p))
+    where
+      parent : (b : Side) → value_at ys (neighbour s t b (suc p)) ≡ value_at xs (neighbour s t b (suc p))
+      parent b =
+          le_or_lt (neighbour s t b (suc p)) lo
+          (came.before (neighbour s t b (suc p)))
+          (λ more. let high = apart p from to b more in came.still (neighbour s t b (suc p)) high.0 high.1)
 
-  module _ (came : ys ≡ values_of (points_of s) (between 0 lo (value_at (whole_turn false s t xs)) (value_at xs)))
-      (done : Stepped false s t lo hi ys k zs) where
-    abbrev result : ℕ → ℤ
+  turned_back : Comes false s t lo hi xs ys → Stepped false s t lo hi ys k zs → (p : ℕ) → lo ≤ p → p < hi →
+      value_at zs (suc p) ≡ value_at (whole_turn false s t xs) (suc p)
+  turned_back came done p from to =
+      done.on p from to
+      ∙ stepped_is false s t (value_at ys) (suc p)
+      ∙ ap₂ (stepped false) (came.here p from to) (same_sums s t (value_at ys) (value_at (whole_turn false s t xs)) (suc p) parent)
+      ∙ stepped_back (value_at xs (suc p)) (sum_on (neighbour s) t (value_at (whole_turn false s t xs)) (suc p))
+      ∙ sym (former_value s t xs long (suc p))
+    where
+      parent : (b : Side) → value_at ys (neighbour s t b (suc p)) ≡ value_at (whole_turn false s t xs) (neighbour s t b (suc p))
+      parent b =
+          le_or_lt (neighbour s t b (suc p)) lo
+          (came.before (neighbour s t b (suc p)))
+          (λ more.
+          let high = apart p from to b more in
+          came.still (neighbour s t b (suc p)) high.0 high.1 ∙ sym (still_back s t xs long (neighbour s t b (suc p)) high.1))
+
+  pub points_turned : (ahead : Bool) → Comes ahead s t lo hi xs ys → Stepped ahead s t lo hi ys k zs → (p : ℕ) → lo ≤ p → p < hi →
+      value_at zs (suc p) ≡ value_at (whole_turn ahead s t xs) (suc p)
+  points_turned true = turned_forward
+  points_turned false = turned_back
+
+-- ---- a turn over the whole table
+
+same_points : {ahead : Bool} {s : Shape} {t lo hi lo' hi' : ℕ} {xs ys : List ℤ} → lo ≡ lo' → hi ≡ hi' → Comes ahead s t lo hi xs ys → Comes ahead s t lo' hi' xs ys
+same_points lo hi comes = rw (sym lo, sym hi) comes
+
+-- It comes to the points from number lo to hi − 1.
+came_comes : (ahead : Bool) (s : Shape) (t base k : ℕ) (l : ℕ → ℕ) (xs ys : List ℤ) → length xs ≡ points_of s → end_of base k l ≤ points_of s →
+    ys ≡ came_to ahead s t base k l xs → Comes ahead s t (first_in base k l) (end_of base k l) xs ys
+unfolding came_to
+came_comes true s t base k l xs ys long inside came =
+    record {
+      here = λ p from to. at_code (suc p) ∙ between_low (end_of base k l) (points_of s) new (value_at xs) (suc p) to;
+      before = λ q low. at_code q ∙ between_low (end_of base k l) (points_of s) new (value_at xs) q (omega arith);
+      still =
+          λ q high still.
+          at_code q
+          ∙ le_or_lt q (points_of s)
+          (λ within. between_inside (end_of base k l) (points_of s) new (value_at xs) q high within ∙ still_forward s t xs long q still)
+          (λ past. between_high (end_of base k l) (points_of s) new (value_at xs) q high past);
+    }
+  where
+    new : ℕ → ℤ
+    new = value_at (whole_turn true s t xs)
+
+    at_code : (q : ℕ) → value_at ys q ≡ between (end_of base k l) (points_of s) new (value_at xs) q
+    at_code q = between_held (points_of s) (end_of base k l) (points_of s) new xs ys long (omega arith) came q
+came_comes false s t base k l xs ys long inside came =
+    record {
+      here = λ p from to. at_code (suc p) ∙ between_high 0 (first_in base k l) result (value_at xs) (suc p) (omega arith) (omega arith);
+      before = before;
+      still = λ q high still. at_code q ∙ between_high 0 (first_in base k l) result (value_at xs) q (omega arith) (omega arith);
+    }
+  where
+    result : ℕ → ℤ
     result = value_at (whole_turn false s t xs)
 
-    came_at : (q : ℕ) → value_at ys q ≡ between 0 lo result (value_at xs) q
-    came_at q = between_held (points_of s) 0 lo result xs ys long (omega arith) came q
+    at_code : (q : ℕ) → value_at ys q ≡ between 0 (first_in base k l) result (value_at xs) q
+    at_code q = between_held (points_of s) 0 (first_in base k l) result xs ys long (omega arith) came q
 
-    new_below : (q : ℕ) → q ≤ lo → value_at ys q ≡ result q
-    new_below zero h = value_zero ys ∙ sym (value_zero (whole_turn false s t xs))
-    new_below (suc p) h = came_at (suc p) ∙ between_inside 0 lo result (value_at xs) (suc p) (omega arith) h
-
-    turned_back : (p : ℕ) → lo ≤ p → p < hi → value_at zs (suc p) ≡ result (suc p)
-    turned_back p from to =
-        done.on p from to
-        ∙ stepped_is false s t (value_at ys) (suc p)
-        ∙ ap₂ (stepped false) (came_at (suc p) ∙ between_high 0 lo result (value_at xs) (suc p) (omega arith) (omega arith))
-        (same_sums s t (value_at ys) result (suc p) (λ b. new_below (neighbour s t b (suc p)) (before p from to b)))
-        ∙ stepped_back (value_at xs (suc p)) (sum_on (neighbour s) t result (suc p))
-        ∙ sym (former_value s t xs long (suc p))
+    before : (q : ℕ) → q ≤ first_in base k l → value_at ys q ≡ result q
+    before zero h = value_zero ys ∙ sym (value_zero (whole_turn false s t xs))
+    before (suc p) h = at_code (suc p) ∙ between_inside 0 (first_in base k l) result (value_at xs) (suc p) (omega arith) h
 
 -- ---- a level list
 
 module _ {v : Subspace} (seen : Seen v) where
   abbrev shape : Shape
-  shape = v.line.shape
+  shape = v.facet.line.shape
 
-  list_turned : (ahead : Bool) (k : ℕ) (xs ys zs : List ℤ) → length xs ≡ points_of shape → ys ≡ came_to ahead shape v.line.place (at v.vector.levels) xs →
-      Stepped ahead shape v.line.place v.start v.end ys k zs → (p : ℕ) → v.start ≤ p → p < v.end →
-      value_at zs (suc p) ≡ value_at (whole_turn ahead shape v.line.place xs) (suc p)
-  unfolding came_to
-  list_turned true k xs ys zs long came done p from to =
-      turned_forward shape v.line.place v.start v.end k xs ys zs long (omega (arith, some_points seen)) (end_inside seen) (list_before seen)
-      (rw (sym seen.end) at came) done p from to
-  list_turned false k xs ys zs long came done p from to =
-      turned_back shape v.line.place v.start v.end k xs ys zs long (omega (arith, some_points seen)) (end_inside seen) (list_before seen)
-      (rw (sym seen.start) at came) done p from to
+  abbrev place : ℕ
+  place = v.facet.line.place
 
-  pub work_turned : (ahead : Bool) (k : ℕ) (xs ys zs : List ℤ) → Stepped ahead shape v.line.place v.start v.end ys k zs → length xs ≡ points_of shape →
-      ys ≡ came_to ahead shape v.line.place (at v.vector.levels) xs → ListTurned ahead shape v.line.place (at v.vector.levels) xs ys zs
-  work_turned ahead k xs ys zs done long came =
+  list_end : v.end ≡ end_of v.facet.base v.facet.axes (at v.vector.levels)
+  list_end = omega (arith, seen.end, seen.start)
+
+  pub list_turned : (ahead : Bool) (k : ℕ) (xs ys zs : List ℤ) → length xs ≡ points_of shape → Comes ahead shape place v.start v.end xs ys →
+      Stepped ahead shape place v.start v.end ys k zs → ListTurned ahead shape place v.facet.base v.facet.axes (at v.vector.levels) xs ys zs
+  list_turned ahead k xs ys zs long came done =
       record {
-        holds = λ p from to. list_turned ahead k xs ys zs long came done p (omega (arith, seen.start)) (omega (arith, seen.end));
-        others = λ p outside. done.off p (rw (seen.start, seen.end) outside);
+        holds =
+            λ p from to.
+            points_turned shape place v.start v.end k xs ys zs long (list_apart seen) ahead came done p (omega (arith, from, seen.start)) (omega (arith, to, list_end));
+        others = λ p elsewhere. done.off p (rw (seen.start, list_end) elsewhere);
       }
+
+  pub work_turned : (ahead : Bool) (k : ℕ) (xs ys zs : List ℤ) → Stepped ahead shape place v.start v.end ys k zs → length xs ≡ points_of shape →
+      ys ≡ came_to ahead shape place v.facet.base v.facet.axes (at v.vector.levels) xs →
+      ListTurned ahead shape place v.facet.base v.facet.axes (at v.vector.levels) xs ys zs
+  work_turned ahead k xs ys zs done long came =
+      list_turned ahead k xs ys zs long
+      (same_points (sym seen.start) (sym list_end)
+      (came_comes ahead shape place v.facet.base v.facet.axes (at v.vector.levels) xs ys long (omega (arith, end_inside seen, list_end)) came))
+      done

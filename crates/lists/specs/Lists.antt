@@ -28,16 +28,17 @@ stepped_at ahead s t f p = stepped ahead (f p) (sum_on (neighbour s) t f p)
 unfoldable pub stepped_between : Bool → Shape → ℕ → ℕ → ℕ → List ℤ → List ℤ
 stepped_between ahead s t lo hi xs = values_of (points_of s) (between lo hi (stepped_at ahead s t (value_at xs)) (value_at xs))
 
--- The number of a level list's first point, and the number after its last one.
-abbrev pub first_in : Shape → (ℕ → ℕ) → ℕ
-first_in s l = first_of s.axes l
+-- In the face of k inner axes from number `base` on: the number of a level list's first point, and the number after its last one. (With a zero border the
+-- table is the face of all its axes from number 0 on.)
+abbrev pub first_in : ℕ → ℕ → (ℕ → ℕ) → ℕ
+first_in base k l = base + first_of k l
 
-abbrev pub end_of : Shape → (ℕ → ℕ) → ℕ
-end_of s l = first_of s.axes l + 2 ^ sum_to l s.axes
+abbrev pub end_of : ℕ → ℕ → (ℕ → ℕ) → ℕ
+end_of base k l = first_in base k l + 2 ^ sum_to l k
 
--- The work on the level list l: a step at each of its points, all together.
-unfoldable pub list_worked : Bool → Shape → ℕ → (ℕ → ℕ) → List ℤ → List ℤ
-list_worked ahead s t l xs = stepped_between ahead s t (first_in s l) (end_of s l) xs
+-- The work on its level list l: a step at each of its points, all together.
+unfoldable pub list_worked : Bool → Shape → ℕ → ℕ → ℕ → (ℕ → ℕ) → List ℤ → List ℤ
+list_worked ahead s t base k l xs = stepped_between ahead s t (first_in base k l) (end_of base k l) xs
 
 -- The sum of the parents of point number p: 1 where it is odd, else 0; and how many of the first m points have an odd sum.
 unfoldable pub odd_at : Shape → ℕ → List ℤ → ℕ → ℕ
@@ -48,11 +49,11 @@ odd_sums s t xs m = sum_to (odd_at s t xs) m
 
 -- The table in which a turn that started from xs comes to the level list l. Forward, from the last list down: the lists after it hold what the whole turn
 -- leaves. Back, from the first list up: the lists before it do. All others hold what they held.
-unfoldable pub came_to : Bool → Shape → ℕ → (ℕ → ℕ) → List ℤ → List ℤ
-came_to true s t l xs = values_of (points_of s) (between (end_of s l) (points_of s) (value_at (whole_turn true s t xs)) (value_at xs))
-came_to false s t l xs = values_of (points_of s) (between 0 (first_in s l) (value_at (whole_turn false s t xs)) (value_at xs))
+unfoldable pub came_to : Bool → Shape → ℕ → ℕ → ℕ → (ℕ → ℕ) → List ℤ → List ℤ
+came_to true s t base k l xs = values_of (points_of s) (between (end_of base k l) (points_of s) (value_at (whole_turn true s t xs)) (value_at xs))
+came_to false s t base k l xs = values_of (points_of s) (between 0 (first_in base k l) (value_at (whole_turn false s t xs)) (value_at xs))
 
 -- The work on a list: its points then hold what the whole turn leaves them, and no other place changes.
-pub record ListTurned (ahead : Bool) (s : Shape) (t : ℕ) (l : ℕ → ℕ) (xs before after : List ℤ) : Type 0 where
-  pub holds : (p : ℕ) → first_in s l ≤ p → p < end_of s l → value_at after (suc p) ≡ value_at (whole_turn ahead s t xs) (suc p)
-  pub others : (p : ℕ) → (p < first_in s l) ⊎ (end_of s l ≤ p) → value_at after (suc p) ≡ value_at before (suc p)
+pub record ListTurned (ahead : Bool) (s : Shape) (t base k : ℕ) (l : ℕ → ℕ) (xs before after : List ℤ) : Type 0 where
+  pub holds : (p : ℕ) → first_in base k l ≤ p → p < end_of base k l → value_at after (suc p) ≡ value_at (whole_turn ahead s t xs) (suc p)
+  pub others : (p : ℕ) → (p < first_in base k l) ⊎ (end_of base k l ≤ p) → value_at after (suc p) ≡ value_at before (suc p)

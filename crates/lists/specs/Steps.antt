@@ -1,12 +1,15 @@
 -- What the steps of a level list ask and leave.
 -- Assumes nothing.
-use Rattle.std.specs.Prelude.{Bool, List, ◌≡◌, ◌⊎◌, ℕ, suc, ◌+◌, ◌*◌, ◌^◌, ◌≤◌, ◌<◌, ℤ, nat_abs, length}
+use Rattle.std.specs.Prelude.{Bool, List, ◌≡◌, ◌⊎◌, ℕ, suc, ◌+◌, ◌*◌, ◌^◌, ◌≤◌, ◌<◌, ℤ, ◌+ℤ◌, nat_abs, length, Option, Some}
 use Rattle.naturals.specs.Sum.{sum_to}
 use Rattle.integers.specs.Half.{odd_of, stepped}
+use Rattle.numbering.specs.declared.Side.{Side}
 use Rattle.hierarchy.specs.Turns.{value_at}
 use Rattle.shapes.specs.declared.Shape.{Shape}
 use Rattle.shapes.specs.Shapes.{points_of}
 use Rattle.neighbours.specs.declared.subspaces.Subspace.{Subspace}
+use Rattle.neighbours.specs.declared.facets.Rims.{Rims}
+use Rattle.neighbours.specs.Facets.{rim_on, across}
 use Rattle.neighbours.specs.Steps.{Below}
 use Rattle.lists.specs.Lists.{odd_sums, stepped_at}
 
@@ -33,6 +36,20 @@ value_in xs a i = value_at xs (suc (a + i))
 abbrev pub RoomIn : ℕ → ℕ → List ℤ → Type 0
 RoomIn a w xs = (i : ℕ) → i < w → nat_abs (value_in xs a i) ≤ 2 ^ 61
 
+-- The w points from number a on, read for a run of as many from number x on: they are none of the run, and there is room.
+pub record Source (x w a : ℕ) (xs : List ℤ) : Type 0 where
+  pub clear : (a + w ≤ x) ⊎ (x + w ≤ a)
+  pub inside : a + w ≤ length xs
+  pub room : RoomIn a w xs
+
+-- The same of the points across the border on one side, where there are any.
+abbrev pub SourceAcross : ℕ → ℕ → Side → Option Rims → List ℤ → Type 0
+SourceAcross x w b rims xs = (r : Rims) → rims ≡ Some r → Source x w (rim_on r b) xs
+
+-- The sum of the parents of the i-th point of a run beside the border: what lies across it, and the point from number a on.
+abbrev pub edge_sum : List ℤ → Side → Option Rims → ℕ → ℕ → ℤ
+edge_sum xs b rims a i = value_at xs (across rims b i) +ℤ value_in xs a i
+
 -- A run: the w points from number x on, each with the sum of its parents' values. Each is stepped by its sum, the other places hold what they held, and k of
 -- the sums are odd.
 pub record RunStepped (ahead : Bool) (x w : ℕ) (sum : ℕ → ℤ) (xs : List ℤ) (k : ℕ) (ys : List ℤ) : Type 0 where
@@ -48,12 +65,11 @@ pub record Stepped (ahead : Bool) (s : Shape) (t lo hi : ℕ) (xs : List ℤ) (k
   pub off : (p : ℕ) → (p < lo) ⊎ (hi ≤ p) → value_at ys (suc p) ≡ value_at xs (suc p)
   pub odds : odd_sums s t xs lo + k ≡ odd_sums s t xs hi
 
--- A level vector that moves on the axis, with the first numbers of those below it, and a table in which its points before number x may have moved: at the
--- others and at the points before it, where their parents are, there is room for a step.
+-- A level vector with the first numbers of those below it, and a table in which its points before number x may have moved: at the others and at the points
+-- apart from it, where their parents are, there is room for a step.
 pub record Workable (v : Subspace) (starts : List ℕ) (x : ℕ) (xs : List ℤ) : Type 0 where
   pub below : Below v starts
-  pub moves : 1 ≤ v.own
-  pub axis : OnAxis v.line.shape v.line.place xs
+  pub axis : OnAxis v.facet.line.shape v.facet.line.place xs
   pub room : (p : ℕ) → (p < v.start) ⊎ (x ≤ p) → nat_abs (value_at xs (suc p)) ≤ 2 ^ 61
 
 -- A block: the points to whose position the axes beyond add `beyond`, from number x on.

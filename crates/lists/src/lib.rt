@@ -1,21 +1,24 @@
 // The work of a turn on one level list, all its points together, in the one lent buffer. Points with the same digit on the axis that follow each other are a
-// run; their parents follow each other too, and half of these parents serve the next run as well: no search and no test for each point.
+// run; their parents follow each other too, and half of these parents serve the next run as well: no search and no test for each point. Beside the first run and
+// the last lies the border, and across it points that follow each other too, where there are any.
 #![tactic(auto)]
 
-ghost use Rattle.std.specs.Prelude.{◌≡◌, ◌+◌, ◌^◌, ◌≤◌, ◌<◌, ◌+ℤ◌, List, ℤ, length};
+ghost use Rattle.std.specs.Prelude.{◌≡◌, ◌+◌, ◌*◌, ◌^◌, ◌≤◌, ◌<◌, ◌+ℤ◌, List, ℤ, None, length};
 ghost use Rattle.numbering.specs.Point.{at};
-ghost use Rattle.neighbours.specs.Steps.{Below};
+ghost use Rattle.neighbours.specs.Facets.{moved_on};
+ghost use Rattle.neighbours.specs.Steps.{Below, rims_of};
 ghost use Rattle.lists.specs.Lists.{odd_sums, list_worked, came_to, ListTurned};
-ghost use Rattle.lists.specs.Steps.{TableOf, value_in, RoomIn, RunStepped, Stepped, Workable, BlockAt};
+ghost use Rattle.lists.specs.Steps.{TableOf, value_in, RoomIn, Source, SourceAcross, edge_sum, RunStepped, Stepped, Workable, BlockAt};
 
 use integers::Direction;
-use neighbours::Subspace;
+use neighbours::{Rims, Subspace};
+use numbering::Side;
 
 // ---- runs (two loops by index: one over a closure would have to say what of the table it may read, and zips of split slices would nest three parts of one table)
 
-// A run from number x on whose points have the border on one side; their other parents are the points from number a on.
+// A run from number x on whose points have one parent each: the points from number a on.
 fn run_by_border<D: Direction>(table: &mut [i64], x: usize, a: usize, width: usize) -> u64
-    requires { (a + width ≤ x) × (x + width ≤ length table.old) × (length table.old < 2 ^ 32) × RoomIn x width table.old × RoomIn a width table.old }
+    requires { Source x width a table.old × (x + width ≤ length table.old) × (length table.old < 2 ^ 32) × RoomIn x width table.old }
     ensures { RunStepped D.ahead x width (value_in table.old a) table.old result table.new }
 {
     let mut odd: u64 = 0;
@@ -29,7 +32,7 @@ fn run_by_border<D: Direction>(table: &mut [i64], x: usize, a: usize, width: usi
 
 // A run whose points have parents on both sides: the points from number a on, and those from number b on.
 fn run_between<D: Direction>(table: &mut [i64], x: usize, a: usize, b: usize, width: usize) -> u64
-    requires { (a + width ≤ x) × (b + width ≤ x) × (x + width ≤ length table.old) × (length table.old < 2 ^ 32) × RoomIn x width table.old × RoomIn a width table.old × RoomIn b width table.old }
+    requires { Source x width a table.old × Source x width b table.old × (x + width ≤ length table.old) × (length table.old < 2 ^ 32) × RoomIn x width table.old }
     ensures { RunStepped D.ahead x width (λ i. value_in table.old a i +ℤ value_in table.old b i) table.old result table.new }
 {
     let mut odd: u64 = 0;
@@ -41,26 +44,48 @@ fn run_between<D: Direction>(table: &mut [i64], x: usize, a: usize, b: usize, wi
     odd
 }
 
+// A run beside the border. Its parents on the other side are the points from number `near` on; across the border lie those from the numbers `rims` on, where
+// there are any.
+#[inline(always)]
+fn edge_run<D: Direction>(
+    table: &mut [i64],
+    x: usize,
+    side: Side,
+    rims: Option<Rims>,
+    near: usize,
+    width: usize,
+) -> u64
+    requires { SourceAcross x width side rims table.old × Source x width near table.old × (x + width ≤ length table.old) × (length table.old < 2 ^ 32) × RoomIn x width table.old }
+    ensures { RunStepped D.ahead x width (edge_sum table.old side rims near) table.old result table.new }
+{
+    match rims {
+        Some(rims) => run_between::<D>(table, x, rims.on(side) as usize, near, width),
+        None => run_by_border::<D>(table, x, near, width),
+    }
+}
+
 // ---- blocks
 
 // The points to which the axes beyond add `beyond`, from number `first` on: run after run, each `width` wide. The numerators 2, 6, 10, .. have their parents
-// one level up, so these parents follow each other run by run; those at 4, 8, .. are found by `parent_run`, and each serves the runs on both its sides.
+// one level up, so these parents follow each other run by run; those at 4, 8, .. are found by `parent_run`, and each serves the runs on both its sides. The
+// points across the border of the block follow each other from the numbers `rims` on.
 #[inline(always)]
 fn block<D: Direction>(
     v: Subspace,
     starts: &[u64; 9],
+    rims: Option<Rims>,
     table: &mut [i64],
     first: u64,
     beyond: u64,
     width: usize,
 ) -> u64
-    requires { Workable v starts.now first table.old × BlockAt v first beyond × (width ≡ 2 ^ v.low) }
-    ensures { Stepped D.ahead v.line.shape v.line.place first (first + 2 ^ (v.low + v.own)) table.old result table.new }
+    requires { Workable v starts.now first table.old × BlockAt v first beyond × (1 ≤ v.own) × (width ≡ 2 ^ v.low) × (rims ≡ moved_on (rims_of v) (beyond * 2 ^ v.low)) }
+    ensures { Stepped D.ahead v.facet.line.shape v.facet.line.place first (first + 2 ^ (v.low + v.own)) table.old result table.new }
 {
     let pairs: u32 = 1 << (v.own - 1);
     let mut x = first as usize;
     let mut near = (starts[1] + (beyond << (v.low + v.own - 1))) as usize;
-    let mut odd = run_by_border::<D>(table, x, near, width);
+    let mut odd = edge_run::<D>(table, x, Side::Left, rims, near, width);
     for j in 1..pairs {
         let far = v.parent_run(starts, beyond, 4 * j) as usize;
         x += width;
@@ -70,53 +95,86 @@ fn block<D: Direction>(
         odd += run_between::<D>(table, x, far, near, width);
     }
     x += width;
-    odd + run_by_border::<D>(table, x, near, width)
+    odd + edge_run::<D>(table, x, Side::Right, rims, near, width)
 }
 
-// A block with its runs as wide as they are. That they are single points is known to `block` when it is compiled: without that, turns at (2, 8) take 37
-// instructions for each point and axis in place of 21.
+// A block with its runs as wide as they are, and its own points across the border. At level 0 on the axis it is one run, with the border on both sides. That the
+// runs are single points is known to `block` when it is compiled, where nothing lies across the border: without that, turns at (2, 8) take 37 instructions for
+// each point and axis in place of 21.
+#[inline(always)]
 fn sized_block<D: Direction>(
     v: Subspace,
     starts: &[u64; 9],
+    rims: Option<Rims>,
     table: &mut [i64],
     first: u64,
     beyond: u64,
 ) -> u64
-    requires { Workable v starts.now first table.old × BlockAt v first beyond }
-    ensures { Stepped D.ahead v.line.shape v.line.place first (first + 2 ^ (v.low + v.own)) table.old result table.new }
+    requires { Workable v starts.now first table.old × BlockAt v first beyond × (rims ≡ rims_of v) × (rims ≡ None → 1 ≤ v.own) }
+    ensures { Stepped D.ahead v.facet.line.shape v.facet.line.place first (first + 2 ^ (v.low + v.own)) table.old result table.new }
 {
-    if v.low == 0 {
-        return block::<D>(v, starts, table, first, beyond, 1);
+    match rims {
+        Some(rims) => {
+            let rims = rims.further(beyond << v.low);
+            let width = 1 << v.low;
+            if v.own == 0 {
+                return run_between::<D>(
+                    table,
+                    first as usize,
+                    rims.lower as usize,
+                    rims.upper as usize,
+                    width,
+                );
+            }
+            block::<D>(v, starts, Some(rims), table, first, beyond, width)
+        }
+        None => {
+            if v.low == 0 {
+                return block::<D>(v, starts, None, table, first, beyond, 1);
+            }
+            block::<D>(v, starts, None, table, first, beyond, 1 << v.low)
+        }
     }
-    block::<D>(v, starts, table, first, beyond, 1 << v.low)
 }
 
 // ---- a level list (its cursors and the table are handed on beside it: a struct of the three would be made anew for each list, and its facts shown anew)
 
 // Block after block, of a level list that moves on the axis.
-fn all_blocks<D: Direction>(v: Subspace, starts: &[u64; 9], table: &mut [i64]) -> u64
-    requires { Below v starts.now × (1 ≤ v.own) × TableOf v.line.shape (2 ^ 60) table.old }
-    ensures { Stepped D.ahead v.line.shape v.line.place v.start v.end table.old result table.new }
+#[inline(always)]
+fn all_blocks<D: Direction>(
+    v: Subspace,
+    starts: &[u64; 9],
+    rims: Option<Rims>,
+    table: &mut [i64],
+) -> u64
+    requires { Below v starts.now × TableOf v.facet.line.shape (2 ^ 61) table.old × (rims ≡ rims_of v) × (rims ≡ None → 1 ≤ v.own) }
+    ensures { Stepped D.ahead v.facet.line.shape v.facet.line.place v.start v.end table.old result table.new }
 {
     let bits = v.low + v.own;
     let mut odd: u64 = 0;
     for beyond in 0..1u64 << (v.vector.sum - bits) {
         let first = v.start + (beyond << bits);
-        odd += sized_block::<D>(v, starts, table, first, beyond);
+        odd += sized_block::<D>(v, starts, rims, table, first, beyond);
     }
     odd
 }
 
-// A step at each point of a level list, forward or back; answers how many of the sums are odd. Where the list has level 0 on the axis nothing moves. In a turn
-// that has come so far, the list's points then hold what the whole turn leaves them, and no other place changes.
+// A step at each point of a level list, forward or back; answers how many of the sums are odd. Where the list has level 0 on the axis and nothing lies across the
+// border, nothing moves. In a turn that has come so far, the list's points then hold what the whole turn leaves them, and no other place changes. (What lies
+// across the border is asked once for a list: `all_blocks` is compiled for each of the two.)
 pub fn work<D: Direction>(v: Subspace, starts: &[u64; 9], table: &mut [i64]) -> u64
-    requires { Below v starts.now × TableOf v.line.shape (2 ^ 60) table.old }
-    ensures worked { table.new ≡ list_worked D.ahead v.line.shape v.line.place (at v.vector.levels) table.old }
-    ensures odds { odd_sums v.line.shape v.line.place table.old v.start + result ≡ odd_sums v.line.shape v.line.place table.old v.end }
-    ensures turned { (xs : List ℤ) → length xs ≡ length table.old → table.old ≡ came_to D.ahead v.line.shape v.line.place (at v.vector.levels) xs → ListTurned D.ahead v.line.shape v.line.place (at v.vector.levels) xs table.old table.new }
+    requires { Below v starts.now × TableOf v.facet.line.shape (2 ^ 61) table.old }
+    ensures worked { table.new ≡ list_worked D.ahead v.facet.line.shape v.facet.line.place v.facet.base v.facet.axes (at v.vector.levels) table.old }
+    ensures odds { odd_sums v.facet.line.shape v.facet.line.place table.old v.start + result ≡ odd_sums v.facet.line.shape v.facet.line.place table.old v.end }
+    ensures turned { (xs : List ℤ) → length xs ≡ length table.old → table.old ≡ came_to D.ahead v.facet.line.shape v.facet.line.place v.facet.base v.facet.axes (at v.vector.levels) xs → ListTurned D.ahead v.facet.line.shape v.facet.line.place v.facet.base v.facet.axes (at v.vector.levels) xs table.old table.new }
 {
-    if v.own == 0 {
-        return 0;
+    match v.rims() {
+        Some(rims) => all_blocks::<D>(v, starts, Some(rims), table),
+        None => {
+            if v.own == 0 {
+                return 0;
+            }
+            all_blocks::<D>(v, starts, None, table)
+        }
     }
-    all_blocks::<D>(v, starts, table)
 }

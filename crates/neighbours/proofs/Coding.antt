@@ -12,9 +12,9 @@ use Rattle.numbering.specs.Point.{at}
 use Rattle.numbering.specs.Parent.{twos, parent_level, parent_index}
 use Rattle.numbering.proofs.Parents.{Inside, twos_pos, twos_le, index_odd_up, index_below_up}
 use Rattle.neighbours.specs.declared.subspaces.Subspace.{Subspace}
-use Rattle.neighbours.specs.Steps.{code_from}
+use Rattle.neighbours.specs.Steps.{parent_from}
 use Rattle.neighbours.proofs.Seeing.{Seen}
-use Rattle.neighbours.proofs.Beside.{code_inside, inner, bits}
+use Rattle.neighbours.proofs.Beside.{bits}
 
 -- ---- within the width
 
@@ -63,7 +63,8 @@ module _ {v : Subspace} (s : Seen v) (m l i : ℕ) (within : Inside v.own m) (le
       )
 
   pub computed : (starts : List ℕ) (beyond : ℕ) → beyond < 2 ^ 8 →
-      suc (at starts (v.own - l) + i / 2 * 2 ^ v.low % 2 ^ 64 + beyond * 2 ^ (v.low + l) % 2 ^ 64) ≡ code_from v starts 0 beyond m
+      at starts (v.own - l) + i / 2 * 2 ^ v.low % 2 ^ 64 + beyond * 2 ^ (v.low + l) % 2 ^ 64 ≡ parent_from v starts 0 beyond m
+  unfolding parent_from
   computed starts beyond small =
       let half : i / 2 ≡ (parent_index m - 1) / 2 = omega (arith, index, index_odd_up v.own m within) in
       omega (
@@ -73,5 +74,4 @@ module _ {v : Subspace} (s : Seen v) (m l i : ℕ) (within : Inside v.own m) (le
         ap (λ (h : ℕ). h * 2 ^ v.low) half,
         shift_exact beyond (v.low + l) (omega (arith, small)) (omega (arith, bits s, falls)),
         ap (λ (k : ℕ). beyond * 2 ^ (v.low + k)) level,
-        code_inside v starts 0 beyond m (inner v.own m within.pos within.below),
       )

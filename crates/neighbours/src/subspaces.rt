@@ -1,49 +1,73 @@
-// The axis that a turn works on, and the level vectors that it meets.
-ghost use Rattle.std.specs.Prelude.{◌≡◌, ◌+◌, ◌^◌, ◌≤◌, ◌<◌};
+// The level vectors that a turn on an axis meets.
+ghost use Rattle.std.specs.Prelude.{◌≡◌, ◌+◌, ◌-◌, ◌^◌, ◌≤◌, ◌<◌, suc};
 ghost use Rattle.naturals.specs.Sum.{sum_to};
 ghost use Rattle.numbering.specs.Point.{at};
 ghost use Rattle.numbering.specs.Number.{first_of};
+ghost use Rattle.neighbours.specs.Facets.{without};
 
-use shapes::Shape;
+use crate::facets::Facet;
+use shapes::Rows;
 use vectors::LevelVector;
 
-// An axis of a shape within the limits: the shape, and the place of the axis in it, from 0. The lines along that axis are what a turn works on.
-#[derive(Clone, Copy)]
-pub struct Line {
-    pub shape: Shape,
-    pub place: u32,
-    ghost few: { shape.axes ≤ 8 },
-    ghost top: { shape.level ≤ 8 },
-    ghost axis: { place < shape.axes },
-}
-
-// A level vector (document 01: level list) of the shape as a turn on an axis meets it. Its points are the numbers from `start` to `end` − 1. `low` is the sum
+// A level vector (document 01: level list) of a face as a turn on an axis meets it. Its points are the numbers from `start` to `end` − 1. `low` is the sum
 // of its levels before the axis, `own` its level there.
 #[derive(Clone, Copy)]
 pub struct Subspace {
-    pub line: Line,
+    pub facet: Facet,
     pub vector: LevelVector,
     pub start: u64,
     pub end: u64,
     pub low: u32,
     pub own: u32,
-    ghost same: { vector.axes ≡ line.shape.axes },
-    ghost inside: { vector.sum ≤ line.shape.level },
-    ghost first: { start ≡ first_of line.shape.axes (at vector.levels) },
+    ghost same: { vector.axes ≡ facet.axes },
+    ghost inside: { vector.sum ≤ facet.line.shape.level },
+    ghost first: { start ≡ facet.base + first_of facet.axes (at vector.levels) },
     ghost after: { end ≡ start + 2 ^ vector.sum },
-    ghost before: { low ≡ sum_to (at vector.levels) line.place },
-    ghost there: { own ≡ at vector.levels line.place },
+    ghost before: { low ≡ sum_to (at vector.levels) facet.place },
+    ghost there: { own ≡ at vector.levels facet.place },
+}
+
+// The levels without the one in a place.
+#[tactic(auto, using(crate::proofs::Without::without_low, crate::proofs::Without::without_high))]
+fn level_without(levels: &[u32; 8], place: u32, t: u32) -> u32
+    requires { t < 7 }
+    ensures { result ≡ without place (at levels.now) t }
+{
+    if t < place {
+        return levels[t as usize];
+    }
+    levels[t as usize + 1]
+}
+
+// The number of the first point of the level vector without the axis in a place; of no axes, 0.
+pub fn first_without(vector: &LevelVector, place: u32) -> u64
+    requires { (place < vector.now.axes) × (vector.now.sum ≤ 8) }
+    ensures { result ≡ first_of (vector.now.axes - 1) (without place (at vector.now.levels)) }
+{
+    let axes = vector.axes - 1;
+    if axes == 0 {
+        return 0;
+    }
+    let rows = Rows::new();
+    let mut rank: u64 = 0;
+    let mut sum: u32 = 0;
+    for t in 0..axes {
+        let next = sum + level_without(&vector.levels, place, t);
+        rank += rows.vectors(t + 1, next) - rows.vectors(t + 1, sum);
+        sum = next;
+    }
+    rows.start(axes, sum) + (rank << sum)
 }
 
 impl Subspace {
     // A level vector with this first number, for a turn on an axis.
-    pub fn on(line: Line, vector: &LevelVector, start: u64) -> Subspace
-        requires { (vector.now.axes ≡ line.shape.axes) × (vector.now.sum ≤ line.shape.level) × (start ≡ first_of line.shape.axes (at vector.now.levels)) }
-        ensures { (result.line ≡ line) × (result.vector ≡ vector.now) × (result.start ≡ start) }
+    pub fn on(facet: Facet, vector: &LevelVector, start: u64) -> Subspace
+        requires { (vector.now.axes ≡ facet.axes) × (vector.now.sum ≤ facet.line.shape.level) × (start ≡ facet.base + first_of facet.axes (at vector.now.levels)) }
+        ensures { (result.facet ≡ facet) × (result.vector ≡ vector.now) × (result.start ≡ start) }
     {
-        let place = line.place as usize;
+        let place = facet.place as usize;
         Subspace {
-            line,
+            facet,
             vector: *vector,
             start,
             end: start + (1 << vector.sum),

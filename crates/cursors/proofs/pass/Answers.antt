@@ -17,7 +17,7 @@ loop-j-init c = (own_le (seen c.args.v) (vector_of c.args.v).total, sum_le (seen
 
 -- cursor j after its step
 stepped : (c : In-loop-j) → at c.loop-j.cursors c.loop-j.j + 1 * 2 ^ (c.args.v.vector.sum - c.loop-j.j) % 2 ^ 64
-    ≡ cursor_at c.args.v.line c.args.v.vector.sum (suc (rank (at c.args.v.vector.levels) c.args.v.line.shape.axes)) c.loop-j.j
+    ≡ cursor_at c.args.v.facet c.args.v.vector.sum (suc (rank (at c.args.v.vector.levels) c.args.v.facet.axes)) c.loop-j.j
 stepped c =
     let (own, low, moved) = c.loop-j.invariant in
     stepped_up (seen c.args.v) (vector_of c.args.v).total c.loop-j.j (omega arith) (at c.loop-j.cursors c.loop-j.j)

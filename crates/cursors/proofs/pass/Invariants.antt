@@ -9,4 +9,4 @@ use Rattle.cursors.proofs.pass.Given as goal
 abbrev pub invariant-loop-j : goal.invariant-loop-j
 invariant-loop-j l =
     (l.v.own ≤ l.v.vector.sum) × (l.v.vector.sum ≤ 8)
-    × Moved l.v.line l.v.vector.sum (rank (at l.v.vector.levels) l.v.line.shape.axes) (suc (rank (at l.v.vector.levels) l.v.line.shape.axes)) l.j l.cursors
+    × Moved l.v.facet l.v.vector.sum (rank (at l.v.vector.levels) l.v.facet.axes) (suc (rank (at l.v.vector.levels) l.v.facet.axes)) l.j l.cursors

@@ -17,7 +17,7 @@ loop-j-init c = (own_le (seen c.args.v) (vector_of c.args.v).total, sum_le (seen
 
 -- cursor j before its step
 standing : (c : In-loop-j) → at c.loop-j.cursors c.loop-j.j
-    ≡ cursor_at c.args.v.line c.args.v.vector.sum (suc (rank (at c.args.v.vector.levels) c.args.v.line.shape.axes)) c.loop-j.j
+    ≡ cursor_at c.args.v.facet c.args.v.vector.sum (suc (rank (at c.args.v.vector.levels) c.args.v.facet.axes)) c.loop-j.j
 standing c =
     let (own, low, moved) = c.loop-j.invariant in
     moved.left c.loop-j.j (omega arith) (omega arith) (omega arith)

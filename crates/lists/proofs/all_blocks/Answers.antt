@@ -20,7 +20,7 @@ overflow_shl-first g c = omega (arith, bits (seen c.args.v))
 pub overflow_add-first : goal.overflow_add-first
 overflow_add-first g c =
     let more = c.loop-beyond-test.true in
-    omega (arith, shift_exact c.args.v c.loop-beyond.beyond more, block_small c.args.v c.loop-beyond.beyond more (on_line c.args.v.line c.requires.2.0))
+    omega (arith, shift_exact c.args.v c.loop-beyond.beyond more, block_small c.args.v c.loop-beyond.beyond more (on_line c.args.v.facet.line c.requires.1.0))
 
 -- ---- a block
 
@@ -28,10 +28,12 @@ pub sized_block-odd-requires : goal.sized_block-odd-requires
 sized_block-odd-requires g c =
     let v = c.args.v in
     let more = c.loop-beyond-test.true in
-    let (below, moves, (long, within)) = c.requires in
+    let (below, (long, within), rims, moves) = c.requires in
     rw (shift_exact v c.loop-beyond.beyond more) (
-      workable v c.loop-beyond.beyond more (on_line v.line long) c.loop-beyond.invariant below moves within,
+      workable v c.loop-beyond.beyond more (on_line v.facet.line long) c.loop-beyond.invariant below within,
       block_there v c.loop-beyond.beyond more,
+      rims,
+      moves,
     )
 
 pub overflow_add-odd : goal.overflow_add-odd
@@ -39,13 +41,13 @@ overflow_add-odd g c =
     let v = c.args.v in
     let more = c.loop-beyond-test.true in
     let did = rw (shift_exact v c.loop-beyond.beyond more) at c.sized_block-odd.ensures in
-    omega (arith, next_few v c.loop-beyond.beyond more (on_line c.args.v.line c.requires.2.0) c.loop-beyond.invariant did)
+    omega (arith, next_few v c.loop-beyond.beyond more (on_line v.facet.line c.requires.1.0) c.loop-beyond.invariant did)
 
 pub loop-beyond-preserved : goal.loop-beyond-preserved
 loop-beyond-preserved g c =
     let v = c.args.v in
     let more = c.loop-beyond-test.true in
-    next_done v c.loop-beyond.beyond more (on_line c.args.v.line c.requires.2.0) c.loop-beyond.invariant
+    next_done v c.loop-beyond.beyond more (on_line v.facet.line c.requires.1.0) c.loop-beyond.invariant
     (rw (shift_exact v c.loop-beyond.beyond more) at c.sized_block-odd.ensures)
 
 -- ---- after the last

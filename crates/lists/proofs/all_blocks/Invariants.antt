@@ -6,4 +6,4 @@ use Rattle.lists.proofs.all_blocks.Given as goal
 
 abbrev pub invariant-loop-beyond : goal.invariant-loop-beyond
 invariant-loop-beyond g l =
-    Stepped g.D.Direction.ahead l.v.line.shape l.v.line.place l.v.start (block_at l.v l.beyond) l.fn.table l.odd l.table
+    Stepped g.D.Direction.ahead l.v.facet.line.shape l.v.facet.line.place l.v.start (block_at l.v l.beyond) l.fn.table l.odd l.table

@@ -3,7 +3,7 @@ use native.Mathlib.Omega.{arith}
 use lib.IntN.{nat_abs}
 use Rattle.integers.specs.Half.{odd_of, stepped}
 use Rattle.integers.proofs.Steps.{odd_small}
-use Rattle.lists.proofs.Running.{stored_is, run_starts, run_steps, run_few, behind_read, ahead_read}
+use Rattle.lists.proofs.Running.{stored_is, run_starts, run_steps, run_few, source_read, ahead_read}
 use Rattle.lists.proofs.run_by_border.Goals as goal
 
 pub loop-i-init : goal.loop-i-init
@@ -21,7 +21,7 @@ step-requires g c =
     let run = c.loop-i.invariant in
     let lt = c.loop-i-test.true in (
       omega (arith, ap nat_abs (ahead_read run c.args.width pre.3 lt), pre.3 i lt),
-      omega (arith, ap nat_abs (behind_read run c.args.width c.args.a pre.0 pre.4 lt), pre.4 i lt),
+      omega (arith, ap nat_abs (source_read run c.args.width c.args.a pre.0 lt), pre.0.room i lt),
     )
 
 pub loop-i-preserved : goal.loop-i-preserved
@@ -30,7 +30,7 @@ loop-i-preserved g c =
     let i = c.loop-i.i in
     let run = c.loop-i.invariant in
     let lt = c.loop-i-test.true in
-    let sum = behind_read run c.args.width c.args.a pre.0 pre.4 lt in
+    let sum = source_read run c.args.width c.args.a pre.0 lt in
     run_steps run _ _ (omega (arith, pre.1)) (c.odd-odd.ensures ∙ ap odd_of sum)
-    (stored_is _ _ _ _ (pre.3 i lt) (omega (arith, pre.4 i lt))
+    (stored_is _ _ _ _ (pre.3 i lt) (omega (arith, pre.0.room i lt))
     (c.step.ensures ∙ ap₂ (stepped g.D.Direction.ahead) (ahead_read run c.args.width pre.3 lt) sum))

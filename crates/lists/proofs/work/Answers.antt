@@ -1,6 +1,7 @@
--- Level 0 on the axis moves nothing; otherwise the blocks are stepped. Either way all points of the list are, and the three clauses say what that means.
+-- With nothing across the border level 0 on the axis moves nothing; otherwise the blocks are stepped. Either way all points of the list are, and the three clauses
+-- say what that means.
 -- Assumes nothing.
-use mathlib.Core.Path.{◌∙◌}
+use mathlib.Core.Path.{sym, ◌∙◌}
 use Rattle.neighbours.proofs.Seeing.{seen}
 use Rattle.lists.proofs.Blocks.{on_line}
 use Rattle.lists.proofs.Lists.{list_worked_lem, flat_stepped}
@@ -11,25 +12,39 @@ use Rattle.lists.proofs.work.Goals as goal
 
 pub returns-then-v-eq0-clause-worked : goal.returns-then-v-eq0-clause-worked
 returns-then-v-eq0-clause-worked g c =
-    let pre = c.requires in
-    list_worked_lem (seen c.args.v) (on_line c.args.v.line pre.1.0) (flat_stepped (seen c.args.v) c.if-v-eq0.true g.D.Direction.ahead c.args.table.now)
+    let v = c.args.v in
+    list_worked_lem (seen v) (on_line v.facet.line c.requires.1.0)
+    (flat_stepped (seen v) (sym c.rims.ensures ∙ c.in-None.is) c.if-v-eq0.true g.D.Direction.ahead c.args.table.now)
 
 pub returns-then-v-eq0-clause-odds : goal.returns-then-v-eq0-clause-odds
-returns-then-v-eq0-clause-odds g c = (flat_stepped (seen c.args.v) c.if-v-eq0.true g.D.Direction.ahead c.args.table.now).odds
+returns-then-v-eq0-clause-odds g c =
+    (flat_stepped (seen c.args.v) (sym c.rims.ensures ∙ c.in-None.is) c.if-v-eq0.true g.D.Direction.ahead c.args.table.now).odds
 
 pub returns-then-v-eq0-clause-turned : goal.returns-then-v-eq0-clause-turned
 returns-then-v-eq0-clause-turned g c =
     let pre = c.requires in
     let xs = c.args.table.now in
-    λ old long came. work_turned (seen c.args.v) g.D.Direction.ahead 0 old xs xs (flat_stepped (seen c.args.v) c.if-v-eq0.true g.D.Direction.ahead xs) (long ∙ pre.1.0) came
+    λ old long came.
+    work_turned (seen c.args.v) g.D.Direction.ahead 0 old xs xs
+    (flat_stepped (seen c.args.v) (sym c.rims.ensures ∙ c.in-None.is) c.if-v-eq0.true g.D.Direction.ahead xs) (long ∙ pre.1.0) came
 
--- ---- a level that moves
+-- ---- a list that moves
 
-pub returns-clause-worked : goal.returns-clause-worked
-returns-clause-worked g c = list_worked_lem (seen c.args.v) (on_line c.args.v.line c.requires.1.0) c.all_blocks.ensures
+pub returns-in-Some-clause-worked : goal.returns-in-Some-clause-worked
+returns-in-Some-clause-worked g c = list_worked_lem (seen c.args.v) (on_line c.args.v.facet.line c.requires.1.0) c.all_blocks.ensures
 
-pub returns-clause-turned : goal.returns-clause-turned
-returns-clause-turned g c =
+pub returns-in-Some-clause-turned : goal.returns-in-Some-clause-turned
+returns-in-Some-clause-turned g c =
     let pre = c.requires in
     λ old long came.
     work_turned (seen c.args.v) g.D.Direction.ahead c.all_blocks.result old c.args.table.now c.all_blocks.new.table c.all_blocks.ensures (long ∙ pre.1.0) came
+
+pub returns-else-v-eq0-clause-worked : goal.returns-else-v-eq0-clause-worked
+returns-else-v-eq0-clause-worked g c = list_worked_lem (seen c.args.v) (on_line c.args.v.facet.line c.requires.1.0) c.all_blocks-in-None.ensures
+
+pub returns-else-v-eq0-clause-turned : goal.returns-else-v-eq0-clause-turned
+returns-else-v-eq0-clause-turned g c =
+    let pre = c.requires in
+    λ old long came.
+    work_turned (seen c.args.v) g.D.Direction.ahead c.all_blocks-in-None.result old c.args.table.now c.all_blocks-in-None.new.table
+    c.all_blocks-in-None.ensures (long ∙ pre.1.0) came

@@ -6,4 +6,4 @@ use Rattle.cursors.specs.Steps.{Filled}
 use Rattle.cursors.proofs.starts.Starts.of.Given as goal
 
 abbrev pub invariant-loop-s : goal.invariant-loop-s
-invariant-loop-s l = Filled (start l.line.shape.axes) 10 0 (l.s + 1) l.places
+invariant-loop-s l = Filled (λ s. l.facet.base + start l.facet.axes s) 10 0 (l.s + 1) l.places
