@@ -15,6 +15,7 @@ use Rattle.numbering.proofs.Rank.{rank_zero}
 use Rattle.numbering.proofs.Subspaces.{first_is}
 use Rattle.shapes.proofs.Totals.{start_zero}
 use Rattle.numbers.proofs.Parts.{first_small}
+use Rattle.faces.specs.Packing.{skip}
 use Rattle.neighbours.specs.Facets.{without}
 
 module _ (j : ℕ) (l : ℕ → ℕ) where
