@@ -3,6 +3,7 @@
 
 ghost use Rattle.std.specs.Prelude.{◌≡◌, ◌≤◌, ◌<◌, ◌^◌, IfOk};
 ghost use Rattle.refusals.specs.Checks.{verdict};
+ghost use Rattle.shapes.specs.Shapes.{most_axes};
 ghost use Rattle.states.specs.States.{has, toggled, found_axis, check_bits, check_state};
 
 use refusals::Refusal;
@@ -22,6 +23,7 @@ pub struct CheckedState {
     ghost some: { 1 ≤ state.shape.axes },
     ghost few: { state.shape.axes ≤ 8 },
     ghost top: { state.shape.level ≤ 8 },
+    ghost most: { state.shape.axes ≤ most_axes state.shape.border },
     ghost bits: { state.forward < 2 ^ state.shape.axes },
 }
 
