@@ -2,7 +2,7 @@
 use crate::text;
 use estimates::Estimated;
 use numbering::Side;
-use points::{Point, padded};
+use points::{MarkedPoint, padded};
 use refusals::Refusal;
 use shapes::Shape;
 use states::State;
@@ -11,31 +11,48 @@ use std::fmt::Display;
 use std::io;
 use vectors::compare_levels;
 
-// The places where numbers go: the list l from 0, the state from 10, the list i from 16, the table from 32.
-const AXES: usize = 10;
+// The places where numbers go: the numbers of the state from 0, the list m from 16, the list l from 32, the list i from 48, the table from 64.
+const MARKS: usize = 16;
 
-const LEVEL: usize = 11;
+const LEVELS: usize = 32;
 
-const SET: usize = 12;
+const INDICES: usize = 48;
 
-// How many numbers of the list l and of the list i, and how many places of the table, a call is lent.
-const LEVELS: usize = 13;
+const TABLE: usize = 64;
 
-const INDICES: usize = 14;
+// Where in the state stand a shape, whether it has values on the border, the set of forward axes, and how many numbers of each list and how many places of the
+// table a call is lent.
+const AXES: usize = 0;
 
-const PLACES: usize = 15;
+const LEVEL: usize = 1;
 
-const LIST: usize = 16;
+const BORDER: usize = 2;
 
-const TABLE: usize = 32;
+const SET: usize = 3;
 
-// Where the next number goes, that number so far, and all places. (The lengths of the lists stand among the numbers, as the list of calls gives them.)
+const MARKS_LENT: usize = 4;
+
+const LEVELS_LENT: usize = 5;
+
+const INDICES_LENT: usize = 6;
+
+const PLACES: usize = 7;
+
+// The numbers that stand on the desk beside the table. (The lengths of the lists stand among the numbers, as the list of calls gives them.)
+#[derive(Clone, Copy)]
+struct Numbers {
+    s: [u32; 16],
+    m: [u32; 16],
+    l: [u32; 16],
+    i: [u32; 16],
+}
+
+// Where the next number goes, that number so far, and all places.
 #[derive(Drop)]
 pub struct Desk {
     at: usize,
     number: u64,
-    l: [u32; 16],
-    i: [u32; 16],
+    numbers: Numbers,
     table: [i64; 2048],
 }
 
@@ -71,11 +88,18 @@ fn margined(out: &impl Print, answer: Result<Estimated, Refusal>) -> io::Result<
 }
 
 // A point after the letter f; or zeros, after the letter that stands for no point or after why it is refused.
-fn located(out: &impl Print, answer: Result<Option<Point>, Refusal>, none: u8) -> io::Result<()> {
+fn located(
+    out: &impl Print,
+    answer: Result<Option<MarkedPoint>, Refusal>,
+    none: u8,
+) -> io::Result<()> {
+    let mut marks = [0; 8];
     let mut levels = [0; 8];
     let mut indices = [0; 8];
     match answer {
-        Ok(Some(point)) => {
+        Ok(Some(found)) => {
+            let point = found.point;
+            marks = found.marks;
             levels = point.levels;
             indices = point.indices;
             text::letter(out, b'f')?;
@@ -83,6 +107,7 @@ fn located(out: &impl Print, answer: Result<Option<Point>, Refusal>, none: u8) -
         Ok(None) => text::letter(out, none)?,
         Err(why) => text::refused(out, why)?,
     }
+    text::list(out, marks)?;
     text::list(out, levels)?;
     text::list(out, indices)
 }
@@ -108,6 +133,7 @@ fn shown(out: &impl Print, state: State) -> io::Result<u8> {
     text::number(out, state.forward)?;
     text::number(out, shape.axes)?;
     text::number(out, shape.level)?;
+    text::number(out, u32::from(shape.border))?;
     Ok(state.forward)
 }
 
@@ -152,21 +178,23 @@ fn call(
     out: &impl Print,
     letter: u8,
     x: u64,
-    l: &[u32; 16],
-    i: &[u32; 16],
+    numbers: &Numbers,
     table: &mut [i64],
 ) -> io::Result<u8> {
+    let Numbers { s, m, l, i } = numbers;
     let shape = Shape {
-        axes: l[AXES],
-        level: l[LEVEL],
+        axes: s[AXES],
+        level: s[LEVEL],
+        border: s[BORDER] != 0,
     };
-    let set = byte(l[SET]);
+    let set = byte(s[SET]);
     let state = State {
         shape,
         forward: set,
     };
-    let levels = part(l, l[LEVELS]);
-    let indices = part(i, l[INDICES]);
+    let marks = part(m, s[MARKS_LENT]);
+    let levels = part(l, s[LEVELS_LENT]);
+    let indices = part(i, s[INDICES_LENT]);
     let axis = word(x);
     // The capitals are matched here alone, and all other letters in `read`, so an enum of either would only list them twice.
     match letter {
@@ -179,20 +207,20 @@ fn call(
         b'E' => numbered(out, estimates::estimate(state, table, levels))?,
         b'L' => located(
             out,
-            parents::parent(shape, levels, indices, axis, Side::Left),
+            parents::parent(shape, marks, levels, indices, axis, Side::Left),
             b'b',
         )?,
         b'M' => margined(out, estimates::estimate_with_margin(state, table, levels))?,
-        b'N' => numbered(out, numbers::number_of_point(shape, levels, indices))?,
+        b'N' => numbered(out, numbers::number_of_point(shape, marks, levels, indices))?,
         b'O' => ordered(out, compare_levels(padded(levels), padded(indices)))?,
         b'P' => located(out, numbers::point_of_number(shape, x).map(Some), b' ')?,
-        b'S' => located(out, successor::successor(shape, levels, indices), b'e')?,
+        b'S' => located(out, successor::successor(shape, marks, levels, indices), b'e')?,
         b'U' => judged(out, tables::unload(state, table))?,
         b'V' => judged(out, whole::rates_to_coefficients(shape, table))?,
         b'W' => judged(out, whole::coefficients_to_rates(shape, table))?,
         _ => located(
             out,
-            parents::parent(shape, levels, indices, axis, Side::Right),
+            parents::parent(shape, marks, levels, indices, axis, Side::Right),
             b'b',
         )?,
     }
@@ -204,8 +232,12 @@ impl Desk {
         Desk {
             at: 0,
             number: 0,
-            l: [0; 16],
-            i: [0; 16],
+            numbers: Numbers {
+                s: [0; 16],
+                m: [0; 16],
+                l: [0; 16],
+                i: [0; 16],
+            },
             table: [0; 2048],
         }
     }
@@ -213,10 +245,14 @@ impl Desk {
     // A number ends: it goes to its place, and the next goes behind it.
     fn store(&mut self, n: u64) {
         let at = self.at;
-        if at < LIST {
-            self.l[at] = word(n);
+        if at < MARKS {
+            self.numbers.s[at] = word(n);
+        } else if at < LEVELS {
+            self.numbers.m[at - MARKS] = word(n);
+        } else if at < INDICES {
+            self.numbers.l[at - LEVELS] = word(n);
         } else if at < TABLE {
-            self.i[at - LIST] = word(n);
+            self.numbers.i[at - INDICES] = word(n);
         } else if let Some(place) = self.table.get_mut(at - TABLE) {
             *place = n.cast_signed();
         }
@@ -237,12 +273,12 @@ impl Desk {
 
     // A capital: the call on as many places of the table as it is lent.
     fn call(&mut self, out: &impl Print, letter: u8) -> io::Result<()> {
-        let places = self.l[PLACES] as usize;
+        let places = self.numbers.s[PLACES] as usize;
         let set = match self.table.get_mut(..places) {
-            Some(table) => call(out, letter, self.number, &self.l, &self.i, table)?,
+            Some(table) => call(out, letter, self.number, &self.numbers, table)?,
             None => 0,
         };
-        self.l[SET] = u32::from(set);
+        self.numbers.s[SET] = u32::from(set);
         Ok(())
     }
 
@@ -258,9 +294,10 @@ impl Desk {
             b'-' => self.store(self.number.wrapping_neg()),
             b'.' => self.show(out)?,
             b'A'..=b'Z' => self.call(out, letter)?,
-            b's' => self.at = AXES,
-            b'l' => self.at = 0,
-            b'i' => self.at = LIST,
+            b's' => self.at = 0,
+            b'm' => self.at = MARKS,
+            b'l' => self.at = LEVELS,
+            b'i' => self.at = INDICES,
             b't' => self.at = TABLE,
             _ => {}
         }
