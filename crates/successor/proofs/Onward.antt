@@ -20,11 +20,11 @@ use Rattle.numbering.proofs.Succession.{first_position}
 use Rattle.vectors.specs.declared.LevelVector.{LevelVector}
 use Rattle.vectors.specs.Steps.{NextVector}
 use Rattle.points.specs.Steps.{PointIn}
-use Rattle.successor.specs.Steps.{StepsIndices}
-use Rattle.successor.proofs.Reached.{reached, following, reaches, ended}
+use Rattle.successor.specs.Steps.{StepsIndices, next_inner}
+use Rattle.successor.proofs.Reached.{reached, reaches, ended}
 
 module _ {d n : ℕ} {ls is js : List ℕ} {past : Bool} (p : PointIn d n ls is) (turned : StepsIndices d ls is past js) where
-  pub next_index : past ≡ false → reached ls js ≡ following d n (at ls) (at is)
+  pub next_index : past ≡ false → reached ls js ≡ next_inner d n (number d (at ls) (at is))
   next_index e =
       let point : PointIn d n ls js = record {
         long_levels = p.long_levels;
@@ -56,7 +56,7 @@ module _ {d n : ℕ} {ls is js : List ℕ} {past : Bool} (p : PointIn d n ls is)
         )
 
     -- The indices 1 fit any levels.
-    pub first_of_next : sum' ≤ n → reached ms js ≡ following d n (at ls) (at is)
+    pub first_of_next : sum' ≤ n → reached ms js ≡ next_inner d n (number d (at ls) (at is))
     first_of_next within =
         let point : PointIn d n ms js = record {
           long_levels = next.vector.long;
@@ -73,7 +73,7 @@ module _ {d n : ℕ} {ls is js : List ℕ} {past : Bool} (p : PointIn d n ls is)
         reaches point (at ls) (at is)
         (omega (arith, number_from_first d (at ms) (at js), first_position (at ms) (at js) d (turned.ones e), starts))
 
-    pub none_left : n < sum' → None ≡ following d n (at ls) (at is)
+    pub none_left : n < sum' → None ≡ next_inner d n (number d (at ls) (at is))
     none_left past_top =
         ended d n (at ls) (at is)
         (omega (

@@ -1,16 +1,18 @@
-// The successor of a point: the next indices on its levels or, past the last of them, the first point of the next level vector.
+// The successor of a point: the next indices on its levels or, past the last of them, the first point of the next level vector; with values on the border, past the last
+// point of a face the first of the next face.
 #![tactic(auto)]
 
-ghost use Rattle.std.specs.Prelude.{◌≡◌, ◌≤◌};
+ghost use Rattle.std.specs.Prelude.{◌≡◌, ◌^◌, ◌≤◌, ◌<◌};
 ghost use Rattle.numbering.specs.Point.{at, IsPoint};
-ghost use Rattle.grids.specs.Grids.{number_of};
+ghost use Rattle.numbering.specs.Number.{number};
+ghost use Rattle.faces.specs.Marked.{Marked, border_number};
 ghost use Rattle.points.specs.Steps.{PointIn};
-ghost use Rattle.successor.specs.Steps.{StepsIndices};
-ghost use Rattle.successor.specs.Successor.{after, successor_of};
+ghost use Rattle.successor.specs.Steps.{StepsIndices, next_inner, next_marked, unmarked_next};
+ghost use Rattle.successor.specs.Successor.{successor_of};
 
-use points::Point;
+use points::{MarkedPoint, Point};
 use refusals::Refusal;
-use shapes::Shape;
+use shapes::{Rows, Shape};
 use vectors::LevelVector;
 
 // The indices stepped to the next on the same levels, in place, axis 1 fastest. Answers whether they were the last: then all are 1 again. (Axes and two arrays, which
@@ -30,21 +32,21 @@ fn next_indices(axes: usize, levels: &[u32; 8], indices: &mut [u32; 8]) -> bool
     true
 }
 
-// The successor of a point of this shape, or the end.
-fn next_point(shape: Shape, p: Point) -> Option<Point>
-    requires { (1 ≤ shape.axes) × (shape.axes ≤ 8) × (shape.level ≤ 8) × PointIn shape.axes shape.level p.levels p.indices }
-    ensures { result ≡ after shape (number_of shape (at p.levels) (at p.indices)) }
+// The next point of a sparse table of these axes and top level, or none past the last.
+fn next_point(axes: u32, level: u32, p: Point) -> Option<Point>
+    requires { (1 ≤ axes) × (axes ≤ 8) × (level ≤ 8) × PointIn axes level p.levels p.indices }
+    ensures { result ≡ next_inner axes level (number axes (at p.levels) (at p.indices)) }
 {
     let mut indices = p.indices;
-    if !next_indices(shape.axes as usize, &p.levels, &mut indices) {
+    if !next_indices(axes as usize, &p.levels, &mut indices) {
         return Some(Point {
             levels: p.levels,
             indices,
         });
     }
-    let mut vector = LevelVector::of(shape.axes, p.levels);
+    let mut vector = LevelVector::of(axes, p.levels);
     vector.next();
-    if shape.level < vector.sum {
+    if level < vector.sum {
         return None;
     }
     Some(Point {
@@ -53,11 +55,69 @@ fn next_point(shape: Shape, p: Point) -> Option<Point>
     })
 }
 
+// ---- with values on the border
+
+// The next point of a face of so many inner axes, or none past the last: without inner axes it has one point.
+fn next_within(axes: u32, level: u32, p: Point) -> Option<Point>
+    requires { (axes ≤ 8) × (level ≤ 8) × PointIn axes level p.levels p.indices }
+    ensures { result ≡ next_inner axes level (number axes (at p.levels) (at p.indices)) }
+{
+    if axes == 0 {
+        return None;
+    }
+    next_point(axes, level, p)
+}
+
+// The first point of the face after that of this number, which is the last of its face, or the end. (By the number, since it happens once a face.)
+fn next_face(axes: u32, level: u32, number: u64) -> Option<MarkedPoint>
+    requires { (axes ≤ 4) × (level ≤ 8) × (number < 2 ^ 32) }
+    ensures { result ≡ next_marked axes level number }
+{
+    let next = number + 1;
+    if Rows::new().border_points(axes, level) <= next {
+        return None;
+    }
+    Some(numbers::border_point(axes, level, next))
+}
+
+// The successor of a point of these axes and top level: the next point of its face, or the first of the next face, or the end.
+fn next_marked(axes: u32, level: u32, marks: [u32; 8], p: Point) -> Option<MarkedPoint>
+    requires { (axes ≤ 4) × (level ≤ 8) × Marked axes level (at marks) (at p.levels) (at p.indices) }
+    ensures { result ≡ next_marked axes level (border_number axes level (at marks) (at p.levels) (at p.indices)) }
+{
+    let here = numbers::within_face(axes, &marks, p);
+    if let Some(next) = next_within(here.inner, level, here.point) {
+        return Some(numbers::on_face(axes, marks, next));
+    }
+    next_face(axes, level, numbers::border_number(axes, level, &marks, p))
+}
+
+// ---- the call
+
+// A point without a mark, where there is one.
+fn unmarked(next: Option<Point>) -> Option<MarkedPoint>
+    ensures { result ≡ unmarked_next next }
+{
+    Some(MarkedPoint {
+        marks: [0; 8],
+        point: next?,
+    })
+}
+
 // The successor of a point, or none, the end, after the last.
 #[tactic(auto, using(points::proofs::Handed::turned_away), unfolding(crate::specs::Successor::successor_of))]
-pub fn successor(shape: Shape, levels: &[u32], indices: &[u32]) -> Result<Option<Point>, Refusal>
-    ensures { result ≡ successor_of shape levels.now indices.now }
+pub fn successor(
+    shape: Shape,
+    marks: &[u32],
+    levels: &[u32],
+    indices: &[u32],
+) -> Result<Option<MarkedPoint>, Refusal>
+    ensures { result ≡ successor_of shape marks.now levels.now indices.now }
 {
-    let p = points::point_from(shape, levels, indices)?;
-    Ok(next_point(shape, p))
+    let p = points::point_from(shape, marks, levels, indices)?;
+    if shape.border {
+        let marks = points::padded(marks);
+        return Ok(next_marked(shape.axes, shape.level, marks, p));
+    }
+    Ok(unmarked(next_point(shape.axes, shape.level, p)))
 }

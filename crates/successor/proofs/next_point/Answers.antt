@@ -7,12 +7,12 @@ pub returns-then-not-next_indices : goal.returns-then-not-next_indices
 returns-then-not-next_indices c =
     next_index c.requires.3 c.next_indices.ensures c.if-not-next_indices.true
 
-pub returns-then-shape-vector : goal.returns-then-shape-vector
-returns-then-shape-vector c =
+pub returns-then-level-vector : goal.returns-then-level-vector
+returns-then-level-vector c =
     none_left c.requires.3 c.next_indices.ensures c.if-not-next_indices.false c.of-vector.result c.of-vector.ensures c.next.ensures.1
-    c.if-shape-vector.true
+    c.if-level-vector.true
 
 pub returns : goal.returns
 returns c =
     first_of_next c.requires.3 c.next_indices.ensures c.if-not-next_indices.false c.of-vector.result c.of-vector.ensures c.next.ensures.1
-    c.if-shape-vector.false
+    c.if-level-vector.false

@@ -1,19 +1,40 @@
--- `successor::successor` meets its contract: the check of the point decides the refusal, and what it passes is a point of the shape, which `next_point` steps.
+-- `successor::successor` meets its contract: the check of the point decides the refusal, and what it passes is a point of the shape, which is stepped as its sort is
+-- numbered.
 -- Assumes nothing.
 use Rattle.std.specs.Prelude.{Ok}
-use mathlib.Core.Path.{sym, ap}
+use mathlib.Core.Path.{sym, ap, ◌∙◌}
+use Rattle.numbering.specs.Point.{at}
+use Rattle.shapes.proofs.Layers.{most_bordered}
 use Rattle.points.proofs.Handed.{point_checked, handed}
+use Rattle.points.proofs.Passed.{marks_by_value}
 use Rattle.successor.specs.Successor.{successor_of}
+use Rattle.successor.proofs.Sorts.{after_bordered, after_plain}
 use Rattle.successor.proofs.successor.Goals as goal
+
+pub next_marked-requires : goal.next_marked-requires
+next_marked-requires c =
+    let p = handed _ _ _ _ (sym c.in_ok-p.ensures) in
+    let marks = ap at c.padded-marks.ensures ∙ marks_by_value p.passes in
+    (most_bordered p.passes.shape c.if-shape.true, p.passes.shape.top, rw (marks, p.levels, p.indices) p.passes.named.marked)
+
+pub returns-then-shape : goal.returns-then-shape
+unfolding successor_of
+returns-then-shape c =
+    let given = sym c.in_ok-p.ensures in
+    let p = handed _ _ _ _ given in
+    let marks = ap at c.padded-marks.ensures ∙ marks_by_value p.passes in
+    rw (point_checked _ _ _ _ given, ← p.levels, ← p.indices, ← marks)
+    (ap Ok (c.next_marked.ensures ∙ after_bordered c.args.shape c.if-shape.true _ _ _))
 
 pub next_point-requires : goal.next_point-requires
 next_point-requires c =
-    let p = handed _ _ _ (sym c.in_ok-p.ensures) in
-    (p.shape.low, p.shape.high, p.shape.top, p.inside)
+    let p = handed _ _ _ _ (sym c.in_ok-p.ensures) in
+    (p.passes.shape.low, p.passes.shape.high, p.passes.shape.top, p.inside)
 
 pub returns : goal.returns
 unfolding successor_of
 returns c =
     let given = sym c.in_ok-p.ensures in
-    let p = handed _ _ _ given in
-    rw (point_checked _ _ _ given, ← p.levels, ← p.indices) (ap Ok c.next_point.ensures)
+    let p = handed _ _ _ _ given in
+    rw (point_checked _ _ _ _ given, ← p.levels, ← p.indices)
+    (ap Ok (rw c.next_point.ensures at c.unmarked.ensures ∙ after_plain c.args.shape c.if-shape.false _ _ _))
