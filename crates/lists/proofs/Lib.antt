@@ -5,3 +5,4 @@ pub mod Sums
 pub mod Blocks
 pub mod Lists
 pub mod Turned
+pub mod Faces

@@ -90,6 +90,7 @@ module _ (line : Line) (on : line.shape.border ≡ true) (f : ℕ) (in_row : f <
         low = λ r e. rw (← some_is r e) (rim_within 1 (omega arith), rim_within 2 (omega arith));
         inner = facet_parent s on f in_row t line.axis inside;
         outer = outside;
+        still = λ q h b e. facet_still s on f in_row t line.axis inside q h b e;
         apart = far;
       }
     where

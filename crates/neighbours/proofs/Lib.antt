@@ -6,3 +6,4 @@ pub mod Beside
 pub mod Runs
 pub mod Coding
 pub mod Marking
+pub mod Staying
