@@ -1,3 +1,4 @@
 pub mod Moves
 pub mod Beside
+pub mod ZeroBorder
 pub mod Instance
