@@ -1,6 +1,6 @@
 // Where the points of each level sum of a face start.
 ghost use Rattle.std.specs.Prelude.{ℕ, suc, ◌≡◌, ◌+◌, ◌≤◌};
-ghost use Rattle.numbering.specs.Count.{start};
+ghost use Rattle.numbering.specs.Count.{start, points};
 ghost use Rattle.numbering.specs.Point.{at};
 
 use neighbours::Facet;
@@ -25,5 +25,13 @@ impl Starts {
             places[s as usize + 1] = places[s as usize] + (rows.vectors(facet.axes, s) << s);
         }
         Starts { facet, places }
+    }
+
+    // The number after the last point of the face.
+    #[tactic(auto, using(numbering::proofs::Numbering::points_is))]
+    pub fn end(&self) -> u64
+        ensures { result ≡ self.now.facet.base + points self.now.facet.axes self.now.facet.line.shape.level }
+    {
+        self.places[self.facet.line.shape.level as usize + 1]
     }
 }

@@ -57,8 +57,8 @@ abbrev pub Outside : ℕ → ℕ → ℕ → Type 0
 Outside lo hi q = (q ≤ lo) ⊎ (hi < q)
 
 -- One that is apart from them is such a code.
-pub outside : (nb : Neighbours) (t : ℕ) {lo hi q : ℕ} → Apart nb t lo hi q → Outside lo hi q
-outside nb t {lo} {hi} {q} apart = le_or_lt q lo (λ low. inl low) (λ more. inr (apart more).0)
+pub outside : (nb : Neighbours) (t : ℕ) {base lo hi q : ℕ} → Apart nb t base lo hi q → Outside lo hi q
+outside nb t {base} {lo} {hi} {q} apart = le_or_lt q lo (λ low. inl low) (λ more. inr ((apart (omega arith)).1 more).0)
 
 -- No step so far.
 pub none_stepped : (ahead : Bool) (s : Shape) (t lo : ℕ) (xs : List ℤ) → Stepped ahead s t lo lo xs 0 xs

@@ -70,7 +70,7 @@ module _ {v : Subspace} (s : Seen v) where
 
   -- All parents stand apart from the list.
   pub list_apart : (p : ℕ) → v.start ≤ p → p < v.end → (b : Side) →
-      Apart (neighbour v.facet.line.shape) v.facet.line.place v.start v.end (neighbour v.facet.line.shape v.facet.line.place b (suc p))
+      Apart (neighbour v.facet.line.shape) v.facet.line.place v.facet.base v.start v.end (neighbour v.facet.line.shape v.facet.line.place b (suc p))
   list_apart p from to b = beside_apart s p from to b
 
   pub list_worked_lem : {ahead : Bool} {k : ℕ} {xs ys : List ℤ} → OnAxis v.facet.line.shape v.facet.line.place xs →

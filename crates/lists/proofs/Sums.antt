@@ -137,7 +137,7 @@ module _ {v : Subspace} (s : Seen v) {first beyond : ℕ} (b : BlockAt v first b
             record { each = λ i h. right_at (4 * j) (omega (arith, is)) (omega (arith, is, in_row, all_digits v.own moves)) i h ∙ far_number i }
 
     -- They stand apart from the level list, all before it or all behind it, and within the table.
-    pub all_apart : (i : ℕ) → i < 2 ^ v.low → (side : Side) → Apart (neighbour v.facet.line.shape) v.facet.line.place v.start v.end (beside side (x + i))
+    pub all_apart : (i : ℕ) → i < 2 ^ v.low → (side : Side) → Apart (neighbour v.facet.line.shape) v.facet.line.place v.facet.base v.start v.end (beside side (x + i))
     all_apart i h side = beside_apart s (x + i) (omega (arith, run_from)) (omega (arith, number_is i, there i h)) side
 
     module _ (side : Side) (a : ℕ) (parents : Parents v side x a) where
@@ -145,7 +145,7 @@ module _ {v : Subspace} (s : Seen v) {first beyond : ℕ} (b : BlockAt v first b
       w = 2 ^ v.low
 
       parent_apart : (i : ℕ) → i < w → v.start < suc (a + i) → v.end < suc (a + i)
-      parent_apart i h more = omega (arith, parents.each i h, (all_apart i h side (omega (arith, parents.each i h, more))).0)
+      parent_apart i h more = omega (arith, parents.each i h, ((all_apart i h side (omega (arith, parents.each i h))).1 (omega (arith, parents.each i h, more))).0)
 
       some_list : v.start < v.end
       some_list = omega (arith, run_from, run_inside, block_end, pow_pos v.low)

@@ -30,7 +30,7 @@ use Rattle.neighbours.specs.declared.subspaces.Subspace.{Subspace}
 use Rattle.neighbours.proofs.Seeing.{Seen}
 use Rattle.neighbours.proofs.Beside.{end_inside}
 use Rattle.neighbours.specs.Facets.{Apart}
-use Rattle.lists.specs.Lists.{whole_turn, between, first_in, end_of, came_to, ListTurned}
+use Rattle.lists.specs.Lists.{whole_turn, between, turned_between, first_in, end_of, came_to, ListTurned}
 use Rattle.lists.specs.Steps.{Stepped}
 use Rattle.lists.proofs.Between.{between_low, between_inside, between_high, between_held}
 use Rattle.lists.proofs.Joining.{stepped_is}
@@ -88,67 +88,73 @@ pub same_sums : (s : Shape) (t : ℕ) (f g : ℕ → ℤ) (q : ℕ) → ((b : Si
 unfolding sum_on
 same_sums s t f g q same = ap₂ ◌+ℤ◌ (same Left) (same Right)
 
--- ---- the points from number lo to hi − 1, whose parents stand apart from them
+-- ---- the points from number lo to hi − 1 of a face, whose parents stand apart from them
 
--- The table ys in which a turn of the table xs comes to them: they hold what they held; before them stands what the turn goes by, forward the old values, back
--- the result. What does not move holds what it held.
-pub record Comes (ahead : Bool) (s : Shape) (t lo hi : ℕ) (xs ys : List ℤ) : Type 0 where
+-- The table ys in which a turn of the table xs comes to them: they hold what they held; before them in the face stands what the turn goes by, forward the old
+-- values, back the result. What does not move holds what it held.
+pub record Comes (ahead : Bool) (s : Shape) (t base lo hi : ℕ) (xs ys : List ℤ) : Type 0 where
   pub here : (p : ℕ) → lo ≤ p → p < hi → value_at ys (suc p) ≡ value_at xs (suc p)
-  pub before : (q : ℕ) → q ≤ lo → value_at ys q ≡ value_at (if ahead then xs else whole_turn false s t xs) q
+  pub before : (q : ℕ) → base < q → q ≤ lo → value_at ys q ≡ value_at (if ahead then xs else whole_turn false s t xs) q
   pub still : (q : ℕ) → hi < q → Still (neighbour s) t q → value_at ys q ≡ value_at xs q
 
-module _ (s : Shape) (t lo hi k : ℕ) (xs ys zs : List ℤ) (long : length xs ≡ points_of s)
-    (apart : (p : ℕ) → lo ≤ p → p < hi → (b : Side) → Apart (neighbour s) t lo hi (neighbour s t b (suc p))) where
-  turned_forward : Comes true s t lo hi xs ys → Stepped true s t lo hi ys k zs → (p : ℕ) → lo ≤ p → p < hi →
+-- So what is apart from them holds what the turn goes by.
+pub comes_apart : (ahead : Bool) {s : Shape} {t base lo hi : ℕ} {xs ys : List ℤ} → length xs ≡ points_of s → Comes ahead s t base lo hi xs ys → (q : ℕ) →
+    Apart (neighbour s) t base lo hi q → value_at (if ahead then xs else whole_turn false s t xs) q ≡ value_at ys q
+comes_apart true {xs = xs} {ys} long came zero apart = value_zero xs ∙ sym (value_zero ys)
+comes_apart false {s} {t} {xs = xs} {ys} long came zero apart = value_zero (whole_turn false s t xs) ∙ sym (value_zero ys)
+comes_apart true {lo = lo} long came (suc p) apart =
+    let known = apart (omega arith) in
+    le_or_lt (suc p) lo
+    (λ low. sym (came.before (suc p) known.0 low))
+    (λ more. sym (came.still (suc p) (known.1 more).0 (known.1 more).1))
+comes_apart false {s} {t} {base} {lo} {xs = xs} long came (suc p) apart =
+    let known = apart (omega arith) in
+    le_or_lt (suc p) lo
+    (λ low. sym (came.before (suc p) known.0 low))
+    (λ more. still_back s t xs long (suc p) (known.1 more).1 ∙ sym (came.still (suc p) (known.1 more).0 (known.1 more).1))
+
+module _ (s : Shape) (t base lo hi k : ℕ) (xs ys zs : List ℤ) (long : length xs ≡ points_of s)
+    (apart : (p : ℕ) → lo ≤ p → p < hi → (b : Side) → Apart (neighbour s) t base lo hi (neighbour s t b (suc p))) where
+  turned_forward : Comes true s t base lo hi xs ys → Stepped true s t lo hi ys k zs → (p : ℕ) → lo ≤ p → p < hi →
       value_at zs (suc p) ≡ value_at (whole_turn true s t xs) (suc p)
   turned_forward came done p from to =
       done.on p from to
       ∙ stepped_is true s t (value_at ys) (suc p)
-      ∙ ap₂ (stepped true) (came.here p from to) (same_sums s t (value_at ys) (value_at xs) (suc p) parent)
+      ∙ ap₂ (stepped true) (came.here p from to)
+      (same_sums s t (value_at ys) (value_at xs) (suc p) (λ b. sym (comes_apart true long came (neighbour s t b (suc p)) (apart p from to b))))
       ∙ stepped_forward (value_at xs (suc p)) (sum_on (neighbour s) t (value_at xs) (suc p))
       ∙ sym (turned_value s t xs long (suc p))
-    where
-      parent : (b : Side) → value_at ys (neighbour s t b (suc p)) ≡ value_at xs (neighbour s t b (suc p))
-      parent b =
-          le_or_lt (neighbour s t b (suc p)) lo
-          (came.before (neighbour s t b (suc p)))
-          (λ more. let high = apart p from to b more in came.still (neighbour s t b (suc p)) high.0 high.1)
 
-  turned_back : Comes false s t lo hi xs ys → Stepped false s t lo hi ys k zs → (p : ℕ) → lo ≤ p → p < hi →
+  turned_back : Comes false s t base lo hi xs ys → Stepped false s t lo hi ys k zs → (p : ℕ) → lo ≤ p → p < hi →
       value_at zs (suc p) ≡ value_at (whole_turn false s t xs) (suc p)
   turned_back came done p from to =
       done.on p from to
       ∙ stepped_is false s t (value_at ys) (suc p)
-      ∙ ap₂ (stepped false) (came.here p from to) (same_sums s t (value_at ys) (value_at (whole_turn false s t xs)) (suc p) parent)
+      ∙ ap₂ (stepped false) (came.here p from to)
+      (same_sums s t (value_at ys) (value_at (whole_turn false s t xs)) (suc p)
+      (λ b. sym (comes_apart false long came (neighbour s t b (suc p)) (apart p from to b))))
       ∙ stepped_back (value_at xs (suc p)) (sum_on (neighbour s) t (value_at (whole_turn false s t xs)) (suc p))
       ∙ sym (former_value s t xs long (suc p))
-    where
-      parent : (b : Side) → value_at ys (neighbour s t b (suc p)) ≡ value_at (whole_turn false s t xs) (neighbour s t b (suc p))
-      parent b =
-          le_or_lt (neighbour s t b (suc p)) lo
-          (came.before (neighbour s t b (suc p)))
-          (λ more.
-          let high = apart p from to b more in
-          came.still (neighbour s t b (suc p)) high.0 high.1 ∙ sym (still_back s t xs long (neighbour s t b (suc p)) high.1))
 
-  pub points_turned : (ahead : Bool) → Comes ahead s t lo hi xs ys → Stepped ahead s t lo hi ys k zs → (p : ℕ) → lo ≤ p → p < hi →
+  pub points_turned : (ahead : Bool) → Comes ahead s t base lo hi xs ys → Stepped ahead s t lo hi ys k zs → (p : ℕ) → lo ≤ p → p < hi →
       value_at zs (suc p) ≡ value_at (whole_turn ahead s t xs) (suc p)
   points_turned true = turned_forward
   points_turned false = turned_back
 
 -- ---- a turn over the whole table
 
-same_points : {ahead : Bool} {s : Shape} {t lo hi lo' hi' : ℕ} {xs ys : List ℤ} → lo ≡ lo' → hi ≡ hi' → Comes ahead s t lo hi xs ys → Comes ahead s t lo' hi' xs ys
+same_points : {ahead : Bool} {s : Shape} {t base lo hi lo' hi' : ℕ} {xs ys : List ℤ} → lo ≡ lo' → hi ≡ hi' → Comes ahead s t base lo hi xs ys →
+    Comes ahead s t base lo' hi' xs ys
 same_points lo hi comes = rw (sym lo, sym hi) comes
 
 -- It comes to the points from number lo to hi − 1.
 came_comes : (ahead : Bool) (s : Shape) (t base k : ℕ) (l : ℕ → ℕ) (xs ys : List ℤ) → length xs ≡ points_of s → end_of base k l ≤ points_of s →
-    ys ≡ came_to ahead s t base k l xs → Comes ahead s t (first_in base k l) (end_of base k l) xs ys
-unfolding came_to
+    ys ≡ came_to ahead s t base k l xs → Comes ahead s t base (first_in base k l) (end_of base k l) xs ys
+unfolding came_to turned_between
 came_comes true s t base k l xs ys long inside came =
     record {
       here = λ p from to. at_code (suc p) ∙ between_low (end_of base k l) (points_of s) new (value_at xs) (suc p) to;
-      before = λ q low. at_code q ∙ between_low (end_of base k l) (points_of s) new (value_at xs) q (omega arith);
+      before = λ q from low. at_code q ∙ between_low (end_of base k l) (points_of s) new (value_at xs) q (omega arith);
       still =
           λ q high still.
           at_code q
@@ -165,7 +171,7 @@ came_comes true s t base k l xs ys long inside came =
 came_comes false s t base k l xs ys long inside came =
     record {
       here = λ p from to. at_code (suc p) ∙ between_high 0 (first_in base k l) result (value_at xs) (suc p) (omega arith) (omega arith);
-      before = before;
+      before = λ q from low. before q low;
       still = λ q high still. at_code q ∙ between_high 0 (first_in base k l) result (value_at xs) q (omega arith) (omega arith);
     }
   where
@@ -188,16 +194,16 @@ module _ {v : Subspace} (seen : Seen v) where
   abbrev place : ℕ
   place = v.facet.line.place
 
-  list_end : v.end ≡ end_of v.facet.base v.facet.axes (at v.vector.levels)
+  pub list_end : v.end ≡ end_of v.facet.base v.facet.axes (at v.vector.levels)
   list_end = omega (arith, seen.end, seen.start)
 
-  pub list_turned : (ahead : Bool) (k : ℕ) (xs ys zs : List ℤ) → length xs ≡ points_of shape → Comes ahead shape place v.start v.end xs ys →
+  pub vector_turned : (ahead : Bool) (k : ℕ) (xs ys zs : List ℤ) → length xs ≡ points_of shape → Comes ahead shape place v.facet.base v.start v.end xs ys →
       Stepped ahead shape place v.start v.end ys k zs → ListTurned ahead shape place v.facet.base v.facet.axes (at v.vector.levels) xs ys zs
-  list_turned ahead k xs ys zs long came done =
+  vector_turned ahead k xs ys zs long came done =
       record {
         holds =
             λ p from to.
-            points_turned shape place v.start v.end k xs ys zs long (list_apart seen) ahead came done p (omega (arith, from, seen.start)) (omega (arith, to, list_end));
+            points_turned shape place v.facet.base v.start v.end k xs ys zs long (list_apart seen) ahead came done p (omega (arith, from, seen.start)) (omega (arith, to, list_end));
         others = λ p elsewhere. done.off p (rw (seen.start, list_end) elsewhere);
       }
 
@@ -205,7 +211,7 @@ module _ {v : Subspace} (seen : Seen v) where
       ys ≡ came_to ahead shape place v.facet.base v.facet.axes (at v.vector.levels) xs →
       ListTurned ahead shape place v.facet.base v.facet.axes (at v.vector.levels) xs ys zs
   work_turned ahead k xs ys zs done long came =
-      list_turned ahead k xs ys zs long
+      vector_turned ahead k xs ys zs long
       (same_points (sym seen.start) (sym list_end)
       (came_comes ahead shape place v.facet.base v.facet.axes (at v.vector.levels) xs ys long (omega (arith, end_inside seen, list_end)) came))
       done

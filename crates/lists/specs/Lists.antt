@@ -20,6 +20,10 @@ whole_turn false s t xs = former_table s t xs
 unfoldable pub between : ℕ → ℕ → (ℕ → ℤ) → (ℕ → ℤ) → ℕ → ℤ
 between lo hi f g = mixed lo g (mixed hi f g)
 
+-- The table with what a whole turn leaves at the points from number lo to hi − 1; the other places hold what they held.
+unfoldable pub turned_between : Bool → Shape → ℕ → ℕ → ℕ → List ℤ → List ℤ
+turned_between ahead s t lo hi xs = values_of (points_of s) (between lo hi (value_at (whole_turn ahead s t xs)) (value_at xs))
+
 -- The value at a code after a step there, its parents' sum read in the same table.
 unfoldable pub stepped_at : Bool → Shape → ℕ → (ℕ → ℤ) → ℕ → ℤ
 stepped_at ahead s t f p = stepped ahead (f p) (sum_on (neighbour s) t f p)
@@ -50,8 +54,8 @@ odd_sums s t xs m = sum_to (odd_at s t xs) m
 -- The table in which a turn that started from xs comes to the level list l. Forward, from the last list down: the lists after it hold what the whole turn
 -- leaves. Back, from the first list up: the lists before it do. All others hold what they held.
 unfoldable pub came_to : Bool → Shape → ℕ → ℕ → ℕ → (ℕ → ℕ) → List ℤ → List ℤ
-came_to true s t base k l xs = values_of (points_of s) (between (end_of base k l) (points_of s) (value_at (whole_turn true s t xs)) (value_at xs))
-came_to false s t base k l xs = values_of (points_of s) (between 0 (first_in base k l) (value_at (whole_turn false s t xs)) (value_at xs))
+came_to true s t base k l xs = turned_between true s t (end_of base k l) (points_of s) xs
+came_to false s t base k l xs = turned_between false s t 0 (first_in base k l) xs
 
 -- The work on a list: its points then hold what the whole turn leaves them, and no other place changes.
 pub record ListTurned (ahead : Bool) (s : Shape) (t base k : ℕ) (l : ℕ → ℕ) (xs before after : List ℤ) : Type 0 where

@@ -240,13 +240,14 @@ module _ {v : Subspace} (s : Seen v) (p : ℕ) (from : v.start ≤ p) (to : p < 
           )
 
     -- Each stands apart from the level vector.
-    pub beside_apart : Apart (neighbour v.facet.line.shape) v.facet.line.place v.start v.end beside
+    pub beside_apart : Apart (neighbour v.facet.line.shape) v.facet.line.place v.facet.base v.start v.end beside
     beside_apart =
         true_or_false (is_border v.own top)
         (λ e some.
-        let high = v.facet.sits.apart q below b (border_is ∙ e) (omega (arith, there, some, s.start)) in
-        (omega (arith, there, high.0, end_in_face s), rw there at high.1))
-        (λ e some. absurd (omega (arith, inner_before e, some)))
+        let apart = v.facet.sits.apart q below b (border_is ∙ e) (omega (arith, there, some)) in
+        let behind = apart.1 apart.0 in
+        (omega (arith, there, apart.0), λ more. (omega (arith, there, behind.0, end_in_face s), rw there at behind.1)))
+        (λ e some. (omega (arith, beside_number e), λ more. absurd (omega (arith, inner_before e, more))))
 
     -- Both by the digit of the axis.
     abbrev at_digit : ℕ

@@ -4,6 +4,7 @@ pub mod Without
 pub mod Seeing
 pub mod Beside
 pub mod Runs
+pub mod Faces
 pub mod Coding
 pub mod Marking
 pub mod Staying

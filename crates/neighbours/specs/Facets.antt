@@ -57,9 +57,10 @@ moved_on (Some rims) x = Some (further rims x)
 
 -- ---- the face
 
--- A code apart from the points number lo to hi − 1: it stands before them; if not, it stands behind them and does not move.
-abbrev pub Apart : Neighbours → ℕ → ℕ → ℕ → ℕ → Type 0
-Apart nb t lo hi q = lo < q → (hi < q) × Still nb t q
+-- A code apart from the points number lo to hi − 1 of a face from number `base` on: if it is a point, it stands in the face before them; if not there, it stands
+-- behind them and does not move.
+abbrev pub Apart : Neighbours → ℕ → ℕ → ℕ → ℕ → ℕ → Type 0
+Apart nb t base lo hi q = 0 < q → (base < q) × (lo < q → (hi < q) × Still nb t q)
 
 -- In the shape s, a face of k inner axes from number `base` on, with the axis of place t in place j among them and so first numbers across the border. Off the
 -- border the neighbours are the parents inside the face; across it they are the same points without the axis, where there are any, and do not move.
@@ -74,4 +75,4 @@ pub record Sits (s : Shape) (t k j base : ℕ) (rims : Option Rims) : Type 0 whe
   pub still : (q : ℕ) → q < points k s.level → (b : Side) → on_border j b (level_at k s.level q) (index_at k s.level q) ≡ true →
       Still (neighbour s) t (neighbour s t b (suc (base + q)))
   pub apart : (q : ℕ) → q < points k s.level → (b : Side) → on_border j b (level_at k s.level q) (index_at k s.level q) ≡ true →
-      Apart (neighbour s) t base (base + points k s.level) (neighbour s t b (suc (base + q)))
+      Apart (neighbour s) t base base (base + points k s.level) (neighbour s t b (suc (base + q)))

@@ -7,5 +7,6 @@ pub mod Joined
 pub mod Coming
 pub mod Standing
 pub mod Meeting
+pub mod Faces
 pub mod Lowering
 pub mod Raising

@@ -1,5 +1,5 @@
--- How many sums of a level list are odd. The parents of its points stand before it, so it is the same in all tables that agree up to its start: the list adds
--- the same to the count in each of them.
+-- How many sums of a level list are odd. The parents of its points stand apart from it, so it is the same in all tables that agree there: the list adds the same
+-- to the count in each of them.
 -- Assumes nothing.
 use mathlib.Core.Path.{◌≡◌, ap₂}
 use mathlib.Core.List.{List}
@@ -13,9 +13,11 @@ use Rattle.integers.proofs.Steps.{odd_small}
 use Rattle.numbering.specs.declared.Side.TheVariants.{Left, Right}
 use Rattle.hierarchy.specs.Turns.{value_at, sum_on}
 use Rattle.shapes.specs.declared.Shape.{Shape}
+use Rattle.grids.specs.Grids.{neighbour}
+use Rattle.neighbours.specs.Facets.{Apart}
 use Rattle.neighbours.specs.declared.subspaces.Subspace.{Subspace}
 use Rattle.neighbours.proofs.Seeing.{seen}
-use Rattle.neighbours.proofs.Beside.{parent_before}
+use Rattle.neighbours.proofs.Beside.{beside_apart}
 use Rattle.lists.specs.Lists.{odd_at, odd_sums}
 
 -- ---- counts
@@ -39,7 +41,7 @@ module _ (s : Shape) (t : ℕ) (xs : List ℤ) where
   odds_few (suc m) = omega (arith, odds_suc m, one_odd m, odds_few m)
 
 -- Two tables with the same sums from number lo on.
-same_growth : (s : Shape) (t : ℕ) (xs ys : List ℤ) (lo hi : ℕ) → lo ≤ hi → ((p : ℕ) → lo ≤ p → p < hi → odd_at s t xs p ≡ odd_at s t ys p) →
+pub same_growth : (s : Shape) (t : ℕ) (xs ys : List ℤ) (lo hi : ℕ) → lo ≤ hi → ((p : ℕ) → lo ≤ p → p < hi → odd_at s t xs p ≡ odd_at s t ys p) →
     odd_sums s t xs hi + odd_sums s t ys lo ≡ odd_sums s t ys hi + odd_sums s t xs lo
 same_growth s t xs ys lo zero le same =
     let none : lo ≡ 0 = omega arith in
@@ -60,15 +62,16 @@ same_growth s t xs ys lo (suc hi) le same =
 
 -- ---- a level list
 
-module _ (v : Subspace) (xs ys : List ℤ) (same : (code : ℕ) → code ≤ v.start → value_at xs code ≡ value_at ys code) where
-  same_odd : (p : ℕ) → v.start ≤ p → p < v.end → odd_at v.line.shape v.line.place xs p ≡ odd_at v.line.shape v.line.place ys p
+module _ (v : Subspace) (xs ys : List ℤ)
+    (same : (code : ℕ) → Apart (neighbour v.facet.line.shape) v.facet.line.place v.facet.base v.start v.end code → value_at xs code ≡ value_at ys code) where
+  same_odd : (p : ℕ) → v.start ≤ p → p < v.end → odd_at v.facet.line.shape v.facet.line.place xs p ≡ odd_at v.facet.line.shape v.facet.line.place ys p
   unfolding odd_at sum_on
   same_odd p from to =
       ap₂ (λ (a b : ℤ). odd_of (a +ℤ b))
-      (same _ (parent_before (seen v) p from to Left))
-      (same _ (parent_before (seen v) p from to Right))
+      (same _ (beside_apart (seen v) p from to Left))
+      (same _ (beside_apart (seen v) p from to Right))
 
-  pub list_odds : (k : ℕ) → odd_sums v.line.shape v.line.place ys v.start + k ≡ odd_sums v.line.shape v.line.place ys v.end →
-      odd_sums v.line.shape v.line.place xs v.start + k ≡ odd_sums v.line.shape v.line.place xs v.end
+  pub list_odds : (k : ℕ) → odd_sums v.facet.line.shape v.facet.line.place ys v.start + k ≡ odd_sums v.facet.line.shape v.facet.line.place ys v.end →
+      odd_sums v.facet.line.shape v.facet.line.place xs v.start + k ≡ odd_sums v.facet.line.shape v.facet.line.place xs v.end
   list_odds k counted =
-      omega (arith, counted, same_growth v.line.shape v.line.place xs ys v.start v.end (omega (arith, (seen v).start, (seen v).end)) same_odd)
+      omega (arith, counted, same_growth v.facet.line.shape v.facet.line.place xs ys v.start v.end (omega (arith, (seen v).end)) same_odd)

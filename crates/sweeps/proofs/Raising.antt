@@ -1,12 +1,13 @@
--- The way back over a table, from the first level list up. Of the level sum that it is at, the first b lists are done, and all lists of the sums below; their
--- points hold what the whole turn leaves them. A level list is worked when all before it are done: its parents stand before it and are final, so its points are
--- final then, and their odd sums are those of the table at the end.
+-- The way back over a face, from the first level list up. Of the level sum that it is at, the first b lists are done, and all lists of the sums below; their
+-- points hold what the whole turn leaves them. A level list is worked when all before it are done: its parents before it are final, and those elsewhere do not
+-- move; so its points are final then, and their odd sums are those of the table at the end. Since a value goes by those of its own line alone, and the parents of
+-- a face's points are in the face or do not move, what the rest of the table holds does not matter.
 -- Assumes nothing.
 use mathlib.Core.Path.{◌≡◌, ap, ap₂, sym, ◌∙◌}
 use mathlib.Core.Bool.{false}
-use mathlib.Core.Logic.{⊎_elim}
+use mathlib.Core.Logic.{inl, inr, ⊎_elim}
 use mathlib.Core.List.{List, ◌∷◌}
-use Prim.Native.Nat.{ℕ, suc, ◌+◌, ◌*◌, ◌%◌, ◌^◌, ◌≤◌, ◌<◌}
+use Prim.Native.Nat.{ℕ, zero, suc, ◌+◌, ◌*◌, ◌%◌, ◌^◌, ◌≤◌, ◌<◌}
 use native.Mathlib.Nat.{mul-suc, mul-zero}
 use native.Mathlib.Omega.{arith}
 use lib.IntN.{ℤ}
@@ -20,162 +21,173 @@ use Rattle.hierarchy.specs.Turns.{value_at}
 use Rattle.shapes.specs.Shapes.{points_of}
 use Rattle.shapes.proofs.Totals.{start_zero}
 use Rattle.grids.specs.Grids.{height}
-use Rattle.grids.specs.Turned.{former_table}
-use Rattle.grids.proofs.Sparse.{points_sparse}
-use Rattle.grids.proofs.Turned.{former_length}
 use Rattle.walks.specs.Walks.{walk_up}
 use Rattle.vectors.specs.declared.LevelVector.{LevelVector}
-use Rattle.neighbours.specs.declared.subspaces.Line.{Line}
+use Rattle.neighbours.specs.declared.facets.Facet.{Facet}
 use Rattle.neighbours.specs.declared.subspaces.Subspace.{Subspace}
-use Rattle.lists.specs.Lists.{odd_sums, list_worked, first_in, end_of, whole_turn, came_to, ListTurned}
+use Rattle.lists.specs.Lists.{odd_sums, turned_between, list_worked, first_in, end_of, whole_turn, ListTurned}
 use Rattle.lists.specs.Steps.{NoLarger}
-use Rattle.lists.proofs.Blocks.{on_line}
+use Rattle.lists.proofs.Turned.{Comes, comes_apart}
 use Rattle.sweeps.specs.Sweeps.{lists_worked}
 use Rattle.sweeps.proofs.Ranks.{first_at, Follows, last_of_all}
 use Rattle.sweeps.proofs.Room.{former_within}
-use Rattle.sweeps.proofs.Parted.{Parted, all_above, below_only, below_codes, parted_within}
-use Rattle.sweeps.proofs.Odds.{odds_none, odds_few}
-use Rattle.sweeps.proofs.Walking.{same_walk, first_worked, none_worked, left_up, up_all, up_first, up_sum, up_none}
-use Rattle.sweeps.proofs.Standing.{Standing, first_at_lem, rank_in, levels_of_rank, end_inside, vector_in}
-use Rattle.sweeps.proofs.Coming.{comes_up, goes_up}
-use Rattle.sweeps.proofs.Meeting.{Met, met_odds}
+use Rattle.sweeps.proofs.Parted.{Parted, none_parted, parted_list, parted_within, moved_up}
+use Rattle.sweeps.proofs.Odds.{odds_few}
+use Rattle.sweeps.proofs.Faces.{former_odds}
+use Rattle.sweeps.proofs.Walking.{worked_long, same_walk, first_worked, none_worked, left_up, up_all, up_first, up_sum, up_none}
+use Rattle.sweeps.proofs.Standing.{Standing, face_end, first_at_lem, rank_in, levels_of_rank, end_inside, vector_in}
+use Rattle.sweeps.proofs.Coming.{vector_worked}
+use Rattle.sweeps.proofs.Meeting.{Met, met_start, met_end, met_odds}
 
 -- The table that the whole turn takes to xs.
-abbrev pub former_on : Line → List ℤ → List ℤ
-former_on line xs = former_table line.shape line.place xs
+abbrev pub former_on : Facet → List ℤ → List ℤ
+former_on facet xs = whole_turn false facet.line.shape facet.line.place xs
 
--- Of the sum the first b lists are done; below number k the table ys is final, and so many sums were odd there.
-pub record Raising (line : Line) (xs : List ℤ) (sum b k odd : ℕ) (ys : List ℤ) : Type 0 where
-  pub first : k ≡ first_at line.shape.axes sum b
-  pub parted : Parted (points_of line.shape) k (former_on line xs) xs ys
-  pub odds : odd ≡ odd_sums line.shape line.place (former_on line xs) k
-  pub walked : lists_worked false line.shape line.place (left_up line.shape.axes line.shape.level sum b) ys
-      ≡ lists_worked false line.shape line.place (walk_up line.shape.axes line.shape.level) xs
+-- Of the sum the first b lists are done; from the first number of the face to number k the table ys is final, and so many sums were odd there.
+pub record Raising (facet : Facet) (xs : List ℤ) (sum b k odd : ℕ) (ys : List ℤ) : Type 0 where
+  pub first : k ≡ facet.base + first_at facet.axes sum b
+  pub parted : Parted (points_of facet.line.shape) facet.base k xs (former_on facet xs) ys
+  pub odds : odd_sums facet.line.shape facet.line.place (former_on facet xs) facet.base + odd
+      ≡ odd_sums facet.line.shape facet.line.place (former_on facet xs) k
+  pub walked : lists_worked false facet.line.shape facet.line.place facet.base facet.axes (left_up facet.axes facet.line.shape.level sum b) ys
+      ≡ lists_worked false facet.line.shape facet.line.place facet.base facet.axes (walk_up facet.axes facet.line.shape.level) xs
 
-module _ (line : Line) (xs : List ℤ) (long : length xs ≡ points_of line.shape) where
-  former_long : length (former_on line xs) ≡ points_of line.shape
-  former_long = former_length line.shape line.place xs
-
-  few_levels : height line.shape ≤ 9
+module _ (facet : Facet) (xs : List ℤ) (long : length xs ≡ points_of facet.line.shape) where
+  few_levels : height facet.line.shape ≤ 9
   unfolding height
-  few_levels = omega (arith, line.top)
+  few_levels = omega (arith, facet.line.top)
 
   -- At the start none is done.
-  pub raising_starts : Raising line xs 0 0 0 0 xs
+  pub raising_starts : Raising facet xs 0 0 facet.base 0 xs
   raising_starts =
       record {
-        first = omega (arith, start_zero line.shape.axes);
-        parted = all_above _ (former_on line xs) xs former_long long;
-        odds = omega (arith, odds_none line.shape line.place (former_on line xs));
-        walked = same_walk false line.shape line.place xs (up_all line.shape.axes line.shape.level);
+        first = omega (arith, start_zero facet.axes);
+        parted = none_parted _ facet.base xs (former_on facet xs) long;
+        odds = omega arith;
+        walked = same_walk false facet.line.shape facet.line.place facet.base facet.axes xs (up_all facet.axes facet.line.shape.level);
       }
 
-  module _ {sum b k odd : ℕ} {ys : List ℤ} (s : Raising line xs sum b k odd ys) where
+  module _ {sum b k odd : ℕ} {ys : List ℤ} (s : Raising facet xs sum b k odd ys) where
     -- The values have room for a step.
-    pub raising_room : NoLarger (2 ^ 55) xs → NoLarger (2 ^ 60) ys
+    pub raising_room : NoLarger (2 ^ 57) xs → NoLarger (2 ^ 61) ys
+    unfolding whole_turn
     raising_room small =
-        parted_within _ (former_on line xs) xs former_long long k ys s.parted (2 ^ 60)
-        (λ code. omega (arith, former_within line.shape line.place xs (2 ^ 55) long few_levels small code))
+        parted_within s.parted (2 ^ 61)
         (λ code. omega (arith, small code))
+        (λ code. omega (arith, former_within facet.line.shape facet.line.place xs (2 ^ 57) long few_levels small code))
 
     -- No more sums are odd than there are points.
     pub raising_few : odd ≤ k
-    raising_few = omega (arith, s.odds, odds_few line.shape line.place (former_on line xs) k)
+    raising_few = omega (arith, s.odds, odds_few facet.line.shape facet.line.place (former_on facet xs) k)
 
     -- Where all lists of the sum are done, none of the next sum is.
-    raising_sum : sum < line.shape.level → b ≡ vectors line.shape.axes sum → Raising line xs (suc sum) 0 k odd ys
+    raising_sum : sum < facet.line.shape.level → b ≡ vectors facet.axes sum → Raising facet xs (suc sum) 0 k odd ys
     raising_sum more all =
         record {
-          first = omega (arith, s.first, ap (first_at line.shape.axes sum) all, mul-zero (2 ^ suc sum), start_suc line.shape.axes sum);
+          first = omega (arith, s.first, ap (first_at facet.axes sum) all, mul-zero (2 ^ suc sum), start_suc facet.axes sum);
           parted = s.parted;
           odds = s.odds;
           walked =
-              same_walk false line.shape line.place ys
-              (sym (ap (left_up line.shape.axes line.shape.level sum) all ∙ up_sum line.shape.axes line.shape.level sum more))
+              same_walk false facet.line.shape facet.line.place facet.base facet.axes ys
+              (sym (ap (left_up facet.axes facet.line.shape.level sum) all ∙ up_sum facet.axes facet.line.shape.level sum more))
               ∙ s.walked;
         }
 
-    -- At the end of the table none is left.
-    module _ (done : k ≡ points_of line.shape) where
-      pub raising_former : ys ≡ former_on line xs
-      raising_former = below_only _ (former_on line xs) xs former_long long k ys s.parted (omega arith)
+    -- At the end of the face none is left.
+    module _ (done : k ≡ face_end facet) where
+      pub raising_former : ys ≡ turned_between false facet.line.shape facet.line.place facet.base (face_end facet) xs
+      unfolding turned_between
+      raising_former = parted_list (rw done at s.parted)
 
-      pub raising_odds : odd ≡ odd_sums line.shape line.place ys (points_of line.shape)
-      raising_odds =
-          s.odds ∙ ap₂ (λ (ws : List ℤ) (m : ℕ). odd_sums line.shape line.place ws m) (sym raising_former) done
+      pub raising_odds : odd_sums facet.line.shape facet.line.place ys facet.base + odd ≡ odd_sums facet.line.shape facet.line.place ys (face_end facet)
+      raising_odds = former_odds facet xs ys long (rw done at s.parted) odd (rw done at s.odds)
 
-  module _ {sum r k odd : ℕ} {ys : List ℤ} (s : Raising line xs sum (suc r) k odd ys) where
+  module _ {sum r k odd : ℕ} {ys : List ℤ} (s : Raising facet xs sum (suc r) k odd ys) where
     -- The list that comes next is the first of those that are left.
-    pub raising_next : {sum' r' : ℕ} → sum' ≤ line.shape.level → Follows line.shape.axes sum r sum' r' → Raising line xs sum' r' k odd ys
+    pub raising_next : {sum' r' : ℕ} → sum' ≤ facet.line.shape.level → Follows facet.axes sum r sum' r' → Raising facet xs sum' r' k odd ys
     raising_next low =
         ⊎_elim
         (λ same. rw (same.0, same.1) s)
         (λ above. rw (above.0, above.1) (raising_sum s (omega (arith, above.0)) above.2))
 
-    pub raising_walked : sum ≤ line.shape.level → r < vectors line.shape.axes sum → k ≡ points_of line.shape →
-        ys ≡ lists_worked false line.shape line.place (walk_up line.shape.axes line.shape.level) xs
+    pub raising_walked : sum ≤ facet.line.shape.level → r < vectors facet.axes sum → k ≡ face_end facet →
+        ys ≡ lists_worked false facet.line.shape facet.line.place facet.base facet.axes (walk_up facet.axes facet.line.shape.level) xs
     raising_walked low in_sum done =
-        let end : first_at line.shape.axes sum r + 2 ^ sum ≡ start line.shape.axes (suc line.shape.level)
-        = omega (arith, s.first, done, mul-suc (2 ^ sum) r, points_sparse line.shape.axes line.shape.level, points_is line.shape.axes line.shape.level) in
-        let all = last_of_all line.shape.axes (omega (arith, line.axis)) sum r in_sum line.shape.level low end in
-        none_worked false line.shape line.place ys
-        (ap₂ (left_up line.shape.axes line.shape.level) all.0 (all.1 ∙ ap (vectors line.shape.axes) all.0) ∙ up_none line.shape.axes line.shape.level)
+        let end : first_at facet.axes sum r + 2 ^ sum ≡ start facet.axes (suc facet.line.shape.level)
+        = omega (arith, s.first, done, mul-suc (2 ^ sum) r, points_is facet.axes facet.line.shape.level) in
+        let all = last_of_all facet.axes (omega (arith, facet.inner)) sum r in_sum facet.line.shape.level low end in
+        none_worked false facet.line.shape facet.line.place facet.base facet.axes ys
+        (ap₂ (left_up facet.axes facet.line.shape.level) all.0 (all.1 ∙ ap (vectors facet.axes) all.0) ∙ up_none facet.axes facet.line.shape.level)
         ∙ s.walked
 
   -- The first list that is left of the sum.
-  module _ {vector : LevelVector} {k odd : ℕ} {ys : List ℤ} (here : Standing line vector)
-      (s : Raising line xs vector.sum (rank (at vector.levels) line.shape.axes) k odd ys) where
-    pub raising_first : k ≡ first_of line.shape.axes (at vector.levels)
-    raising_first = omega (arith, s.first, first_at_lem (vector_in here))
+  module _ {vector : LevelVector} {k odd : ℕ} {ys : List ℤ} (here : Standing facet vector)
+      (s : Raising facet xs vector.sum (rank (at vector.levels) facet.axes) k odd ys) where
+    pub raising_first : k ≡ first_in facet.base facet.axes (at vector.levels)
+    raising_first = s.first ∙ ap (λ (p : ℕ). facet.base + p) (sym (first_at_lem (vector_in here)))
 
     -- Its end, as the code reckons it.
-    pub raising_end : k + 1 * 2 ^ vector.sum % 2 ^ 64 ≡ first_of line.shape.axes (at vector.levels) + 2 ^ vector.sum
-    raising_end = omega (arith, raising_first, one_shifted 64 vector.sum (omega (arith, here.low, line.top)))
+    pub raising_end : k + 1 * 2 ^ vector.sum % 2 ^ 64 ≡ facet.base + first_of facet.axes (at vector.levels) + 2 ^ vector.sum
+    raising_end = omega (arith, raising_first, one_shifted 64 vector.sum (omega (arith, here.low, facet.line.top)))
 
-    ends_list : k + 1 * 2 ^ vector.sum % 2 ^ 64 ≡ end_of line.shape (at vector.levels)
-    ends_list = raising_end ∙ ap (λ (u : ℕ). first_of line.shape.axes (at vector.levels) + 2 ^ u) (sym (vector_in here).total)
+    ends_list : k + 1 * 2 ^ vector.sum % 2 ^ 64 ≡ end_of facet.base facet.axes (at vector.levels)
+    ends_list = raising_end ∙ ap (λ (u : ℕ). facet.base + first_of facet.axes (at vector.levels) + 2 ^ u) (sym (vector_in here).total)
 
-    pub raising_inside : k + 1 * 2 ^ vector.sum % 2 ^ 64 ≤ points_of line.shape
-    raising_inside = omega (arith, raising_end, end_inside here, points_sparse line.shape.axes line.shape.level)
+    pub raising_inside : k + 1 * 2 ^ vector.sum % 2 ^ 64 ≤ face_end facet
+    raising_inside = omega (arith, raising_end, end_inside here)
 
-    came : ys ≡ came_to false line.shape line.place (at vector.levels) xs
-    unfolding whole_turn
-    came = comes_up line.shape.axes line.shape.level line.place xs (on_line line long) (at vector.levels) ys (rw raising_first at s.parted)
+    -- The turn comes to it.
+    before : (q : ℕ) → facet.base < q → q ≤ k → value_at ys q ≡ value_at (former_on facet xs) q
+    before zero from low = absurd (omega arith)
+    before (suc p) from low = s.parted.inside p (omega arith) (omega arith)
 
-    list_first : left_up line.shape.axes line.shape.level vector.sum (rank (at vector.levels) line.shape.axes) ≡ at vector.levels ∷ left_up line.shape.axes line.shape.level vector.sum (suc (rank (at vector.levels) line.shape.axes))
+    still : (q : ℕ) → k < q → value_at ys q ≡ value_at xs q
+    still zero high = absurd (omega arith)
+    still (suc p) high = s.parted.others p (inr (omega arith))
+
+    comes : Comes false facet.line.shape facet.line.place facet.base (first_in facet.base facet.axes (at vector.levels)) (end_of facet.base facet.axes (at vector.levels)) xs ys
+    comes =
+        record {
+          here = λ p from to. s.parted.others p (inr (omega (arith, from, raising_first)));
+          before = λ q from low. before q from (omega (arith, low, raising_first));
+          still = λ q high stays. still q (omega (arith, high, raising_first));
+        }
+
+    list_first : left_up facet.axes facet.line.shape.level vector.sum (rank (at vector.levels) facet.axes) ≡ at vector.levels ∷ left_up facet.axes facet.line.shape.level vector.sum (suc (rank (at vector.levels) facet.axes))
     list_first =
-        up_first line.shape.axes line.shape.level vector.sum (rank (at vector.levels) line.shape.axes) (rank_in (vector_in here))
-        ∙ ap (λ (l : ℕ → ℕ). l ∷ left_up line.shape.axes line.shape.level vector.sum (suc (rank (at vector.levels) line.shape.axes))) (levels_of_rank (vector_in here))
+        up_first facet.axes facet.line.shape.level vector.sum (rank (at vector.levels) facet.axes) (rank_in (vector_in here))
+        ∙ ap (λ (l : ℕ → ℕ). l ∷ left_up facet.axes facet.line.shape.level vector.sum (suc (rank (at vector.levels) facet.axes))) (levels_of_rank (vector_in here))
 
-    module _ (zs : List ℤ) (more : ℕ) (worked : zs ≡ list_worked false line.shape line.place (at vector.levels) ys)
-        (counted : odd_sums line.shape line.place (former_on line xs) (first_in line.shape (at vector.levels)) + more
-        ≡ odd_sums line.shape line.place (former_on line xs) (end_of line.shape (at vector.levels)))
-        (turned : ListTurned false line.shape line.place (at vector.levels) xs ys zs) where
-      list_parted : Parted (points_of line.shape) (end_of line.shape (at vector.levels)) (former_on line xs) xs zs
-      unfolding whole_turn
-      list_parted = rw worked (goes_up line.shape.axes line.shape.level line.place xs (on_line line long) (at vector.levels) ys (rw raising_first at s.parted) (rw worked at turned))
+    module _ (zs : List ℤ) (more : ℕ) (worked : zs ≡ list_worked false facet.line.shape facet.line.place facet.base facet.axes (at vector.levels) ys)
+        (counted : odd_sums facet.line.shape facet.line.place (former_on facet xs) (first_in facet.base facet.axes (at vector.levels)) + more
+        ≡ odd_sums facet.line.shape facet.line.place (former_on facet xs) (end_of facet.base facet.axes (at vector.levels)))
+        (turned : ListTurned false facet.line.shape facet.line.place facet.base facet.axes (at vector.levels) xs ys zs) where
+      list_parted : Parted (points_of facet.line.shape) facet.base (end_of facet.base facet.axes (at vector.levels)) xs (former_on facet xs) zs
+      list_parted =
+          moved_up s.parted zs
+          (ap length worked ∙ worked_long false facet.line.shape facet.line.place facet.base facet.axes (at vector.levels) ys)
+          (end_of facet.base facet.axes (at vector.levels)) (omega (arith, raising_first)) (omega (arith, raising_first))
+          (λ p from to. turned.holds p (omega (arith, from, raising_first)) to)
+          (λ p outside. turned.others p (⊎_elim (λ low. inl (omega (arith, low, raising_first))) (λ high. inr high) outside))
 
-      list_done : Raising line xs vector.sum (suc (rank (at vector.levels) line.shape.axes)) (end_of line.shape (at vector.levels)) (odd + more) zs
+      list_done : Raising facet xs vector.sum (suc (rank (at vector.levels) facet.axes)) (end_of facet.base facet.axes (at vector.levels)) (odd + more) zs
       list_done =
           record {
-            first = omega (arith, ends_list, raising_end, first_at_lem (vector_in here), mul-suc (2 ^ vector.sum) (rank (at vector.levels) line.shape.axes));
+            first = omega (arith, ends_list, raising_end, first_at_lem (vector_in here), mul-suc (2 ^ vector.sum) (rank (at vector.levels) facet.axes));
             parted = list_parted;
-            odds = omega (arith, counted, s.odds, ap (odd_sums line.shape line.place (former_on line xs)) raising_first);
-            walked = first_worked false line.shape line.place ys zs list_first worked ∙ s.walked;
+            odds = omega (arith, counted, s.odds, ap (odd_sums facet.line.shape facet.line.place (former_on facet xs)) raising_first);
+            walked = first_worked false facet.line.shape facet.line.place facet.base facet.axes ys zs list_first worked ∙ s.walked;
           }
 
     -- As it is met: the work on it does its part of the turn.
-    pub raising_worked : (v : Subspace) → Met line vector v → (zs : List ℤ) (more : ℕ) →
-        zs ≡ list_worked false v.line.shape v.line.place (at v.vector.levels) ys →
-        odd_sums v.line.shape v.line.place ys v.start + more ≡ odd_sums v.line.shape v.line.place ys v.end →
-        ((ws : List ℤ) → length ws ≡ length ys → ys ≡ came_to false v.line.shape v.line.place (at v.vector.levels) ws →
-        ListTurned false v.line.shape v.line.place (at v.vector.levels) ws ys zs) →
-        Raising line xs vector.sum (suc (rank (at vector.levels) line.shape.axes)) (k + 1 * 2 ^ vector.sum % 2 ^ 64) (odd + more) zs
-    raising_worked v m zs more worked counted turned =
-        let held : (code : ℕ) → code ≤ k → value_at (former_on line xs) code ≡ value_at ys code
-        = below_codes _ (former_on line xs) xs former_long long k ys s.parted in
+    pub raising_worked : (v : Subspace) → Met facet vector v → (zs : List ℤ) (more : ℕ) →
+        zs ≡ list_worked false v.facet.line.shape v.facet.line.place v.facet.base v.facet.axes (at v.vector.levels) ys →
+        odd_sums v.facet.line.shape v.facet.line.place ys v.start + more ≡ odd_sums v.facet.line.shape v.facet.line.place ys v.end →
+        Raising facet xs vector.sum (suc (rank (at vector.levels) facet.axes)) (k + 1 * 2 ^ vector.sum % 2 ^ 64) (odd + more) zs
+    raising_worked v m zs more worked counted =
+        let turned = vector_worked v false xs ys (rw m.on long) (rw m.on s.parted.long) (rw (m.on, met_start v m, met_end v m) comes) in
+        let now = rw (m.on, m.same) at worked in
         rw ends_list
-        (list_done zs more
-        (rw (m.on, m.same) at worked)
-        (met_odds v m (former_on line xs) ys (λ code h. held code (omega (arith, raising_first))) more counted)
-        (rw (m.on, m.same) at (turned xs (long ∙ sym s.parted.long) (rw (m.on, m.same) came))))
+        (list_done zs more now
+        (met_odds v m (former_on facet xs) ys (comes_apart false long comes) more counted)
+        (rw now (rw (m.on, m.same) at turned)))

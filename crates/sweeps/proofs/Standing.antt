@@ -1,14 +1,12 @@
--- The level list at which a way over the table stands: a level vector of the shape, with its sum. It is known by its sum and its rank, and by the number of its
+-- The level list at which a way over a face stands: a level vector of the face, with its sum. It is known by its sum and its rank, and by the number of its
 -- first point. Forward, a way begins at the one that the last point lies in.
 -- Assumes nothing.
 use mathlib.Core.Logic.{⊎_elim}
 use mathlib.Core.List.{List}
 use mathlib.Core.Path.{◌≡◌, ap, sym, ◌∙◌, fun_ext}
-use Prim.Native.Nat.{ℕ, suc, ◌+◌, ◌-◌, ◌%◌, ◌^◌, ◌≤◌, ◌<◌}
+use Prim.Native.Nat.{ℕ, suc, ◌+◌, ◌%◌, ◌^◌, ◌≤◌, ◌<◌}
 use native.Mathlib.Nat.{mod-lt}
 use native.Mathlib.Omega.{arith}
-use lib.IntN.{ℤ}
-use lib.ListN.{length}
 use lib.Pow.{pow_pos}
 use Rattle.naturals.proofs.Cases.{le_or_lt}
 use Rattle.numbering.specs.Count.{vectors, points}
@@ -20,23 +18,21 @@ use Rattle.numbering.proofs.Unrank.{level_of_rank, level_past}
 use Rattle.numbering.proofs.Numbering.{points_is, start_mono, level_zero}
 use Rattle.numbering.proofs.Succession.{rank_first}
 use Rattle.numbering.proofs.Subspaces.{first_is, number_behind_first}
-use Rattle.shapes.specs.Shapes.{points_of}
-use Rattle.grids.proofs.Sparse.{points_sparse}
 use Rattle.vectors.specs.Steps.{VectorIn, NextVector, PreviousVector}
 use Rattle.vectors.specs.declared.LevelVector.{LevelVector}
 use Rattle.vectors.proofs.Following.{no_levels}
 use Rattle.points.specs.Points.{eight}
 use Rattle.points.proofs.Eight.{eight_whole}
-use Rattle.neighbours.specs.declared.subspaces.Line.{Line}
+use Rattle.neighbours.specs.declared.facets.Facet.{Facet}
 use Rattle.sweeps.proofs.Ranks.{first_at, end_le, some_points, Follows, following, last_of_all}
 
--- A level vector of the shape.
-pub record Standing (line : Line) (vector : LevelVector) : Type 0 where
-  pub same : vector.axes ≡ line.shape.axes
-  pub low : vector.sum ≤ line.shape.level
+-- A level vector of the face.
+pub record Standing (facet : Facet) (vector : LevelVector) : Type 0 where
+  pub same : vector.axes ≡ facet.axes
+  pub low : vector.sum ≤ facet.line.shape.level
 
-pub vector_in : {line : Line} {vector : LevelVector} → Standing line vector → VectorIn line.shape.axes vector.sum vector.levels
-vector_in {line} {vector} s = rw s.same at vector.vector
+pub vector_in : {facet : Facet} {vector : LevelVector} → Standing facet vector → VectorIn facet.axes vector.sum vector.levels
+vector_in {facet} {vector} s = rw s.same at vector.vector
 
 module _ {d sum : ℕ} {ls : List ℕ} (vector : VectorIn d sum ls) where
   pub first_at_lem : first_of d (at ls) ≡ first_at d sum (rank (at ls) d)
@@ -54,45 +50,45 @@ module _ {d sum : ℕ} {ls : List ℕ} (vector : VectorIn d sum ls) where
       (λ past. level_past d sum (rank (at ls) d) t past ∙ sym (vector.rest t past))
       (λ axis. ap (λ (s : ℕ). level_of d s (rank (at ls) d) t) (sym vector.total) ∙ level_of_rank (at ls) d t axis))
 
-  -- It is one of the shape if its first point is.
+  -- It is one of the face if its first point is.
   pub sum_inside : (n : ℕ) → first_of d (at ls) < points d n → sum ≤ n
   sum_inside n inside =
       le_or_lt sum n (λ low. low)
       (λ high. absurd (omega (arith, inside, first_at_lem, points_is d n, start_mono d (suc n) sum high)))
 
-module _ {line : Line} {vector : LevelVector} (s : Standing line vector) where
-  pub end_inside : first_of line.shape.axes (at vector.levels) + 2 ^ vector.sum ≤ points line.shape.axes line.shape.level
+module _ {facet : Facet} {vector : LevelVector} (s : Standing facet vector) where
+  pub end_inside : first_of facet.axes (at vector.levels) + 2 ^ vector.sum ≤ points facet.axes facet.line.shape.level
   end_inside =
       omega (
         arith,
         first_at_lem (vector_in s),
-        end_le line.shape.axes vector.sum (rank (at vector.levels) line.shape.axes) (rank_in (vector_in s)),
-        start_mono line.shape.axes (suc vector.sum) (suc line.shape.level) (omega (arith, s.low)),
-        points_is line.shape.axes line.shape.level,
+        end_le facet.axes vector.sum (rank (at vector.levels) facet.axes) (rank_in (vector_in s)),
+        start_mono facet.axes (suc vector.sum) (suc facet.line.shape.level) (omega (arith, s.low)),
+        points_is facet.axes facet.line.shape.level,
       )
 
 -- The first of all has no level, so none comes before it.
-pub first_standing : (line : Line) (vector : LevelVector) → (vector.axes ≡ line.shape.axes) × (vector.sum ≡ 0) → Standing line vector
-first_standing line vector first = record { same = first.0; low = omega (arith, first.1) }
+pub first_standing : (facet : Facet) (vector : LevelVector) → (vector.axes ≡ facet.axes) × (vector.sum ≡ 0) → Standing facet vector
+first_standing facet vector first = record { same = first.0; low = omega (arith, first.1) }
 
-pub first_rank : (line : Line) (vector : LevelVector) → (vector.axes ≡ line.shape.axes) × (vector.sum ≡ 0) → rank (at vector.levels) line.shape.axes ≡ 0
-first_rank line vector first =
-    rank_first (at vector.levels) line.shape.axes (λ t some axis. no_levels (rw (first.0, first.1) at vector.vector) t)
+pub first_rank : (facet : Facet) (vector : LevelVector) → (vector.axes ≡ facet.axes) × (vector.sum ≡ 0) → rank (at vector.levels) facet.axes ≡ 0
+first_rank facet vector first =
+    rank_first (at vector.levels) facet.axes (λ t some axis. no_levels (rw (first.0, first.1) at vector.vector) t)
 
 -- ---- the one before and the next
 
-module _ {line : Line} {vector : LevelVector} (s : Standing line vector) (vector' : LevelVector) where
+module _ {facet : Facet} {vector : LevelVector} (s : Standing facet vector) (vector' : LevelVector) where
   module _ (stepped : (vector'.axes ≡ vector.axes) × PreviousVector vector.axes vector.sum vector.levels vector'.sum vector'.levels) where
-    before : PreviousVector line.shape.axes vector.sum vector.levels vector'.sum vector'.levels
+    before : PreviousVector facet.axes vector.sum vector.levels vector'.sum vector'.levels
     before = rw s.same at stepped.1
 
-    pub previous_follows : Follows line.shape.axes vector'.sum (rank (at vector'.levels) line.shape.axes) vector.sum (rank (at vector.levels) line.shape.axes)
+    pub previous_follows : Follows facet.axes vector'.sum (rank (at vector'.levels) facet.axes) vector.sum (rank (at vector.levels) facet.axes)
     previous_follows =
-        following line.shape.axes (omega (arith, line.axis)) vector'.sum (rank (at vector'.levels) line.shape.axes) (rank_in before.vector)
-        vector.sum (rank (at vector.levels) line.shape.axes) (rank_in (vector_in s))
+        following facet.axes (omega (arith, facet.inner)) vector'.sum (rank (at vector'.levels) facet.axes) (rank_in before.vector)
+        vector.sum (rank (at vector.levels) facet.axes) (rank_in (vector_in s))
         (omega (arith, before.first, first_at_lem (vector_in s), first_at_lem before.vector))
 
-    pub previous_standing : Standing line vector'
+    pub previous_standing : Standing facet vector'
     previous_standing =
         record {
           same = stepped.0 ∙ s.same;
@@ -100,58 +96,59 @@ module _ {line : Line} {vector : LevelVector} (s : Standing line vector) (vector
         }
 
   module _ (stepped : (vector'.axes ≡ vector.axes) × NextVector vector.axes vector.sum vector.levels vector'.sum vector'.levels) where
-    next : NextVector line.shape.axes vector.sum vector.levels vector'.sum vector'.levels
+    next : NextVector facet.axes vector.sum vector.levels vector'.sum vector'.levels
     next = rw s.same at stepped.1
 
-    pub next_follows : Follows line.shape.axes vector.sum (rank (at vector.levels) line.shape.axes) vector'.sum (rank (at vector'.levels) line.shape.axes)
+    pub next_follows : Follows facet.axes vector.sum (rank (at vector.levels) facet.axes) vector'.sum (rank (at vector'.levels) facet.axes)
     next_follows =
-        following line.shape.axes (omega (arith, line.axis)) vector.sum (rank (at vector.levels) line.shape.axes) (rank_in (vector_in s))
-        vector'.sum (rank (at vector'.levels) line.shape.axes) (rank_in next.vector)
+        following facet.axes (omega (arith, facet.inner)) vector.sum (rank (at vector.levels) facet.axes) (rank_in (vector_in s))
+        vector'.sum (rank (at vector'.levels) facet.axes) (rank_in next.vector)
         (omega (arith, next.first, first_at_lem (vector_in s), first_at_lem next.vector))
 
-    -- It is one of the shape if the other ends before the table does.
-    pub next_standing : first_of line.shape.axes (at vector.levels) + 2 ^ vector.sum < points line.shape.axes line.shape.level → Standing line vector'
+    -- It is one of the face if the other ends before the table does.
+    pub next_standing : first_of facet.axes (at vector.levels) + 2 ^ vector.sum < points facet.axes facet.line.shape.level → Standing facet vector'
     next_standing more =
-        record { same = stepped.0 ∙ s.same; low = sum_inside next.vector line.shape.level (omega (arith, next.first, more)) }
+        record { same = stepped.0 ∙ s.same; low = sum_inside next.vector facet.line.shape.level (omega (arith, next.first, more)) }
 
 -- ---- the one that the last point lies in
 
--- A table has points, N in all.
-module _ (line : Line) (xs : List ℤ) (long : length xs ≡ points_of line.shape) where
-  pub places : length xs ≡ points line.shape.axes line.shape.level
-  places = omega (arith, long, points_sparse line.shape.axes line.shape.level)
+-- The number after the last point of a face.
+abbrev pub face_end : Facet → ℕ
+face_end facet = facet.base + points facet.axes facet.line.shape.level
 
-  pub some_place : 1 ≤ length xs
-  some_place = omega (arith, places, some_points line.shape.axes line.shape.level (omega (arith, line.axis)))
+module _ (facet : Facet) where
+  -- A face has points.
+  pub some_place : 1 ≤ points facet.axes facet.line.shape.level
+  some_place = some_points facet.axes facet.line.shape.level (omega (arith, facet.inner))
 
-  module _ (vector : LevelVector) (same : vector.axes ≡ line.shape.axes) (sum_is : vector.sum ≡ sum_at line.shape.axes line.shape.level (length xs - 1))
-      (levels_are : vector.levels ≡ eight (level_at line.shape.axes line.shape.level (length xs - 1))) where
-    inside : length xs - 1 < points line.shape.axes line.shape.level
-    inside = omega (arith, places, some_place)
+  module _ (vector : LevelVector) (last : ℕ) (last_is : suc last ≡ points facet.axes facet.line.shape.level) (same : vector.axes ≡ facet.axes)
+      (sum_is : vector.sum ≡ sum_at facet.axes facet.line.shape.level last)
+      (levels_are : vector.levels ≡ eight (level_at facet.axes facet.line.shape.level last)) where
+    inside : last < points facet.axes facet.line.shape.level
+    inside = omega (arith, last_is)
 
-    here : VectorIn line.shape.axes vector.sum vector.levels
+    here : VectorIn facet.axes vector.sum vector.levels
     here = rw same at vector.vector
 
-    whole : at vector.levels ≡ level_at line.shape.axes line.shape.level (length xs - 1)
-    whole = ap at levels_are ∙ eight_whole _ (λ u h. level_zero line.shape.axes line.shape.level (length xs - 1) u (omega (arith, line.few)))
+    whole : at vector.levels ≡ level_at facet.axes facet.line.shape.level last
+    whole = ap at levels_are ∙ eight_whole _ (λ u h. level_zero facet.axes facet.line.shape.level last u (omega (arith, facet.few)))
 
-    behind : first_of line.shape.axes (at vector.levels) + within line.shape.axes line.shape.level (length xs - 1) % 2 ^ vector.sum ≡ length xs - 1
-    behind = rw (whole, sum_is) (number_behind_first line.shape.axes line.shape.level (length xs - 1) inside)
+    behind : first_of facet.axes (at vector.levels) + within facet.axes facet.line.shape.level last % 2 ^ vector.sum ≡ last
+    behind = rw (whole, sum_is) (number_behind_first facet.axes facet.line.shape.level last inside)
 
-    pub last_standing : Standing line vector
-    last_standing = record { same = same; low = sum_inside here line.shape.level (omega (arith, behind, inside)) }
+    pub last_standing : Standing facet vector
+    last_standing = record { same = same; low = sum_inside here facet.line.shape.level (omega (arith, behind, inside)) }
 
     -- It ends with the last point, so it is the last of the top level.
-    pub last_of_table : (vector.sum ≡ line.shape.level) × (suc (rank (at vector.levels) line.shape.axes) ≡ vectors line.shape.axes vector.sum)
-    last_of_table =
-        last_of_all line.shape.axes (omega (arith, line.axis)) vector.sum (rank (at vector.levels) line.shape.axes) (rank_in here) line.shape.level last_standing.low
+    pub last_of_face : (vector.sum ≡ facet.line.shape.level) × (suc (rank (at vector.levels) facet.axes) ≡ vectors facet.axes vector.sum)
+    last_of_face =
+        last_of_all facet.axes (omega (arith, facet.inner)) vector.sum (rank (at vector.levels) facet.axes) (rank_in here) facet.line.shape.level last_standing.low
         (omega (
           arith,
           behind,
-          mod-lt (within line.shape.axes line.shape.level (length xs - 1)) (pow_pos vector.sum),
+          mod-lt (within facet.axes facet.line.shape.level last) (pow_pos vector.sum),
           end_inside last_standing,
           first_at_lem here,
-          points_is line.shape.axes line.shape.level,
-          places,
-          some_place,
+          points_is facet.axes facet.line.shape.level,
+          last_is,
         ))

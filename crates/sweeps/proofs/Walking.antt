@@ -21,28 +21,28 @@ use Rattle.sweeps.specs.Sweeps.{lists_worked}
 
 -- ---- work
 
-module _ (ahead : Bool) (s : Shape) (t : ℕ) where
-  pub worked_long : (l : Levels) (xs : List ℤ) → length (list_worked ahead s t l xs) ≡ points_of s
+module _ (ahead : Bool) (s : Shape) (t base k : ℕ) where
+  pub worked_long : (l : Levels) (xs : List ℤ) → length (list_worked ahead s t base k l xs) ≡ points_of s
   unfolding list_worked stepped_between
   worked_long l xs = values_length (points_of s) _
 
-  no_lists : (xs : List ℤ) → lists_worked ahead s t [] xs ≡ xs
+  no_lists : (xs : List ℤ) → lists_worked ahead s t base k [] xs ≡ xs
   unfolding lists_worked
   no_lists xs = refl
 
-  lists_worked_lem : (l : Levels) (ls : List Levels) (xs : List ℤ) → lists_worked ahead s t (l ∷ ls) xs ≡ lists_worked ahead s t ls (list_worked ahead s t l xs)
+  lists_worked_lem : (l : Levels) (ls : List Levels) (xs : List ℤ) → lists_worked ahead s t base k (l ∷ ls) xs ≡ lists_worked ahead s t base k ls (list_worked ahead s t base k l xs)
   unfolding lists_worked
   lists_worked_lem l ls xs = refl
 
-  pub same_walk : {ls ms : List Levels} (xs : List ℤ) → ls ≡ ms → lists_worked ahead s t ls xs ≡ lists_worked ahead s t ms xs
-  same_walk xs e = ap (λ (ls : List Levels). lists_worked ahead s t ls xs) e
+  pub same_walk : {ls ms : List Levels} (xs : List ℤ) → ls ≡ ms → lists_worked ahead s t base k ls xs ≡ lists_worked ahead s t base k ms xs
+  same_walk xs e = ap (λ (ls : List Levels). lists_worked ahead s t base k ls xs) e
 
   -- The walk ls with its first list done.
-  pub first_worked : {l : Levels} {ls ms : List Levels} (xs ys : List ℤ) → ls ≡ l ∷ ms → ys ≡ list_worked ahead s t l xs →
-      lists_worked ahead s t ms ys ≡ lists_worked ahead s t ls xs
-  first_worked {l} {ls} {ms} xs ys e worked = ap (lists_worked ahead s t ms) worked ∙ sym (lists_worked_lem l ms xs) ∙ same_walk xs (sym e)
+  pub first_worked : {l : Levels} {ls ms : List Levels} (xs ys : List ℤ) → ls ≡ l ∷ ms → ys ≡ list_worked ahead s t base k l xs →
+      lists_worked ahead s t base k ms ys ≡ lists_worked ahead s t base k ls xs
+  first_worked {l} {ls} {ms} xs ys e worked = ap (lists_worked ahead s t base k ms) worked ∙ sym (lists_worked_lem l ms xs) ∙ same_walk xs (sym e)
 
-  pub none_worked : {ls : List Levels} (xs : List ℤ) → ls ≡ [] → xs ≡ lists_worked ahead s t ls xs
+  pub none_worked : {ls : List Levels} (xs : List ℤ) → ls ≡ [] → xs ≡ lists_worked ahead s t base k ls xs
   none_worked xs e = sym (same_walk xs e ∙ no_lists xs)
 
 -- ---- down

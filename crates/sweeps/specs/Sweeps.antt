@@ -5,7 +5,7 @@ use Rattle.shapes.specs.declared.Shape.{Shape}
 use Rattle.walks.specs.Walks.{Levels}
 use Rattle.lists.specs.Lists.{list_worked}
 
--- The work on the level lists of a walk, in its order.
-unfoldable pub lists_worked : Bool → Shape → ℕ → List Levels → List ℤ → List ℤ
-lists_worked ahead s t [] xs = xs
-lists_worked ahead s t (l ∷ ls) xs = lists_worked ahead s t ls (list_worked ahead s t l xs)
+-- In the face of k inner axes from number `base` on: the work on the level lists of a walk, in its order.
+unfoldable pub lists_worked : Bool → Shape → ℕ → ℕ → ℕ → List Levels → List ℤ → List ℤ
+lists_worked ahead s t base k [] xs = xs
+lists_worked ahead s t base k (l ∷ ls) xs = lists_worked ahead s t base k ls (list_worked ahead s t base k l xs)

@@ -1,37 +1,42 @@
-// The two ways over a table, in the one lent buffer, level list by level list: forward from the highest level sum down, back from the lowest up.
+// The two ways over a table, in the one lent buffer, face by face and level list by level list: forward from the highest level sum down, back from the lowest up.
 #![tactic(auto)]
 
-ghost use Rattle.std.specs.Prelude.{true, false, ◌≡◌, ◌^◌};
+ghost use Rattle.std.specs.Prelude.{true, false, ◌≡◌, ◌+◌, ◌^◌};
+ghost use Rattle.numbering.specs.Count.{points};
 ghost use Rattle.shapes.specs.Shapes.{points_of};
 ghost use Rattle.grids.specs.Turned.{turned_table, former_table};
 ghost use Rattle.walks.specs.Walks.{walk_up, walk_down};
-ghost use Rattle.lists.specs.Lists.{odd_sums};
+ghost use Rattle.lists.specs.Lists.{odd_sums, turned_between};
 ghost use Rattle.lists.specs.Steps.{TableOf};
 ghost use Rattle.sweeps.specs.Sweeps.{lists_worked};
 
 use cursors::Starts;
 use integers::{Back, Forward};
-use neighbours::{Line, Subspace};
+use neighbours::{Facet, Line, Subspace};
 use vectors::LevelVector;
 
-// The forward turn of a table, whether or not it is accepted: the level lists from the last down. Answers how many sums were odd.
-pub fn lower(line: Line, table: &mut [i64]) -> u64
-    requires { TableOf line.shape (2 ^ 59) table.old }
-    ensures walked { table.new ≡ lists_worked true line.shape line.place (walk_down line.shape.axes line.shape.level) table.old }
-    ensures turned { table.new ≡ turned_table line.shape line.place table.old }
-    ensures odds { result ≡ odd_sums line.shape line.place table.old (points_of line.shape) }
+// ---- one face
+
+// The points of a face as the forward turn of the table leaves them, whether or not it is accepted: the level lists from the last down. Answers how many sums were
+// odd.
+pub fn lower_face(facet: Facet, table: &mut [i64]) -> u64
+    requires { TableOf facet.line.shape (2 ^ 60) table.old }
+    ensures walked { table.new ≡ lists_worked true facet.line.shape facet.line.place facet.base facet.axes (walk_down facet.axes facet.line.shape.level) table.old }
+    ensures turned { table.new ≡ turned_between true facet.line.shape facet.line.place facet.base (facet.base + points facet.axes facet.line.shape.level) table.old }
+    ensures odds { odd_sums facet.line.shape facet.line.place table.old facet.base + result ≡ odd_sums facet.line.shape facet.line.place table.old (facet.base + points facet.axes facet.line.shape.level) }
 {
-    let starts = Starts::of(line);
-    let mut start = table.len() as u64;
-    let mut vector = numbers::vector_at(line.shape.axes, line.shape.level, start - 1).vector;
+    let starts = Starts::of(facet);
+    let mut start = starts.end();
+    let last = start - facet.base - 1;
+    let mut vector = numbers::vector_at(facet.axes, facet.line.shape.level, last).vector;
     let mut cursors = starts.after_last(vector.sum);
     let mut odd: u64 = 0;
     loop {
         start -= 1 << vector.sum;
-        let v = Subspace::on(line, &vector, start);
+        let v = Subspace::on(facet, &vector, start);
         cursors::pass_back(v, &mut cursors);
         odd += lists::work::<Forward>(v, &cursors, table);
-        if start == 0 {
+        if start == facet.base {
             return odd;
         }
         vector.previous();
@@ -41,24 +46,26 @@ pub fn lower(line: Line, table: &mut [i64]) -> u64
     }
 }
 
-// The table that a forward turn takes to this one, whether or not that turn is accepted: the level lists from the first up. Answers how many sums were odd.
+// The points of a face as they are in the table that a forward turn takes to this one, whether or not that turn is accepted: the level lists from the first up.
+// Answers how many sums were odd.
 // (A loop of its own: here the cursors step on after the work on a list, there they step back before it; shared would be the work and the count alone.)
-pub fn raise(line: Line, table: &mut [i64]) -> u64
-    requires { TableOf line.shape (2 ^ 55) table.old }
-    ensures walked { table.new ≡ lists_worked false line.shape line.place (walk_up line.shape.axes line.shape.level) table.old }
-    ensures turned { table.new ≡ former_table line.shape line.place table.old }
-    ensures odds { result ≡ odd_sums line.shape line.place table.new (points_of line.shape) }
+pub fn raise_face(facet: Facet, table: &mut [i64]) -> u64
+    requires { TableOf facet.line.shape (2 ^ 57) table.old }
+    ensures walked { table.new ≡ lists_worked false facet.line.shape facet.line.place facet.base facet.axes (walk_up facet.axes facet.line.shape.level) table.old }
+    ensures turned { table.new ≡ turned_between false facet.line.shape facet.line.place facet.base (facet.base + points facet.axes facet.line.shape.level) table.old }
+    ensures odds { odd_sums facet.line.shape facet.line.place table.new facet.base + result ≡ odd_sums facet.line.shape facet.line.place table.new (facet.base + points facet.axes facet.line.shape.level) }
 {
-    let starts = Starts::of(line);
-    let mut start: u64 = 0;
-    let mut vector = LevelVector::first(line.shape.axes);
+    let starts = Starts::of(facet);
+    let end = starts.end();
+    let mut start = facet.base;
+    let mut vector = LevelVector::first(facet.axes);
     let mut cursors = starts.before_first(vector.sum);
     let mut odd: u64 = 0;
     loop {
-        let v = Subspace::on(line, &vector, start);
+        let v = Subspace::on(facet, &vector, start);
         odd += lists::work::<Back>(v, &cursors, table);
         start += 1 << vector.sum;
-        if start == table.len() as u64 {
+        if start == end {
             return odd;
         }
         cursors::pass(v, &mut cursors);
@@ -67,4 +74,26 @@ pub fn raise(line: Line, table: &mut [i64]) -> u64
             cursors = starts.before_first(vector.sum);
         }
     }
+}
+
+// ---- a table (with a zero border it is one face)
+
+// The forward turn of a table, whether or not it is accepted. Answers how many sums were odd.
+pub fn lower(line: Line, table: &mut [i64]) -> u64
+    requires { TableOf line.shape (2 ^ 59) table.old }
+    ensures walked { table.new ≡ lists_worked true line.shape line.place 0 line.shape.axes (walk_down line.shape.axes line.shape.level) table.old }
+    ensures turned { table.new ≡ turned_table line.shape line.place table.old }
+    ensures odds { result ≡ odd_sums line.shape line.place table.old (points_of line.shape) }
+{
+    lower_face(Facet::whole(line), table)
+}
+
+// The table that a forward turn takes to this one, whether or not that turn is accepted. Answers how many sums were odd.
+pub fn raise(line: Line, table: &mut [i64]) -> u64
+    requires { TableOf line.shape (2 ^ 55) table.old }
+    ensures walked { table.new ≡ lists_worked false line.shape line.place 0 line.shape.axes (walk_up line.shape.axes line.shape.level) table.old }
+    ensures turned { table.new ≡ former_table line.shape line.place table.old }
+    ensures odds { result ≡ odd_sums line.shape line.place table.new (points_of line.shape) }
+{
+    raise_face(Facet::whole(line), table)
 }

@@ -1,157 +1,18 @@
+-- `sweeps::raise` meets its contract: with a zero border the table is one face, which ends with its last point.
+-- Assumes nothing.
 use mathlib.Core.Path.{◌∙◌}
-use mathlib.Core.Logic.{⊎_elim}
-use Prim.Native.Nat.{suc, ◌+◌, ◌-◌, ◌*◌, ◌%◌, ◌^◌, ◌<◌}
-use lib.ListN.{length}
-use native.Mathlib.Omega.{arith}
-use lib.Pow.{pow_pos}
-use Rattle.numbering.specs.Point.{at}
-use Rattle.numbering.specs.Number.{rank}
-use Rattle.cursors.proofs.Below.{cursors_below}
-use Rattle.lists.proofs.Blocks.{on_line, table_small}
-use Rattle.sweeps.proofs.Ranks.{Follows}
-use Rattle.sweeps.proofs.Standing.{Standing, rank_in, first_standing, first_rank, next_follows, next_standing, places, vector_in}
-use Rattle.sweeps.proofs.Meeting.{met}
-use Rattle.sweeps.proofs.Raising.{Raising, raising_starts, raising_room, raising_few, raising_former, raising_odds, raising_next, raising_walked, raising_first, raising_end, raising_inside, raising_worked}
-use Rattle.sweeps.proofs.raise.Goals.{After-work-odd, After-next}
+use mathlib.Core.Bool.{false}
+use Rattle.lists.specs.Lists.{whole_turn}
+use Rattle.sweeps.proofs.Faces.{all_turned, all_odds}
 use Rattle.sweeps.proofs.raise.Goals as goal
 
-pub loop-start-init : goal.loop-start-init
-loop-start-init c =
-    let line = c.args.line in
-    let first = c.first-vector.ensures in
-    let none = first_rank line c.first-vector.result first in (
-      first_standing line c.first-vector.result first,
-      rw none (rw c.of-starts.ensures at c.before_first-cursors.ensures),
-      rw (none, first.1) (raising_starts line _ c.requires.0),
-    )
+pub returns-clause-turned : goal.returns-clause-turned
+unfolding whole_turn
+returns-clause-turned c =
+    let face = c.whole.ensures in
+    rw (face.0, face.1, face.2) at c.raise_face.ensures.turned ∙ all_turned c.args.line c.args.table.now c.requires.0 false
 
--- ---- the level list
-
-pub on-v-requires : goal.on-v-requires
-on-v-requires c =
-    let line = c.args.line in
-    let long = c.requires.0 in
-    let s = c.loop-start.invariant in
-    (s.0.same, s.0.low, raising_first line _ long s.0 s.2)
-
-pub work-odd-requires : goal.work-odd-requires
-work-odd-requires c =
-    let pre = c.requires in
-    let s = c.loop-start.invariant in
-    let m = met c.on-v.result c.on-v.ensures in
-    (cursors_below (rw (m.on, m.same) s.1), (rw m.on s.2.parted.long, raising_room c.args.line _ pre.0 s.2 pre.1))
-
--- After the work line _ long it.
-done : (c : After-work-odd) →
-    let line = c.args.line in
-    Raising line c.args.table.now c.loop-start.vector.sum (suc (rank (at c.loop-start.vector.levels) line.shape.axes))
-    (c.loop-start.start + 1 * 2 ^ c.loop-start.vector.sum % 2 ^ 64) (c.loop-start.odd + c.work-odd.result) c.work-odd.new.table
-done c =
-    let line = c.args.line in
-    let long = c.requires.0 in
-    let s = c.loop-start.invariant in
-    let did = c.work-odd.ensures in
-    raising_worked line _ long s.0 s.2 _ (met c.on-v.result c.on-v.ensures) _ _ did.worked did.odds did.turned
-
-pub overflow_add-odd : goal.overflow_add-odd
-overflow_add-odd c =
-    let line = c.args.line in
-    let long = c.requires.0 in
-    let s = c.loop-start.invariant in
-    omega (arith, raising_few line _ long (done (goal.at.overflow_add-odd c).After-work-odd), raising_inside line _ long s.0 s.2, long, table_small line _ (on_line line long))
-
--- ---- after the last
-
-pub returns-then-start-table-clause-walked : goal.returns-then-start-table-clause-walked
-returns-then-start-table-clause-walked c =
-    let all = done (goal.at.returns-then-start-table-clause-walked c).After-work-odd in
-    let here = c.loop-start.invariant.0 in
-    raising_walked c.args.line _ c.requires.0 all here.low (rank_in (vector_in here)) (c.if-start-table.true ∙ all.parted.long)
-
-pub returns-then-start-table-clause-turned : goal.returns-then-start-table-clause-turned
-returns-then-start-table-clause-turned c =
-    let all = done (goal.at.returns-then-start-table-clause-turned c).After-work-odd in
-    raising_former c.args.line _ c.requires.0 all (c.if-start-table.true ∙ all.parted.long)
-
-pub returns-then-start-table-clause-odds : goal.returns-then-start-table-clause-odds
-returns-then-start-table-clause-odds c =
-    let all = done (goal.at.returns-then-start-table-clause-odds c).After-work-odd in
-    raising_odds c.args.line _ c.requires.0 all (c.if-start-table.true ∙ all.parted.long)
-
--- ---- the next
-
-pub pass-requires : goal.pass-requires
-pass-requires c =
-    let s = c.loop-start.invariant in
-    let m = met c.on-v.result c.on-v.ensures in
-    rw (m.on, m.same) s.1
-
-pub next-requires : goal.next-requires
-next-requires c = omega (arith, c.loop-start.invariant.0.low, c.args.line.top)
-
--- It is one of the shape, since the table goes on.
-stands : (c : After-next) → Standing c.args.line c.next.new.self
-stands c =
-    let line = c.args.line in
-    let long = c.requires.0 in
-    let s = c.loop-start.invariant in
-    next_standing s.0 c.next.new.self c.next.ensures
-    (omega (arith, raising_end line _ long s.0 s.2, raising_inside line _ long s.0 s.2, long, places line _ long, c.if-start-table.false))
-
--- How it follows the other.
-follows : (c : After-next) →
-    let line = c.args.line in
-    let next = c.next.new.self in
-    let here = c.loop-start.vector in
-    Follows line.shape.axes here.sum (rank (at here.levels) line.shape.axes) next.sum (rank (at next.levels) line.shape.axes)
-follows c = next_follows c.loop-start.invariant.0 c.next.new.self c.next.ensures
-
-pub before_first-cursors-requires-then-v-vector : goal.before_first-cursors-requires-then-v-vector
-before_first-cursors-requires-then-v-vector c =
-    rw c.of-starts.ensures (stands (goal.at.before_first-cursors-requires-then-v-vector c).After-next).low
-
--- Less of the table is left.
-nearer : (c : After-next) →
-    let rest = length c.args.table.now in
-    rest - (c.loop-start.start + 1 * 2 ^ c.loop-start.vector.sum % 2 ^ 64) < rest - c.loop-start.start
-nearer c =
-    let line = c.args.line in
-    let long = c.requires.0 in
-    let s = c.loop-start.invariant in
-    omega (arith, raising_first line _ long s.0 s.2, raising_end line _ long s.0 s.2, raising_inside line _ long s.0 s.2, long, pow_pos c.loop-start.vector.sum)
-
-pub loop-start-smaller : goal.loop-start-smaller
-loop-start-smaller c = nearer (goal.at.loop-start-smaller c).After-next
-
-pub loop-start-smaller-then-v-vector : goal.loop-start-smaller-then-v-vector
-loop-start-smaller-then-v-vector c = nearer (goal.at.loop-start-smaller-then-v-vector c).After-next
-
--- It is the first of the sum above.
-pub loop-start-preserved-then-v-vector : goal.loop-start-preserved-then-v-vector
-loop-start-preserved-then-v-vector c =
-    let seen = goal.at.loop-start-preserved-then-v-vector c in
-    let here = stands seen.After-next in
-    let next = follows seen.After-next in
-    let m = met c.on-v.result c.on-v.ensures in (
-      here,
-      ⊎_elim
-          (λ same. absurd (omega (arith, same.0, rw m.same at c.if-v-vector.true)))
-          (λ above. rw above.1 (rw c.of-starts.ensures at c.before_first-cursors-then-v-vector.ensures))
-          next,
-      raising_next c.args.line _ c.requires.0 (done seen.After-work-odd) here.low next,
-    )
-
--- It is of the same sum.
-pub loop-start-preserved : goal.loop-start-preserved
-loop-start-preserved c =
-    let seen = goal.at.loop-start-preserved c in
-    let here = stands seen.After-next in
-    let next = follows seen.After-next in
-    let m = met c.on-v.result c.on-v.ensures in (
-      here,
-      ⊎_elim
-          (λ same. rw (same.1, same.0) (rw (m.on, m.same) at c.pass.ensures))
-          (λ above. absurd (omega (arith, above.0, rw m.same at c.if-v-vector.false)))
-          next,
-      raising_next c.args.line _ c.requires.0 (done seen.After-work-odd) here.low next,
-    )
+pub returns-clause-odds : goal.returns-clause-odds
+returns-clause-odds c =
+    let face = c.whole.ensures in
+    all_odds c.args.line c.args.table.now c.requires.0 c.raise_face.new.table c.raise_face.result (rw (face.0, face.1, face.2) at c.raise_face.ensures.odds)

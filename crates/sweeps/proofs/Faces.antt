@@ -1,0 +1,95 @@
+-- A turn goes over the faces of a table one after the other: forward from the last face down, back from the first up. What it leaves on a face is what the whole
+-- turn of the table leaves there. Forward, the points of the face and those their parents stand at hold what they held at the start, since behind the face only
+-- what does not move is a parent. Back, a point goes by the face alone, and by what does not move. A face whose points do not move is passed over.
+-- Assumes nothing.
+use mathlib.Core.Path.{◌≡◌, refl, ap, ap₂, sym, ◌∙◌}
+use mathlib.Core.Bool.{Bool, true, false}
+use mathlib.Core.Logic.{inr}
+use mathlib.Core.List.{List}
+use Prim.Native.Nat.{ℕ, zero, suc, ◌+◌, ◌≤◌, ◌<◌}
+use native.Mathlib.Omega.{arith}
+use lib.IntN.{ℤ, ◌+ℤ◌}
+use lib.ListN.{length}
+use Rattle.naturals.proofs.Cases.{le_or_lt}
+use Rattle.integers.specs.Half.{odd_of}
+use Rattle.numbering.specs.Count.{points}
+use Rattle.numbering.specs.declared.Side.{Side}
+use Rattle.numbering.specs.declared.Side.TheVariants.{Left, Right}
+use Rattle.hierarchy.specs.Grid.{Still}
+use Rattle.hierarchy.specs.Turns.{value_at, sum_on}
+use Rattle.hierarchy.proofs.Values.{value_zero, values_length}
+use Rattle.shapes.specs.declared.Shape.{Shape}
+use Rattle.shapes.specs.Shapes.{points_of}
+use Rattle.grids.specs.Grids.{neighbour}
+use Rattle.grids.proofs.Sparse.{points_sparse}
+use Rattle.grids.proofs.Turned.{turned_length, former_length}
+use Rattle.neighbours.specs.declared.facets.Line.{Line}
+use Rattle.neighbours.specs.declared.facets.Facet.{Facet}
+use Rattle.neighbours.proofs.Faces.{face_apart}
+use Rattle.lists.specs.Lists.{odd_at, odd_sums, whole_turn, turned_between}
+use Rattle.lists.proofs.Turned.{still_turn}
+use Rattle.sweeps.proofs.Parted.{Parted, all_parted, list_parted}
+use Rattle.sweeps.proofs.Odds.{odds_none, same_growth}
+use Rattle.sweeps.proofs.Standing.{face_end}
+
+turn_long : (ahead : Bool) (s : Shape) (t : ℕ) (xs : List ℤ) → length (whole_turn ahead s t xs) ≡ points_of s
+unfolding whole_turn
+turn_long true s t xs = turned_length s t xs
+turn_long false s t xs = former_length s t xs
+
+-- With a zero border the table is one face.
+module _ (line : Line) (xs : List ℤ) (long : length xs ≡ points_of line.shape) where
+  pub whole_end : 0 + points line.shape.axes line.shape.level ≡ points_of line.shape
+  whole_end = omega (arith, points_sparse line.shape.axes line.shape.level)
+
+  pub all_turned : (ahead : Bool) → turned_between ahead line.shape line.place 0 (0 + points line.shape.axes line.shape.level) xs ≡ whole_turn ahead line.shape line.place xs
+  unfolding turned_between
+  all_turned ahead =
+      rw whole_end
+      (all_parted (points_of line.shape) xs (whole_turn ahead line.shape line.place xs) _ (turn_long ahead line.shape line.place xs)
+      (list_parted (points_of line.shape) 0 (points_of line.shape) xs (whole_turn ahead line.shape line.place xs) _ (values_length (points_of line.shape) _) long
+      (omega arith) refl))
+
+  pub all_odds : (table : List ℤ) (odd : ℕ) →
+      odd_sums line.shape line.place table 0 + odd ≡ odd_sums line.shape line.place table (0 + points line.shape.axes line.shape.level) →
+      odd ≡ odd_sums line.shape line.place table (points_of line.shape)
+  all_odds table odd counted =
+      omega (arith, counted, odds_none line.shape line.place table, ap (odd_sums line.shape line.place table) whole_end)
+
+-- Sums of parents that hold the same are odd together.
+same_odd : (s : Shape) (t : ℕ) (xs ys : List ℤ) (p : ℕ) → ((b : Side) → value_at xs (neighbour s t b (suc p)) ≡ value_at ys (neighbour s t b (suc p))) →
+    odd_at s t xs p ≡ odd_at s t ys p
+unfolding odd_at sum_on
+same_odd s t xs ys p same = ap₂ (λ (a b : ℤ). odd_of (a +ℤ b)) (same Left) (same Right)
+
+-- Where a face is done by a back turn, its odd sums are those of the result.
+module _ (facet : Facet) (xs ys : List ℤ) (long : length xs ≡ points_of facet.line.shape)
+    (parted : Parted (points_of facet.line.shape) facet.base (face_end facet) xs (whole_turn false facet.line.shape facet.line.place xs) ys) where
+  abbrev result : List ℤ
+  result = whole_turn false facet.line.shape facet.line.place xs
+
+  holds : (q : ℕ) → facet.base < q → (face_end facet < q → Still (neighbour facet.line.shape) facet.line.place q) → value_at ys q ≡ value_at result q
+  holds zero from still = absurd (omega arith)
+  holds (suc p) from still =
+      le_or_lt (face_end facet) p
+      (λ past.
+      parted.others p (inr past) ∙ sym (still_turn false facet.line.shape facet.line.place xs long (suc p) (still (omega arith))))
+      (λ within. parted.inside p (omega arith) within)
+
+  parent_holds : (p : ℕ) → facet.base ≤ p → p < face_end facet → (b : Side) → (q : ℕ) → q ≡ neighbour facet.line.shape facet.line.place b (suc p) →
+      value_at ys q ≡ value_at result q
+  parent_holds p from to b zero e = value_zero ys ∙ sym (value_zero result)
+  parent_holds p from to b (suc r) e =
+      let apart = rw (sym e) at (face_apart facet p from to b) in
+      let known = apart (omega arith) in
+      holds (suc r) known.0 (λ high. (known.1 (omega arith)).1)
+
+  pub former_odds : (odd : ℕ) → odd_sums facet.line.shape facet.line.place result facet.base + odd ≡ odd_sums facet.line.shape facet.line.place result (face_end facet) →
+      odd_sums facet.line.shape facet.line.place ys facet.base + odd ≡ odd_sums facet.line.shape facet.line.place ys (face_end facet)
+  former_odds odd counted =
+      omega (
+        arith,
+        counted,
+        same_growth facet.line.shape facet.line.place ys result facet.base (face_end facet) (omega arith)
+            (λ p from to. same_odd facet.line.shape facet.line.place ys result p (λ b. parent_holds p from to b _ refl)),
+      )
