@@ -75,12 +75,12 @@ module _ (line : Line) (on : line.shape.border ≡ true) (f : ℕ) (in_row : f <
     unfolding across
     outside = there ∙ ap (λ (r : ℕ). suc (r + x)) (rim_is b)
 
-    far : Apart (neighbour s) t (row s.axes s.level f) (row s.axes s.level f + points (inner_of s.axes f) s.level)
+    behind : row s.axes s.level f + points (inner_of s.axes f) s.level < neighbour s t b (suc (row s.axes s.level f + q))
+    behind = omega (arith, there, facet_behind s on f in_row t line.axis inside q h b e)
+
+    far : Apart (neighbour s) t (row s.axes s.level f) (row s.axes s.level f) (row s.axes s.level f + points (inner_of s.axes f) s.level)
         (neighbour s t b (suc (row s.axes s.level f + q)))
-    far before_it = (
-      omega (arith, there, facet_behind s on f in_row t line.axis inside q h b e),
-      facet_still s on f in_row t line.axis inside q h b e,
-    )
+    far some = (omega (arith, behind), λ more. (behind, facet_still s on f in_row t line.axis inside q h b e))
 
   pub faced : Sits s t (inner_of s.axes f) (before m t) (row s.axes s.level f) (Some rims_there)
   faced =
@@ -90,7 +90,6 @@ module _ (line : Line) (on : line.shape.border ≡ true) (f : ℕ) (in_row : f <
         low = λ r e. rw (← some_is r e) (rim_within 1 (omega arith), rim_within 2 (omega arith));
         inner = facet_parent s on f in_row t line.axis inside;
         outer = outside;
-        still = λ q h b e. facet_still s on f in_row t line.axis inside q h b e;
         apart = far;
       }
     where

@@ -19,7 +19,6 @@ use Rattle.shapes.proofs.Totals.{start_small}
 use Rattle.grids.specs.Grids.{mark_on, level_on, neighbour}
 use Rattle.shapes.proofs.Layers.{points_plain}
 use Rattle.grids.proofs.Points.{number_plain, marks_plain, levels_plain, indices_plain}
-use Rattle.grids.proofs.Instance.{grid}
 use Rattle.grids.proofs.Beside.{numerator_on, to_border, to_parent}
 use Rattle.neighbours.specs.Facets.{on_border, parent_number, across, Sits}
 use Rattle.neighbours.specs.declared.facets.Line.{Line}
@@ -76,6 +75,5 @@ module _ (line : Line) (plain : line.shape.border ≡ false) where
         low = λ r e. absurd (nothing_there r e);
         inner = off_border;
         outer = at_border;
-        still = λ q h b e c. ap (neighbour s t c) (at_border q h b e) ∙ (grid s).border t c;
         apart = λ q h b e some. absurd (omega (arith, at_border q h b e));
       }

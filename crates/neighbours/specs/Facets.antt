@@ -72,7 +72,5 @@ pub record Sits (s : Shape) (t k j base : ℕ) (rims : Option Rims) : Type 0 whe
       neighbour s t b (suc (base + q)) ≡ suc (base + parent_number k j b (level_at k s.level q) (index_at k s.level q))
   pub outer : (q : ℕ) → q < points k s.level → (b : Side) → on_border j b (level_at k s.level q) (index_at k s.level q) ≡ true →
       neighbour s t b (suc (base + q)) ≡ across rims b (number_without k j (level_at k s.level q) (index_at k s.level q))
-  pub still : (q : ℕ) → q < points k s.level → (b : Side) → on_border j b (level_at k s.level q) (index_at k s.level q) ≡ true →
-      Still (neighbour s) t (neighbour s t b (suc (base + q)))
   pub apart : (q : ℕ) → q < points k s.level → (b : Side) → on_border j b (level_at k s.level q) (index_at k s.level q) ≡ true →
       Apart (neighbour s) t base base (base + points k s.level) (neighbour s t b (suc (base + q)))
