@@ -17,12 +17,15 @@ use Rattle.numbered.specs.Numbered.{mark_of}
 use Rattle.faces.specs.Packing.{before}
 use Rattle.faces.specs.Marked.{face_start}
 use Rattle.faces.specs.Row.{all_faces, marks_of, inner_of, row}
-use Rattle.faces.proofs.Row.{mark_of_low, face_inside}
+use Rattle.faces.proofs.Row.{mark_of_low, inner_of_is, face_inside}
 use Rattle.shapes.specs.declared.Shape.{Shape}
 use Rattle.shapes.specs.Shapes.{most_axes, points_of}
 use Rattle.shapes.proofs.Layers.{points_bordered, border_points_small}
 use Rattle.grids.specs.Grids.{neighbour}
-use Rattle.grids.proofs.Facets.{facet_inside, facet_parent, facet_across, facet_behind, facet_still}
+use Rattle.grids.proofs.Facets.{facet_place, facet_inside, facet_parent, facet_across, facet_behind, facet_still}
+use Rattle.numbering.specs.Point.{at}
+use Rattle.layouts.specs.Layouts.{IsFace}
+use Rattle.layouts.specs.declared.Face.{Face}
 use Rattle.neighbours.specs.Facets.{on_border, number_without, across, Apart, Sits, rim_on, without}
 use Rattle.neighbours.specs.declared.facets.Line.{Line}
 use Rattle.neighbours.specs.declared.facets.Rims.{Rims}
@@ -59,7 +62,7 @@ module _ (line : Line) (on : line.shape.border ≡ true) (f : ℕ) (in_row : f <
           (λ same. rw (same, update_same m t a) low)
           (λ other. rw (update_other m t a u other) (mark_of_low s.axes f u))
 
-  few : s.axes ≤ 4
+  pub few : s.axes ≤ 4
   few = omega (arith, line.most, ap most_axes on)
 
   module _ (q : ℕ) (h : q < points (inner_of s.axes f) s.level) (b : Side)
@@ -95,3 +98,16 @@ module _ (line : Line) (on : line.shape.border ≡ true) (f : ℕ) (in_row : f <
     where
       some_is : (r : Rims) → Some rims_there ≡ Some r → rims_there ≡ r
       some_is r e = cc
+
+  -- The same of a face by value.
+  pub faced_by : (face : Face) → IsFace s.axes s.level f face → (place lower upper : ℕ) → place ≡ before (at face.marks) t →
+      lower ≡ face_start s.axes s.level (update (at face.marks) t 1) → upper ≡ face_start s.axes s.level (update (at face.marks) t 2) →
+      Sits s t face.inner place face.start (Some (record { lower = lower; upper = upper }))
+  faced_by face is place lower upper there low high =
+      rw (is.inner, is.start, there, low, high, is.marks) faced
+
+  pub placed_by : (face : Face) → IsFace s.axes s.level f face → (place : ℕ) → place ≡ before (at face.marks) t → place < face.inner
+  placed_by face is place there = rw (is.inner, there, is.marks) (facet_place s on f in_row t line.axis inside)
+
+  pub few_inner : (face : Face) → IsFace s.axes s.level f face → face.inner ≤ 8
+  few_inner face is = omega (arith, is.inner, inner_of_is s.axes f, few)

@@ -27,14 +27,6 @@ pub most_small : (border : Bool) → most_axes border ≤ 8
 most_small true = omega arith
 most_small false = omega arith
 
--- A shape with values on the border does not pass.
-pub plain : {s : Shape} → InRange s → s.border ≡ false
-plain {s} r = each s.border r.most
-  where
-    each : (border : Bool) → s.axes ≤ most_axes border → border ≡ false
-    each true few = absurd (omega (arith, r.low, few))
-    each false few = refl
-
 -- A number between two bounds, from the two tests.
 between : (a k b : ℕ) → leb a k && leb k b ≡ true → (a ≤ k) × (k ≤ b)
 between a k b e = (leb-true a k (and_left (leb a k) (leb k b) e), leb-true k b (and_right (leb a k) (leb k b) e))

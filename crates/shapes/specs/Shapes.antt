@@ -12,9 +12,9 @@ use Rattle.shapes.specs.declared.Shape.{Shape}
 abbrev pub sparse : ℕ → ℕ → Shape
 sparse d n = record { axes = d; level = n; border = false }
 
--- The most axes of a shape: 8 with a zero border. Tables with values on the border (document 02, g) are not built yet: no shape of theirs is passed.
+-- The most axes of a shape: 8 with a zero border, 4 with values on the border (document 02, g).
 abbrev pub most_axes : Bool → ℕ
-most_axes true = 0
+most_axes true = 4
 most_axes false = 8
 
 -- A shape has from 1 to the most axes, else refused with 1, and a top level of at most 8, else with 2.

@@ -61,7 +61,7 @@ impl Shape {
     fn most_axes(self) -> u32
         ensures { result ≡ most_axes self.border }
     {
-        if self.border { 0 } else { 8 }
+        if self.border { 4 } else { 8 }
     }
 
     // Refused with 1 or 2.

@@ -21,7 +21,7 @@ use Rattle.hierarchy.proofs.Values.{value_zero, values_length}
 use Rattle.shapes.specs.declared.Shape.{Shape}
 use Rattle.shapes.specs.Shapes.{points_of}
 use Rattle.grids.specs.Grids.{neighbour}
-use Rattle.grids.proofs.Sparse.{points_sparse}
+use Rattle.shapes.proofs.Layers.{points_plain}
 use Rattle.grids.proofs.Turned.{turned_length, former_length}
 use Rattle.neighbours.specs.declared.facets.Line.{Line}
 use Rattle.neighbours.specs.declared.facets.Facet.{Facet}
@@ -32,15 +32,15 @@ use Rattle.sweeps.proofs.Parted.{Parted, all_parted, list_parted}
 use Rattle.sweeps.proofs.Odds.{odds_none, same_growth}
 use Rattle.sweeps.proofs.Standing.{face_end}
 
-turn_long : (ahead : Bool) (s : Shape) (t : ℕ) (xs : List ℤ) → length (whole_turn ahead s t xs) ≡ points_of s
+pub turn_long : (ahead : Bool) (s : Shape) (t : ℕ) (xs : List ℤ) → length (whole_turn ahead s t xs) ≡ points_of s
 unfolding whole_turn
 turn_long true s t xs = turned_length s t xs
 turn_long false s t xs = former_length s t xs
 
 -- With a zero border the table is one face.
-module _ (line : Line) (xs : List ℤ) (long : length xs ≡ points_of line.shape) where
+module _ (line : Line) (plain : line.shape.border ≡ false) (xs : List ℤ) (long : length xs ≡ points_of line.shape) where
   pub whole_end : 0 + points line.shape.axes line.shape.level ≡ points_of line.shape
-  whole_end = omega (arith, points_sparse line.shape.axes line.shape.level)
+  whole_end = omega (arith, points_plain line.shape plain)
 
   pub all_turned : (ahead : Bool) → turned_between ahead line.shape line.place 0 (0 + points line.shape.axes line.shape.level) xs ≡ whole_turn ahead line.shape line.place xs
   unfolding turned_between
@@ -57,7 +57,7 @@ module _ (line : Line) (xs : List ℤ) (long : length xs ≡ points_of line.shap
       omega (arith, counted, odds_none line.shape line.place table, ap (odd_sums line.shape line.place table) whole_end)
 
 -- Sums of parents that hold the same are odd together.
-same_odd : (s : Shape) (t : ℕ) (xs ys : List ℤ) (p : ℕ) → ((b : Side) → value_at xs (neighbour s t b (suc p)) ≡ value_at ys (neighbour s t b (suc p))) →
+pub same_odd : (s : Shape) (t : ℕ) (xs ys : List ℤ) (p : ℕ) → ((b : Side) → value_at xs (neighbour s t b (suc p)) ≡ value_at ys (neighbour s t b (suc p))) →
     odd_at s t xs p ≡ odd_at s t ys p
 unfolding odd_at sum_on
 same_odd s t xs ys p same = ap₂ (λ (a b : ℤ). odd_of (a +ℤ b)) (same Left) (same Right)

@@ -10,3 +10,4 @@ pub mod Meeting
 pub mod Faces
 pub mod Lowering
 pub mod Raising
+pub mod Row

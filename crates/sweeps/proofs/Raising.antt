@@ -53,7 +53,7 @@ pub record Raising (facet : Facet) (xs : List ℤ) (sum b k odd : ℕ) (ys : Lis
       ≡ lists_worked false facet.line.shape facet.line.place facet.base facet.axes (walk_up facet.axes facet.line.shape.level) xs
 
 module _ (facet : Facet) (xs : List ℤ) (long : length xs ≡ points_of facet.line.shape) where
-  few_levels : height facet.line.shape ≤ 9
+  few_levels : height facet.line.shape ≤ 10
   unfolding height
   few_levels = omega (arith, facet.line.top)
 

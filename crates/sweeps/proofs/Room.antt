@@ -1,5 +1,5 @@
 -- How large a turn makes the values of a table. Forward, a value loses half the sum of two others, so it at most doubles. Back, the value at a point is its own
--- and half the sum of two results that have one parent less above them, so each level adds at most the bound once more, and there are at most nine.
+-- and half the sum of two results that have one parent less above them, so each step up adds at most the bound once more, and there are at most ten.
 -- Assumes nothing.
 use mathlib.Core.Path.{◌≡◌, ap}
 use mathlib.Core.List.{List}
@@ -62,11 +62,11 @@ module _ (s : Shape) (t : ℕ) (xs : List ℤ) (b : ℕ) (long : length xs ≡ p
         forward_size (neighbour s) t b (value_at xs) small code,
       )
 
-  pub former_within : height s ≤ 9 → NoLarger b xs → NoLarger (10 * b) (former_table s t xs)
+  pub former_within : height s ≤ 10 → NoLarger b xs → NoLarger (11 * b) (former_table s t xs)
   former_within low small code =
       omega (
         arith,
         ap (λ (f : ℕ → ℤ). nat_abs (f code)) (former_holds s t xs long),
         backward_size (neighbour s) t b (value_at xs) small (height s) code,
-        mul-le-mul_right {m = suc (height s)} {n = 10} b (omega arith),
+        mul-le-mul_right {m = suc (height s)} {n = 11} b (omega arith),
       )

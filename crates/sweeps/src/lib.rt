@@ -8,10 +8,11 @@ ghost use Rattle.grids.specs.Turned.{turned_table, former_table};
 ghost use Rattle.walks.specs.Walks.{walk_up, walk_down};
 ghost use Rattle.lists.specs.Lists.{odd_sums, turned_between};
 ghost use Rattle.lists.specs.Steps.{TableOf};
-ghost use Rattle.sweeps.specs.Sweeps.{lists_worked};
+ghost use Rattle.sweeps.specs.Sweeps.{lists_worked, table_worked};
 
 use cursors::Starts;
 use integers::{Back, Forward};
+use layouts::Layout;
 use neighbours::{Facet, Line, Subspace};
 use vectors::LevelVector;
 
@@ -78,22 +79,62 @@ pub fn raise_face(facet: Facet, table: &mut [i64]) -> u64
 
 // ---- a table (with a zero border it is one face)
 
-// The forward turn of a table, whether or not it is accepted. Answers how many sums were odd.
-pub fn lower(line: Line, table: &mut [i64]) -> u64
-    requires { TableOf line.shape (2 ^ 59) table.old }
-    ensures walked { table.new ≡ lists_worked true line.shape line.place 0 line.shape.axes (walk_down line.shape.axes line.shape.level) table.old }
+// The forward turn of a table with values on the border: the faces from the last down. Where the axis is a border axis of a face, nothing moves.
+fn lower_faces(line: Line, table: &mut [i64]) -> u64
+    requires { (line.shape.border ≡ true) × TableOf line.shape (2 ^ 59) table.old }
+    ensures walked { table.new ≡ table_worked true line.shape line.place table.old }
     ensures turned { table.new ≡ turned_table line.shape line.place table.old }
     ensures odds { result ≡ odd_sums line.shape line.place table.old (points_of line.shape) }
 {
+    let layout = Layout::of(line.shape.axes, line.shape.level);
+    let mut odd: u64 = 0;
+    for f in (0..layout.count).rev() {
+        if let Some(facet) = Facet::of_face(line, &layout, f) {
+            odd += lower_face(facet, table);
+        }
+    }
+    odd
+}
+
+// The table that a forward turn takes to this one: the faces from the first up.
+fn raise_faces(line: Line, table: &mut [i64]) -> u64
+    requires { (line.shape.border ≡ true) × TableOf line.shape (2 ^ 55) table.old }
+    ensures walked { table.new ≡ table_worked false line.shape line.place table.old }
+    ensures turned { table.new ≡ former_table line.shape line.place table.old }
+    ensures odds { result ≡ odd_sums line.shape line.place table.new (points_of line.shape) }
+{
+    let layout = Layout::of(line.shape.axes, line.shape.level);
+    let mut odd: u64 = 0;
+    for f in 0..layout.count {
+        if let Some(facet) = Facet::of_face(line, &layout, f) {
+            odd += raise_face(facet, table);
+        }
+    }
+    odd
+}
+
+// The forward turn of a table, whether or not it is accepted. Answers how many sums were odd.
+pub fn lower(line: Line, table: &mut [i64]) -> u64
+    requires { TableOf line.shape (2 ^ 59) table.old }
+    ensures walked { table.new ≡ table_worked true line.shape line.place table.old }
+    ensures turned { table.new ≡ turned_table line.shape line.place table.old }
+    ensures odds { result ≡ odd_sums line.shape line.place table.old (points_of line.shape) }
+{
+    if line.shape.border {
+        return lower_faces(line, table);
+    }
     lower_face(Facet::whole(line), table)
 }
 
 // The table that a forward turn takes to this one, whether or not that turn is accepted. Answers how many sums were odd.
 pub fn raise(line: Line, table: &mut [i64]) -> u64
     requires { TableOf line.shape (2 ^ 55) table.old }
-    ensures walked { table.new ≡ lists_worked false line.shape line.place 0 line.shape.axes (walk_up line.shape.axes line.shape.level) table.old }
+    ensures walked { table.new ≡ table_worked false line.shape line.place table.old }
     ensures turned { table.new ≡ former_table line.shape line.place table.old }
     ensures odds { result ≡ odd_sums line.shape line.place table.new (points_of line.shape) }
 {
+    if line.shape.border {
+        return raise_faces(line, table);
+    }
     raise_face(Facet::whole(line), table)
 }

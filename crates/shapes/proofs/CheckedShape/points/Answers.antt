@@ -15,3 +15,6 @@ returns-else-border c =
     ∙ ap (start s.axes) (add-one s.level)
     ∙ sym (points_is s.axes s.level)
     ∙ sym (points_plain s c.if-border.false)
+
+pub returns-then-border : goal.returns-then-border
+returns-then-border c = c.border_points.ensures ∙ sym (points_bordered c.args.self.shape c.if-border.true)
