@@ -41,11 +41,11 @@ number_over_faces s {m} {l} {i} x =
 -- ---- the faces in a row
 
 module _ (s : Shape) where
-  faces_bordered : s.border ≡ true → faces_of s ≡ all_faces s.axes
+  pub faces_bordered : s.border ≡ true → faces_of s ≡ all_faces s.axes
   unfolding faces_of
   faces_bordered on = rw on refl
 
-  faces_plain : s.border ≡ false → faces_of s ≡ 1
+  pub faces_plain : s.border ≡ false → faces_of s ≡ 1
   unfolding faces_of
   faces_plain off = rw off refl
 

@@ -36,7 +36,7 @@ use Rattle.shapes.specs.Shapes.{points_of}
 use Rattle.shapes.proofs.Layers.{points_bordered}
 use Rattle.grids.specs.Grids.{number_of, mark_on, level_on, index_on, numbered, neighbour}
 use Rattle.grids.proofs.Points.{PointOf, point_at_lem, number_bordered, marks_bordered, levels_bordered, indices_bordered, numbering, number_of_point_lem}
-use Rattle.grids.proofs.Beside.{numerator_on, to_parent, to_across}
+use Rattle.grids.proofs.Beside.{numerator_on, still_there, to_parent, to_across}
 use Rattle.grids.proofs.Instance.{neighbours_of}
 
 -- Two level lists of k axes that agree there have one first number.
@@ -53,6 +53,18 @@ skip_lt c u k h = le_or_lt c u (λ le. rw (le-ltb u c le) h) (λ lt. rw (lt-ltb 
 mark_small : (b : Side) → mark_of b ≤ 2
 mark_small Left = omega arith
 mark_small Right = omega arith
+
+-- Where the axis is a border axis of a face, nothing moves there.
+pub face_still : (s : Shape) → s.border ≡ true → (f : ℕ) → f < all_faces s.axes → (t : ℕ) → t < s.axes → 0 < marks_of s.axes f t →
+    (p : ℕ) → row s.axes s.level f ≤ p → p < row s.axes s.level (suc f) → Still (neighbour s) t (suc p)
+face_still s on f in_row t axis border p from to b =
+    let q : ℕ = p - row s.axes s.level f in
+    let q_in : q < points (inner_of s.axes f) s.level = omega (arith, to, from, row_suc s.axes s.level f) in
+    let there : row s.axes s.level f + q ≡ p = omega (arith, from) in
+    let marks : mark_on s p ≡ marks_of s.axes f = marks_bordered s on p ∙ ap (mark_at s.axes s.level) (sym there) ∙ row_marks s.axes s.level f in_row q q_in in
+    let p_in : p < points_of s =
+    omega (arith, to, row_mono s.axes s.level (suc f) (all_faces s.axes) in_row, row_ends s.axes s.level, points_bordered s on) in
+    still_there s t b p p_in axis (omega (arith, border, ap (λ (m : ℕ → ℕ). m t) marks))
 
 module _ (s : Shape) (on : s.border ≡ true) (f : ℕ) (in_row : f < all_faces s.axes) (t : ℕ) (axis : t < s.axes) (inner : marks_of s.axes f t ≡ 0) where
   -- The marks of the face, how many inner axes it has, the place of the axis among them, and its first number.

@@ -23,6 +23,12 @@ use Rattle.shapes.specs.Shapes.{points_of}
 use Rattle.grids.specs.Grids.{neighbour}
 use Rattle.shapes.proofs.Layers.{points_plain}
 use Rattle.grids.proofs.Turned.{turned_length, former_length}
+use borrow.Author.Tests.{eq-eqb}
+use Rattle.faces.specs.Row.{marks_of, inner_of, row}
+use Rattle.faces.proofs.Row.{first_unmarked, first_inner, row_zero}
+use Rattle.grids.specs.Faces.{faces_of}
+use Rattle.grids.proofs.Faces.{faces_plain}
+use Rattle.sweeps.specs.Sweeps.{lists_worked, walk, face_worked, faces_down, faces_up, table_worked}
 use Rattle.neighbours.specs.declared.facets.Line.{Line}
 use Rattle.neighbours.specs.declared.facets.Facet.{Facet}
 use Rattle.neighbours.proofs.Faces.{face_apart}
@@ -37,6 +43,18 @@ unfolding whole_turn
 turn_long true s t xs = turned_length s t xs
 turn_long false s t xs = former_length s t xs
 
+face_worked_inside : (ahead : Bool) (s : Shape) (t f : ℕ) (ys : List ℤ) → marks_of s.axes f t ≡ 0 →
+    face_worked ahead s t f ys
+    ≡ lists_worked ahead s t (row s.axes s.level f) (inner_of s.axes f) (walk ahead (inner_of s.axes f) s.level) ys
+unfolding face_worked
+face_worked_inside ahead s t f ys inside = rw (eq-eqb (marks_of s.axes f t) 0 inside) refl
+
+-- The work of a turn on one face.
+one_face : (ahead : Bool) (s : Shape) (t : ℕ) (ys : List ℤ) → faces_of s ≡ 1 → table_worked ahead s t ys ≡ face_worked ahead s t 0 ys
+unfolding table_worked faces_down faces_up
+one_face true s t ys one = rw one refl
+one_face false s t ys one = rw one refl
+
 -- With a zero border the table is one face.
 module _ (line : Line) (plain : line.shape.border ≡ false) (xs : List ℤ) (long : length xs ≡ points_of line.shape) where
   pub whole_end : 0 + points line.shape.axes line.shape.level ≡ points_of line.shape
@@ -49,6 +67,18 @@ module _ (line : Line) (plain : line.shape.border ≡ false) (xs : List ℤ) (lo
       (all_parted (points_of line.shape) xs (whole_turn ahead line.shape line.place xs) _ (turn_long ahead line.shape line.place xs)
       (list_parted (points_of line.shape) 0 (points_of line.shape) xs (whole_turn ahead line.shape line.place xs) _ (values_length (points_of line.shape) _) long
       (omega arith) refl))
+
+  -- Its work is the work of the turn.
+  pub all_worked : (ahead : Bool) (ys : List ℤ) →
+      lists_worked ahead line.shape line.place 0 line.shape.axes (walk ahead line.shape.axes line.shape.level) ys
+      ≡ table_worked ahead line.shape line.place ys
+  all_worked ahead ys =
+      let d : ℕ = line.shape.axes in
+      let inside : marks_of d 0 line.place ≡ 0 = ap (λ (m : ℕ → ℕ). m line.place) (first_unmarked d) in
+      ap₂ (λ (base k : ℕ). lists_worked ahead line.shape line.place base k (walk ahead k line.shape.level) ys)
+      (sym (row_zero d line.shape.level)) (sym (first_inner d))
+      ∙ sym (face_worked_inside ahead line.shape line.place 0 ys inside)
+      ∙ sym (one_face ahead line.shape line.place ys (faces_plain line.shape plain))
 
   pub all_odds : (table : List ℤ) (odd : ℕ) →
       odd_sums line.shape line.place table 0 + odd ≡ odd_sums line.shape line.place table (0 + points line.shape.axes line.shape.level) →

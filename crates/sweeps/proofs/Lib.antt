@@ -11,3 +11,6 @@ pub mod Faces
 pub mod Lowering
 pub mod Raising
 pub mod Row
+pub mod FaceByFace
+pub mod FacesDown
+pub mod FacesUp

@@ -27,7 +27,7 @@ module _ (s : Shape) (t : ℕ) (xs : List ℤ) where
   unfolding odd_sums
   odds_none = sum_to_zero (odd_at s t xs)
 
-  odds_suc : (m : ℕ) → odd_sums s t xs (suc m) ≡ odd_sums s t xs m + odd_at s t xs m
+  pub odds_suc : (m : ℕ) → odd_sums s t xs (suc m) ≡ odd_sums s t xs m + odd_at s t xs m
   unfolding odd_sums
   odds_suc m = sum_to_suc (odd_at s t xs) m
 

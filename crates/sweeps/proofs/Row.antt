@@ -26,11 +26,11 @@ use Rattle.lists.specs.Lists.{odd_at, odd_sums, whole_turn, turned_between}
 use Rattle.lists.proofs.Turned.{still_turn}
 use Rattle.lists.proofs.Faces.{turn_agrees}
 use Rattle.sweeps.proofs.Parted.{Parted, list_parted, moved_down, moved_up}
-use Rattle.sweeps.proofs.Odds.{same_growth}
+use Rattle.sweeps.proofs.Odds.{odds_suc, same_growth}
 use Rattle.sweeps.proofs.Faces.{turn_long, same_odd}
 
 -- What does not move holds in every part of the turn what it held.
-still_same : (ahead : Bool) (s : Shape) (t : ℕ) {lo hi : ℕ} {xs ys : List ℤ} → length xs ≡ points_of s →
+pub still_same : (ahead : Bool) (s : Shape) (t : ℕ) {lo hi : ℕ} {xs ys : List ℤ} → length xs ≡ points_of s →
     Parted (points_of s) lo hi xs (whole_turn ahead s t xs) ys → (q : ℕ) → Still (neighbour s) t q → value_at ys q ≡ value_at xs q
 still_same ahead s t {lo} {hi} {xs} {ys} long parted zero still = value_zero ys ∙ sym (value_zero xs)
 still_same ahead s t {lo} {hi} {xs} {ys} long parted (suc p) still =
@@ -44,20 +44,20 @@ still_same ahead s t {lo} {hi} {xs} {ys} long parted (suc p) still =
 -- ---- a face that moves
 
 module _ (facet : Facet) (xs : List ℤ) (long : length xs ≡ points_of facet.line.shape) where
-  abbrev s : Shape
+  abbrev pub s : Shape
   s = facet.line.shape
 
-  abbrev t : ℕ
+  abbrev pub t : ℕ
   t = facet.line.place
 
-  abbrev end : ℕ
+  abbrev pub end : ℕ
   end = facet_end facet
 
   -- The face of the table ys holds what it held, the other parts are as the turn has them.
-  abbrev StaysAs : List ℤ → List ℤ → Type 0
+  abbrev pub StaysAs : List ℤ → List ℤ → Type 0
   StaysAs us ys = (q : ℕ) → Stays (neighbour s) t facet.base end q → value_at us q ≡ value_at ys q
 
-  not_yet : (ahead : Bool) {lo hi : ℕ} {ys : List ℤ} → ((p : ℕ) → facet.base ≤ p → p < end → (p < lo) ⊎ (hi ≤ p)) →
+  pub not_yet : (ahead : Bool) {lo hi : ℕ} {ys : List ℤ} → ((p : ℕ) → facet.base ≤ p → p < end → (p < lo) ⊎ (hi ≤ p)) →
       Parted (points_of s) lo hi xs (whole_turn ahead s t xs) ys → StaysAs ys xs
   not_yet ahead {ys = ys} off parted zero (inl inside) = absurd (omega (arith, inside.0))
   not_yet ahead {ys = ys} off parted (suc p) (inl inside) = parted.others p (off p (omega (arith, inside.0)) (omega (arith, inside.1)))
@@ -112,3 +112,29 @@ module _ (s : Shape) (t lo hi : ℕ) (order : lo ≤ hi) (still : (p : ℕ) → 
 
   pub passed_up : (from : ℕ) → from ≤ lo → Parted (points_of s) from lo xs (whole_turn ahead s t xs) ys → Parted (points_of s) from hi xs (whole_turn ahead s t xs) ys
   passed_up from le parted = moved_up parted ys parted.long hi order le (passed parted) (λ p outside. refl)
+
+-- None of its sums is odd: they are of no values.
+still_odd : (s : Shape) (t : ℕ) (zs : List ℤ) (p : ℕ) → Still (neighbour s) t (suc p) → odd_at s t zs p ≡ 0
+unfolding odd_at sum_on
+still_odd s t zs p still =
+    ap₂ (λ (a b : ℤ). odd_of (a +ℤ b)) (none Left) (none Right) ∙ no_odd
+  where
+    none : (b : Side) → value_at zs (neighbour s t b (suc p)) ≡ pos 0
+    none b = ap (value_at zs) (still b) ∙ value_zero zs
+
+    no_odd : odd_of (pos 0 +ℤ pos 0) ≡ 0
+    no_odd = unfold odd_of in refl
+
+pub passed_odds : (s : Shape) (t lo hi : ℕ) → ((p : ℕ) → lo ≤ p → p < hi → Still (neighbour s) t (suc p)) →
+    (zs : List ℤ) (k : ℕ) → lo ≤ k → k ≤ hi → odd_sums s t zs k ≡ odd_sums s t zs lo
+passed_odds s t lo hi still zs zero le in_face = ap (odd_sums s t zs) (omega arith)
+passed_odds s t lo hi still zs (suc k) le in_face =
+    le_or_lt (suc k) lo
+    (λ all. ap (odd_sums s t zs) (omega arith))
+    (λ more.
+    omega (
+      arith,
+      odds_suc s t zs k,
+      still_odd s t zs k (still k (omega arith) (omega arith)),
+      passed_odds s t lo hi still zs k (omega arith) (omega arith),
+    ))

@@ -98,7 +98,7 @@ fn lower_faces(line: Line, table: &mut [i64]) -> u64
 
 // The table that a forward turn takes to this one: the faces from the first up.
 fn raise_faces(line: Line, table: &mut [i64]) -> u64
-    requires { (line.shape.border ≡ true) × TableOf line.shape (2 ^ 55) table.old }
+    requires { (line.shape.border ≡ true) × TableOf line.shape (2 ^ 53) table.old }
     ensures walked { table.new ≡ table_worked false line.shape line.place table.old }
     ensures turned { table.new ≡ former_table line.shape line.place table.old }
     ensures odds { result ≡ odd_sums line.shape line.place table.new (points_of line.shape) }
@@ -128,7 +128,7 @@ pub fn lower(line: Line, table: &mut [i64]) -> u64
 
 // The table that a forward turn takes to this one, whether or not that turn is accepted. Answers how many sums were odd.
 pub fn raise(line: Line, table: &mut [i64]) -> u64
-    requires { TableOf line.shape (2 ^ 55) table.old }
+    requires { TableOf line.shape (2 ^ 53) table.old }
     ensures walked { table.new ≡ table_worked false line.shape line.place table.old }
     ensures turned { table.new ≡ former_table line.shape line.place table.old }
     ensures odds { result ≡ odd_sums line.shape line.place table.new (points_of line.shape) }

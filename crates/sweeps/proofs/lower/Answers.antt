@@ -1,18 +1,24 @@
 -- `sweeps::lower` meets its contract: with a zero border the table is one face, which ends with its last point.
 -- Assumes nothing.
-use mathlib.Core.Path.{◌∙◌}
+use mathlib.Core.Path.{ap, sym, ◌∙◌}
 use mathlib.Core.Bool.{true}
 use Rattle.lists.specs.Lists.{whole_turn}
-use Rattle.sweeps.proofs.Faces.{all_turned, all_odds}
+use Rattle.sweeps.proofs.Faces.{all_turned, all_odds, all_worked}
 use Rattle.sweeps.proofs.lower.Goals as goal
+
+pub returns-clause-walked : goal.returns-clause-walked
+returns-clause-walked c =
+    let face = c.whole.ensures in
+    rw (face.0, face.1, face.2) at c.lower_face.ensures.walked ∙ all_worked c.args.line c.if-line.false c.args.table.now c.requires.0 true c.args.table.now
 
 pub returns-clause-turned : goal.returns-clause-turned
 unfolding whole_turn
 returns-clause-turned c =
     let face = c.whole.ensures in
-    rw (face.0, face.1, face.2) at c.lower_face.ensures.turned ∙ all_turned c.args.line c.args.table.now c.requires.0 true
+    rw (face.0, face.1, face.2) at c.lower_face.ensures.turned ∙ all_turned c.args.line c.if-line.false c.args.table.now c.requires.0 true
 
 pub returns-clause-odds : goal.returns-clause-odds
 returns-clause-odds c =
     let face = c.whole.ensures in
-    all_odds c.args.line c.args.table.now c.requires.0 c.args.table.now c.lower_face.result (rw (face.0, face.1, face.2) at c.lower_face.ensures.odds)
+    all_odds c.args.line c.if-line.false c.args.table.now c.requires.0 c.args.table.now c.lower_face.result
+    (rw (face.0, face.1, face.2) at c.lower_face.ensures.odds)

@@ -1,0 +1,91 @@
+-- A face of a table with values on the border as a way over the faces meets it: where it starts and ends, that nothing moves on it where the axis is a border axis, and
+-- that the work on it is that of its level lists.
+-- Assumes nothing.
+use mathlib.Core.Path.{◌≡◌, refl, ap, ap₂, sym, ◌∙◌}
+use mathlib.Core.Bool.{Bool, true, false}
+use mathlib.Core.List.{List}
+use mathlib.Core.Logic.{◌⊎◌, inl, inr}
+use Prim.Native.Nat.{ℕ, zero, suc, ◌+◌, ◌-◌, ◌*◌, ◌^◌, ◌≤◌, ◌<◌}
+use native.Mathlib.Nat.{sub-zero}
+use native.Mathlib.Omega.{arith}
+use borrow.Author.Tests.{eq-eqb, ne_eqb}
+use lib.IntN.{ℤ}
+use lib.ListN.{length}
+use Rattle.std.specs.Prelude.{Option, Some, None}
+use Rattle.numbering.specs.declared.Side.{Side}
+use Rattle.numbering.specs.Count.{points}
+use Rattle.hierarchy.specs.Grid.{Still}
+use Rattle.faces.specs.Row.{all_faces, marks_of, inner_of, row}
+use Rattle.faces.proofs.Row.{row_zero, row_suc, row_mono}
+use Rattle.shapes.specs.declared.Shape.{Shape}
+use Rattle.shapes.specs.Shapes.{points_of}
+use Rattle.grids.specs.Grids.{neighbour, height}
+use Rattle.grids.specs.Faces.{faces_of}
+use Rattle.grids.proofs.Faces.{faces_end, faces_bordered}
+use Rattle.grids.proofs.Facets.{face_still}
+use Rattle.neighbours.specs.Faced.{FacetOf}
+use Rattle.neighbours.specs.declared.facets.Line.{Line}
+use Rattle.neighbours.specs.declared.facets.Facet.{Facet}
+use Rattle.neighbours.proofs.Staying.{facet_end}
+use Rattle.lists.specs.Lists.{odd_sums, whole_turn, turned_between}
+use Rattle.lists.specs.Steps.{NoLarger}
+use Rattle.walks.specs.Walks.{walk_down, walk_up}
+use Rattle.lists.proofs.Turned.{still_turn}
+use Rattle.sweeps.specs.Sweeps.{lists_worked, walk, face_worked, faces_down, faces_up, table_worked}
+use Rattle.sweeps.proofs.Parted.{Parted, none_parted, all_parted, parted_within}
+use Rattle.sweeps.proofs.Odds.{odds_none, odds_few}
+use Rattle.sweeps.proofs.Room.{turned_within, former_within}
+use Rattle.sweeps.proofs.Faces.{turn_long}
+use Rattle.sweeps.proofs.Row.{StaysAs, still_same, not_yet, face_down, face_up, face_odds, passed_down, passed_up, passed_odds, StaysAs}
+
+-- A face's points, numbered from the table's first.
+module _ (line : Line) (on : line.shape.border ≡ true) (f : ℕ) (in_row : f < faces_of line.shape) where
+  abbrev s : Shape
+  s = line.shape
+
+  abbrev t : ℕ
+  t = line.place
+
+  abbrev lo : ℕ
+  lo = row s.axes s.level f
+
+  abbrev hi : ℕ
+  hi = row s.axes s.level (suc f)
+
+  pub order : lo ≤ hi
+  order = row_mono s.axes s.level f (suc f) (omega arith)
+
+  pub inside_table : hi ≤ points_of s
+  inside_table = omega (arith, row_mono s.axes s.level (suc f) (faces_of s) in_row, faces_end s)
+
+  -- Where the axis is a border axis of it.
+  module _ (border : FacetOf line f None) where
+    pub nothing_moves : (p : ℕ) → lo ≤ p → p < hi → Still (neighbour s) t (suc p)
+    nothing_moves p from to = face_still s on f (rw (faces_bordered s on) at in_row) t line.axis border p from to
+
+    pub passed_over : (ahead : Bool) (ys : List ℤ) → face_worked ahead s t f ys ≡ ys
+    unfolding face_worked
+    passed_over ahead ys = rw (ne_eqb (marks_of s.axes f t) 0 (λ e. omega (arith, border))) refl
+
+  -- Where it is an inner axis.
+  module _ (facet : Facet) (is : FacetOf line f (Some facet)) where
+    pub facet_line : facet.line ≡ line
+    facet_line = is.1
+
+    pub starts_at : facet.base ≡ lo
+    starts_at = is.3
+
+    pub ends_at : facet_end facet ≡ hi
+    ends_at =
+        omega (
+          arith,
+          is.3,
+          row_suc s.axes s.level f,
+          ap₂ (λ (k n : ℕ). points k n) is.2 (ap (λ (l : Line). l.shape.level) is.1),
+        )
+
+    pub worked_as : (ahead : Bool) (ys zs : List ℤ) →
+        zs ≡ lists_worked ahead facet.line.shape facet.line.place facet.base facet.axes (walk ahead facet.axes facet.line.shape.level) ys →
+        zs ≡ face_worked ahead s t f ys
+    unfolding face_worked
+    worked_as ahead ys zs e = rw (eq-eqb (marks_of s.axes f t) 0 is.0) (rw (is.1, is.2, is.3) at e)
