@@ -1,5 +1,5 @@
--- What the calls answer, case by case: the check of the shape decides first, then the count of its points or the check of the point; a call that answered a number passed
--- its checks, and the number is the point's.
+-- What the calls answer, case by case: the check of the shape decides first, then the count of its points or the check of the point; a call that answered a
+-- number passed its checks, and the number is the point's.
 -- Assumes nothing.
 use Rattle.std.specs.Prelude.{Ok, Err}
 use mathlib.Core.Path.{◌≡◌, refl}

@@ -1,5 +1,5 @@
--- The walk that takes together what the inner axes of a face have: after t axes what those among them have stands at their places, one after the other, and nothing past
--- them. What is put back stands at its axis again. True since an inner axis adds one place and a border axis none.
+-- The walk that takes together what the inner axes of a face have: after t axes what those among them have stands at their places, one after the other, and
+-- nothing past them. What is put back stands at its axis again. True since an inner axis adds one place and a border axis none.
 -- Assumes nothing.
 use mathlib.Core.Path.{◌≡◌, refl, ap, sym, ◌∙◌}
 use mathlib.Core.List.{List}

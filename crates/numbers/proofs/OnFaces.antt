@@ -1,5 +1,5 @@
--- Points of a table with values on the border by way of their faces: what the inner axes have, taken together, is a point of the sparse table of the face, and its number
--- there is the number within the face; what a number within a face has there, put back, is the point of the number.
+-- Points of a table with values on the border by way of their faces: what the inner axes have, taken together, is a point of the sparse table of the face, and
+-- its number there is the number within the face; what a number within a face has there, put back, is the point of the number.
 -- Assumes nothing.
 use mathlib.Core.Path.{◌≡◌, refl, ap, ap₂, sym, ◌∙◌, fun_ext}
 use Prim.Native.Nat.{ℕ, ◌+◌, ◌-◌, ◌%◌, ◌≤◌, ◌<◌}

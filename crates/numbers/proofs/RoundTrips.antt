@@ -81,5 +81,9 @@ point_then_number s k p e =
     let l = first_places s.axes (level_on s k) few name.marked.no_level in
     let i = first_places s.axes (index_on s k) few name.marked.no_index in
     let passed =
-    named_passes s _ _ _ (first_length s.axes (mark_on s k) few) (first_length s.axes (level_on s k) few) (first_length s.axes (index_on s k) few) (rw (m, l, i) name) in
+    named_passes s _ _ _
+    (first_length s.axes (mark_on s k) few)
+    (first_length s.axes (level_on s k) few)
+    (first_length s.axes (index_on s k) few)
+    (rw (m, l, i) name) in
     rw (← a.1, shape, passed, m, l, i, number_of_point_lem s k small)

@@ -81,8 +81,8 @@ fn moved(t: usize, p: MarkedPoint, mark: u32, level: u32, index: u32) -> MarkedP
     }
 }
 
-// What lies beside a point on axis t (from 0), whose level there is at most 8 and whose index is one of its level: the parent, or across the border the border point or
-// none; beside a border point none.
+// What lies beside a point on axis t (from 0), whose level there is at most 8 and whose index is one of its level: the parent, or across the border the border
+// point or none; beside a border point none.
 fn beside(border: bool, t: usize, side: Side, p: MarkedPoint) -> Option<MarkedPoint>
     requires { (t < 8) × (at p.point.levels t ≤ 8) × (at p.point.indices t % 2 ≡ 1) × (at p.point.indices t < 2 ^ suc (at p.point.levels t)) }
     ensures { result ≡ located (beside border t side (at p.marks) (at p.point.levels) (at p.point.indices)) }

@@ -1,5 +1,5 @@
--- The test of the marks says what the facts of a point say, both ways: an axis without a mark fits; a mark fits only where there are values on the border, is 1 or 2, and
--- has level 0 and index 1.
+-- The test of the marks says what the facts of a point say, both ways: an axis without a mark fits; a mark fits only where there are values on the border, is 1
+-- or 2, and has level 0 and index 1.
 -- Assumes nothing.
 use mathlib.Core.Path.{◌≡◌, refl, ap, sym, ◌∙◌, fun_ext}
 use mathlib.Core.Bool.{Bool, true, ◌&&◌, false≢true}

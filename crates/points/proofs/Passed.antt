@@ -1,5 +1,5 @@
--- What a passed check of a point tells: a shape in range, lists of a place for each axis, and a point of the shape in them; and a point of a shape in range passes. By
--- value it is the same point and has the same number, since past its axes it has zeros.
+-- What a passed check of a point tells: a shape in range, lists of a place for each axis, and a point of the shape in them; and a point of a shape in range
+-- passes. By value it is the same point and has the same number, since past its axes it has zeros.
 -- Assumes nothing.
 use Rattle.std.specs.Prelude.{Ok}
 use mathlib.Core.Path.{◌≡◌, ap, ◌∙◌}

@@ -1,5 +1,5 @@
--- The point that a step reaches is the one after: a point of a sparse table whose number is one higher is the point of that number, and it is below the count. And after
--- a number that has none below the count above it there is none.
+-- The point that a step reaches is the one after: a point of a sparse table whose number is one higher is the point of that number, and it is below the count.
+-- And after a number that has none below the count above it there is none.
 -- Assumes nothing.
 use Rattle.std.specs.Prelude.{Option, Some, None}
 use mathlib.Core.List.{List}

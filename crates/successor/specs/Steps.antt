@@ -1,5 +1,5 @@
--- What the steps of the call answer: the next indices on the same levels, and the point that comes next within one sparse table and over all faces of a table with values
--- on the border.
+-- What the steps of the call answer: the next indices on the same levels, and the point that comes next within one sparse table and over all faces of a table
+-- with values on the border.
 -- Assumes nothing.
 use Rattle.std.specs.Prelude.{Bool, true, false, List, ◌≡◌, ℕ, suc, ◌%◌, ◌^◌, ◌≤◌, ◌<◌, ltb, length, if◌then◌else◌, Option, Some, None}
 use Rattle.naturals.specs.Sum.{sum_to}

@@ -1,5 +1,5 @@
-// The successor of a point: the next indices on its levels or, past the last of them, the first point of the next level vector; with values on the border, past the last
-// point of a face the first of the next face.
+// The successor of a point: the next indices on its levels or, past the last of them, the first point of the next level vector; with values on the border, past
+// the last point of a face the first of the next face.
 #![tactic(auto)]
 
 ghost use Rattle.std.specs.Prelude.{◌≡◌, ◌^◌, ◌≤◌, ◌<◌};

@@ -1,4 +1,5 @@
--- `numbers::border_number` meets its contract: what the inner axes have is a point of the sparse table of the face, and its number there follows the face's first number.
+-- `numbers::border_number` meets its contract: what the inner axes have is a point of the sparse table of the face, and its number there follows the face's
+-- first number.
 -- Assumes nothing.
 use mathlib.Core.Path.{◌≡◌, ◌∙◌}
 use Prim.Native.Nat.{◌≤◌}
