@@ -1,6 +1,7 @@
 -- What comes after a point of a shape, by its sort: with a zero border in the one sparse table, with values on the border over all faces.
 -- Assumes nothing.
-use mathlib.Core.Path.{◌≡◌, refl}
+use Rattle.std.specs.Prelude.{Option, Some, None}
+use mathlib.Core.Path.{◌≡◌, refl, ap}
 use mathlib.Core.Bool.{true, false}
 use Prim.Native.Nat.{ℕ, suc}
 use lib.Dec.{ltb}
@@ -12,9 +13,21 @@ use Rattle.shapes.specs.declared.Shape.{Shape}
 use Rattle.shapes.proofs.Layers.{points_plain, points_bordered}
 use Rattle.grids.specs.Grids.{number_of}
 use Rattle.grids.proofs.Points.{number_plain, number_bordered}
+use Rattle.numbered.specs.Numbered.{unmarked}
+use Rattle.points.specs.declared.Point.{Point}
+use Rattle.points.specs.declared.MarkedPoint.{MarkedPoint}
+use Rattle.points.specs.Points.{eight}
 use Rattle.numbers.proofs.Answers.{point_plain, point_bordered}
 use Rattle.successor.specs.Steps.{next_inner, next_marked, unmarked_next}
 use Rattle.successor.specs.Successor.{after}
+
+-- A point without marks, from the answer.
+pub unmarked_some : (o : Option Point) (x : MarkedPoint) → unmarked_next o ≡ Some x → o ≡ Some x.point
+unfolding unmarked_next
+unmarked_some None x e = absurd cc
+unmarked_some (Some p) x e =
+    let same : record { marks = eight unmarked; point = p } ≡ x = cc in
+    ap (λ (y : MarkedPoint). Some y.point) same
 
 module _ (s : Shape) where
   pub after_bordered : s.border ≡ true → (m l i : ℕ → ℕ) →

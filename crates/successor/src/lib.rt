@@ -32,16 +32,20 @@ fn next_indices(axes: usize, levels: &[u32; 8], indices: &mut [u32; 8]) -> bool
     true
 }
 
-// The next point of a sparse table of these axes and top level, or none past the last.
-fn next_point(axes: u32, level: u32, p: Point) -> Option<Point>
+// The next point of a sparse table of these axes and top level, or none past the last. (With its marks, none of them set: to put them beside it afterwards would be a copy
+// right after a write, which takes twice as long.)
+fn next_point(axes: u32, level: u32, p: Point) -> Option<MarkedPoint>
     requires { (1 ≤ axes) × (axes ≤ 8) × (level ≤ 8) × PointIn axes level p.levels p.indices }
-    ensures { result ≡ next_inner axes level (number axes (at p.levels) (at p.indices)) }
+    ensures { result ≡ unmarked_next (next_inner axes level (number axes (at p.levels) (at p.indices))) }
 {
     let mut indices = p.indices;
     if !next_indices(axes as usize, &p.levels, &mut indices) {
-        return Some(Point {
-            levels: p.levels,
-            indices,
+        return Some(MarkedPoint {
+            marks: [0; 8],
+            point: Point {
+                levels: p.levels,
+                indices,
+            },
         });
     }
     let mut vector = LevelVector::of(axes, p.levels);
@@ -49,18 +53,21 @@ fn next_point(axes: u32, level: u32, p: Point) -> Option<Point>
     if level < vector.sum {
         return None;
     }
-    Some(Point {
-        levels: vector.levels,
-        indices,
+    Some(MarkedPoint {
+        marks: [0; 8],
+        point: Point {
+            levels: vector.levels,
+            indices,
+        },
     })
 }
 
 // ---- with values on the border
 
 // The next point of a face of so many inner axes, or none past the last: without inner axes it has one point.
-fn next_within(axes: u32, level: u32, p: Point) -> Option<Point>
+fn next_within(axes: u32, level: u32, p: Point) -> Option<MarkedPoint>
     requires { (axes ≤ 8) × (level ≤ 8) × PointIn axes level p.levels p.indices }
-    ensures { result ≡ next_inner axes level (number axes (at p.levels) (at p.indices)) }
+    ensures { result ≡ unmarked_next (next_inner axes level (number axes (at p.levels) (at p.indices))) }
 {
     if axes == 0 {
         return None;
@@ -87,22 +94,12 @@ fn next_marked(axes: u32, level: u32, marks: [u32; 8], p: Point) -> Option<Marke
 {
     let here = numbers::within_face(axes, &marks, p);
     if let Some(next) = next_within(here.inner, level, here.point) {
-        return Some(numbers::on_face(axes, marks, next));
+        return Some(numbers::on_face(axes, marks, next.point));
     }
     next_face(axes, level, numbers::border_number(axes, level, &marks, p))
 }
 
 // ---- the call
-
-// A point without a mark, where there is one.
-fn unmarked(next: Option<Point>) -> Option<MarkedPoint>
-    ensures { result ≡ unmarked_next next }
-{
-    Some(MarkedPoint {
-        marks: [0; 8],
-        point: next?,
-    })
-}
 
 // The successor of a point, or none, the end, after the last.
 #[tactic(auto, using(points::proofs::Handed::turned_away), unfolding(crate::specs::Successor::successor_of))]
@@ -119,5 +116,5 @@ pub fn successor(
         let marks = points::padded(marks);
         return Ok(next_marked(shape.axes, shape.level, marks, p));
     }
-    Ok(unmarked(next_point(shape.axes, shape.level, p)))
+    Ok(next_point(shape.axes, shape.level, p))
 }

@@ -2,7 +2,7 @@
 -- Assumes nothing.
 use Rattle.std.specs.Prelude.{Some}
 use mathlib.Core.Path.{◌≡◌, ap, sym, ◌∙◌}
-use Prim.Native.Nat.{◌≤◌}
+use Prim.Native.Nat.{ℕ, ◌≤◌}
 use native.Mathlib.Omega.{arith}
 use Rattle.numbering.specs.Point.{at}
 use Rattle.faces.specs.Packing.{before}
@@ -11,7 +11,8 @@ use Rattle.faces.proofs.Numbering.{border_number_lt}
 use Rattle.shapes.proofs.Layers.{border_points_small}
 use Rattle.numbers.proofs.InnerAxes.{before_le}
 use Rattle.numbers.proofs.OnFaces.{face_point, face_number}
-use Rattle.successor.specs.Steps.{next_inner}
+use Rattle.successor.specs.Steps.{next_inner, unmarked_next}
+use Rattle.successor.proofs.Sorts.{unmarked_some}
 use Rattle.successor.proofs.OnFace.{next_on_face}
 use Rattle.successor.proofs.next_marked.Goals.{After-next_within}
 use Rattle.successor.proofs.next_marked.Goals as goal
@@ -25,18 +26,20 @@ next_within-requires c =
 
 -- what the step within the face answers
 answer : (c : After-next_within) → let a = c.args in
-    c.next_within.result ≡ next_inner (before (at a.marks) a.axes) a.level (in_face a.axes (at a.marks) (at a.p.levels) (at a.p.indices))
+    c.next_within.result
+    ≡ unmarked_next (next_inner (before (at a.marks) a.axes) a.level (in_face a.axes (at a.marks) (at a.p.levels) (at a.p.indices)))
 answer c =
     let a = c.args in
     let w = c.within_face-here.ensures in
     rw (w.0, w.1) at c.next_within.ensures
-    ∙ ap (next_inner (before (at a.marks) a.axes) a.level) (face_number c.requires.2 (omega (arith, c.requires.0)))
+    ∙ ap (λ (q : ℕ). unmarked_next (next_inner (before (at a.marks) a.axes) a.level q)) (face_number c.requires.2 (omega (arith, c.requires.0)))
 
 pub returns-in-Some : goal.returns-in-Some
 returns-in-Some c =
     let step = (goal.at.returns-in-Some c).After-next_within in
     ap Some c.on_face.ensures
-    ∙ next_on_face c.requires.2 (omega (arith, c.requires.0)) c.in-Some.next (sym (answer step) ∙ c.in-Some.is)
+    ∙ next_on_face c.requires.2 (omega (arith, c.requires.0)) c.in-Some.next.point
+    (unmarked_some _ c.in-Some.next (sym (answer step) ∙ c.in-Some.is))
 
 pub next_face-requires : goal.next_face-requires
 next_face-requires c =

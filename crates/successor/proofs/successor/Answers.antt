@@ -37,4 +37,4 @@ returns c =
     let given = sym c.in_ok-p.ensures in
     let p = handed _ _ _ _ given in
     rw (point_checked _ _ _ _ given, ← p.levels, ← p.indices)
-    (ap Ok (rw c.next_point.ensures at c.unmarked.ensures ∙ after_plain c.args.shape c.if-shape.false _ _ _))
+    (ap Ok (c.next_point.ensures ∙ after_plain c.args.shape c.if-shape.false _ _ _))
