@@ -32,8 +32,9 @@ fn next_indices(axes: usize, levels: &[u32; 8], indices: &mut [u32; 8]) -> bool
     true
 }
 
-// The next point of a sparse table of these axes and top level, or none past the last. (With its marks, none of them set: to put them beside it afterwards would be a copy
-// right after a write, which takes twice as long.)
+// The next point of a sparse table of these axes and top level, or none past the last. (With its marks, none of them set, and inlined, with the other sort of table
+// out of line: else the answer is copied right after a write, and the call takes twice as long.)
+#[inline(always)]
 fn next_point(axes: u32, level: u32, p: Point) -> Option<MarkedPoint>
     requires { (1 ≤ axes) × (axes ≤ 8) × (level ≤ 8) × PointIn axes level p.levels p.indices }
     ensures { result ≡ unmarked_next (next_inner axes level (number axes (at p.levels) (at p.indices))) }
@@ -88,6 +89,7 @@ fn next_face(axes: u32, level: u32, number: u64) -> Option<MarkedPoint>
 }
 
 // The successor of a point of these axes and top level: the next point of its face, or the first of the next face, or the end.
+#[inline(never)]
 fn next_marked(axes: u32, level: u32, marks: [u32; 8], p: Point) -> Option<MarkedPoint>
     requires { (axes ≤ 4) × (level ≤ 8) × Marked axes level (at marks) (at p.levels) (at p.indices) }
     ensures { result ≡ next_marked axes level (border_number axes level (at marks) (at p.levels) (at p.indices)) }
