@@ -54,6 +54,9 @@ module _ (s : Shape) (t : ℕ) (b : Side) (p : ℕ) where
       unfolding neighbour
       to_parent = numbered_points.to_parent (numbered s) t b p h axis inner
 
+      pub across_there : (numbered s).border ≡ true → PointOf s across_marks across_levels across_indices
+      across_there = numbered_points.across_there (numbering s) t b p h axis inner
+
       pub parent_there : is_border (level_on s p t) numerator_on ≡ false → PointOf s (mark_on s p) parent_levels parent_indices
       parent_there = numbered_points.parent_there (numbering s) t b p h axis inner
 
@@ -61,3 +64,10 @@ module _ (s : Shape) (t : ℕ) (b : Side) (p : ℕ) where
       pub border_at : neighbour s t b (suc p) ≡ 0 → (numerator_on ≡ 0) ⊎ (numerator_on ≡ 2 ^ suc (level_on s p t))
       unfolding neighbour
       border_at = numbered_points.border_at (numbered s) t b p h axis inner
+
+  -- Beside a code p + 1 lies nothing, or there are its point and the axis, it lies inside, and its parent lies off the border or the border has values.
+  pub none_or_point : {A : Type 0} → (neighbour s t b (suc p) ≡ 0 → A) →
+      (p < points_of s → t < s.axes → mark_on s p t ≡ 0 → is_border (level_on s p t) numerator_on ≡ false → A) →
+      (p < points_of s → t < s.axes → mark_on s p t ≡ 0 → is_border (level_on s p t) numerator_on ≡ true → (numbered s).border ≡ true → A) → A
+  unfolding neighbour
+  none_or_point = numbered_points.none_or_point (numbered s) t b p

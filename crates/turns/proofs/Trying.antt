@@ -72,10 +72,10 @@ module _ (s : Shape) (t : ℕ) (xs : List ℤ) where
 -- ---- a turn and its undoing, in either direction
 
 module _ {s : Shape} {t : ℕ} {xs : List ℤ} (on : OnAxis s t xs) (contents : in_limits xs ≡ true) where
-  pub sweep_room : NoLarger (2 ^ 55) xs
+  pub sweep_room : NoLarger (2 ^ 53) xs
   sweep_room code = omega (arith, contents_within xs contents code)
 
-  pub undo_room : (ahead : Bool) → NoLarger (2 ^ 55) (whole_turn ahead s t xs)
+  pub undo_room : (ahead : Bool) → NoLarger (2 ^ 53) (whole_turn ahead s t xs)
   unfolding whole_turn height
   undo_room true code = omega (arith, turned_within s t xs (2 ^ 47) on.long (contents_within xs contents) code)
   undo_room false code = omega (arith, former_within s t xs (2 ^ 47) on.long (omega (arith, on.low)) (contents_within xs contents) code)

@@ -20,14 +20,14 @@ use states::State;
 pub trait Turning: Direction {
     // The turn of a table, whether or not it is accepted; answers how many sums were odd of the table that is not forward on the axis.
     fn sweep(line: Line, table: &mut [i64]) -> u64
-        requires { TableOf line.shape (2 ^ 55) table.old }
+        requires { TableOf line.shape (2 ^ 53) table.old }
         ensures turned { table.new ≡ whole_turn Self.ahead line.shape line.place table.old }
         ensures odds { result ≡ odd_sums line.shape line.place (if Self.ahead then table.old else table.new) (points_of line.shape) };
 
     // The turn that undoes it. (The other direction's `sweep`: a trait that names the other type would need a law that its `ahead` is the opposite, and a second
     // trait for that type to be of.)
     fn undo(line: Line, table: &mut [i64])
-        requires { TableOf line.shape (2 ^ 55) table.old }
+        requires { TableOf line.shape (2 ^ 53) table.old }
         ensures { table.new ≡ whole_turn (not Self.ahead) line.shape line.place table.old };
 
     // The state that it leaves; refused where the axis is turned already. (One function for both would be handed the bit and the refusal,
