@@ -1,7 +1,7 @@
 -- The shifts of weights and cells lose nothing: coordinates are at most the unit, levels at most 8 and indices below 2^9, so all stays far below 2^64.
 -- Assumes nothing.
-use mathlib.Core.Path.{◌≡◌, ap, sym, ◌∙◌}
-use Prim.Native.Nat.{ℕ, suc, ◌+◌, ◌*◌, ◌/◌, ◌%◌, ◌^◌, ◌≤◌, ◌<◌}
+use mathlib.Core.Path.{◌≡◌, refl, ap, sym, ◌∙◌}
+use Prim.Native.Nat.{ℕ, zero, suc, ◌+◌, ◌*◌, ◌/◌, ◌%◌, ◌^◌, ◌≤◌, ◌<◌}
 use native.Mathlib.Nat.{suc-mul, mul_comm, mul-le-mul_right, pow-suc, div-lt_iff_lt-mul}
 use native.Mathlib.Numerals.{add-one}
 use native.Mathlib.Omega.{arith}
@@ -11,7 +11,9 @@ use Rattle.std.specs.Int.{abs_diff}
 use Rattle.naturals.proofs.Cases.{le_or_lt}
 use Rattle.surfaces.specs.Weights.{unit, distance}
 use Rattle.surfaces.proofs.Unit.{unit_bits, unit_is}
-use Rattle.axis_weights.specs.Steps.{cell_of, index_of_cell}
+use Rattle.surfaces.specs.Weights.{axis_weight}
+use Rattle.surfaces.proofs.AxisHat.{weight_upper}
+use Rattle.axis_weights.specs.Steps.{cell_of, marked_cell, index_of_cell}
 
 module _ (x l : ℕ) (small : x ≤ unit) (low : l ≤ 8) where
   pub here_shifted : x * 2 ^ (l + 1) % 2 ^ 64 ≡ x * 2 ^ suc l
@@ -53,3 +55,27 @@ module _ (x l : ℕ) where
 
   pub cell_small : l ≤ 8 → cell_of x l < 256
   cell_small low = omega (arith, cell_below, pow_mono {i = l} {j = 8} low)
+
+-- The same with marks: on a border there is one cell, and the coordinate is in it.
+module _ (x : ℕ) where
+  pub marked_cell_inside : (a l : ℕ) → a ≡ 0 → marked_cell x a l ≡ cell_of x l
+  unfolding marked_cell
+  marked_cell_inside a l e = rw e refl
+
+  pub marked_cell_border : (a l : ℕ) → 0 < a → marked_cell x a l ≡ 0
+  unfolding marked_cell
+  marked_cell_border zero l some = absurd (omega arith)
+  marked_cell_border (suc a) l some = refl
+
+  pub marked_cell_below : (a l : ℕ) → marked_cell x a l < 2 ^ l
+  marked_cell_below zero l = rw (marked_cell_inside 0 l refl) (cell_below x l)
+  marked_cell_below (suc a) l = rw (marked_cell_border (suc a) l (omega arith)) (pow_pos l)
+
+  pub marked_index_below : (a l : ℕ) → index_of_cell (marked_cell x a l) < 2 ^ suc l
+  marked_index_below a l = omega (arith, marked_cell_below a l, pow-suc 2 l)
+
+  -- The weight on an upper border.
+  pub border_upper : (a : ℕ) → 1 ≤ a → (a ≡ 1 → ⊥) → x ≡ axis_weight unit x a 0 1
+  border_upper zero some ne = absurd (omega arith)
+  border_upper (suc zero) some ne = absurd (ne refl)
+  border_upper (suc (suc a)) some ne = sym (weight_upper unit x 0 1 a)

@@ -2,7 +2,7 @@
 #![tactic(auto)]
 
 ghost use Rattle.std.specs.Prelude.{◌≡◌, suc, ◌^◌, ◌≤◌, ◌<◌};
-ghost use Rattle.surfaces.specs.Weights.{unit, is_coordinate, weight};
+ghost use Rattle.surfaces.specs.Weights.{unit, is_coordinate, weight, axis_weight};
 ghost use Rattle.axis_weights.specs.Steps.{cell_of};
 
 use surfaces::BITS;
@@ -29,6 +29,18 @@ impl Coordinate {
     {
         let apart = (self.x << (level + 1)).abs_diff(index << BITS);
         (1u64 << BITS).saturating_sub(apart)
+    }
+
+    // The weight there of a point on a border of the axis: the lower one of mark 1, the upper one of mark 2. (It has level 0 and index 1.)
+    pub fn border_weight(self, mark: u32) -> u64
+        requires { 1 ≤ mark }
+        ensures { result ≡ axis_weight unit self.x mark 0 1 }
+    {
+        if mark == 1 {
+            (1 << BITS) - self.x
+        } else {
+            self.x
+        }
     }
 
     // The cell of a level on one axis in which it lies, counted from 0: the point of index 2 × cell + 1 alone can have a weight above 0 there.

@@ -4,7 +4,7 @@ use mathlib.Core.Path.{◌≡◌, ap₂, ◌∙◌}
 use Prim.Native.Nat.{suc, ◌+◌, ◌*◌, ◌%◌, ◌^◌}
 use native.Mathlib.Omega.{arith}
 use Rattle.surfaces.specs.Weights.{unit, distance}
-use Rattle.surfaces.proofs.Cells.{weight_is}
+use Rattle.surfaces.proofs.Hat.{weight_is}
 use Rattle.surfaces.proofs.Unit.{unit_bits, unit_is}
 use Rattle.axis_weights.proofs.Weighing.{here_shifted, centre_shifted, apart_is}
 use Rattle.axis_weights.proofs.Coordinate.weight.Goals as goal
