@@ -6,7 +6,12 @@ use Prim.Native.Nat.{ℕ, zero, suc, ◌≤◌}
 use native.Mathlib.Omega.{arith}
 use lib.Bits.{bit_and}
 use lib.Dec.{eqb, ltb}
+use mir.Val.{bool_byte}
 use Rattle.interpolation.specs.Hats.{indicator}
+
+pub bit_byte : (b : Bool) → bool_byte b ≡ indicator b
+bit_byte true = refl
+bit_byte false = refl
 
 pub bit_small : (b : Bool) → indicator b ≤ 1
 bit_small true = omega arith

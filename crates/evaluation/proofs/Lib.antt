@@ -1,8 +1,11 @@
 pub mod Bits
 pub mod Blocks
+pub mod Lists
 pub mod Reading
 pub mod Walking
 pub mod Reaching
 pub mod Stepping
+pub mod Facing
+pub mod Inside
 pub mod Tabulating
 pub mod Taking

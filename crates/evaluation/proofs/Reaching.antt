@@ -1,5 +1,5 @@
--- S along the walk, where it is asked for: after each level vector it is the sum over all points before the next vector's first, since of the points of a
--- vector only the one taken can be reached. With at most 12,870 vectors and coefficients of at most 2^47 it stays below 2^61, and fits 64 bits.
+-- S along the walk, where it is asked for: after each level list it is the sum over all points passed, since of the points of a list only the one taken can be
+-- reached. With at most 12,870 lists and coefficients of at most 2^47 it stays below 2^61, and fits 64 bits.
 -- Assumes nothing.
 use mathlib.Core.Bool.{Bool, true, false}
 use mathlib.Core.List.{List}
@@ -13,18 +13,14 @@ use Rattle.naturals.proofs.Cases.{true_or_false}
 use Rattle.naturals.proofs.Sums.{sum_to_zero, sum_block}
 use Rattle.integers.specs.Half.{in_limit}
 use Rattle.integers.proofs.Sizes.{limit_size}
-use Rattle.numbering.specs.Point.{at}
 use Rattle.hierarchy.specs.Turns.{value_at}
 use Rattle.shapes.specs.declared.Shape.{Shape}
 use Rattle.shapes.specs.Shapes.{points_of}
 use Rattle.surfaces.specs.Weights.{unit}
 use Rattle.surfaces.specs.Surface.{weight_on}
 use Rattle.surfaces.specs.Margin.{is_reached, absolute_reached, absolute_sum, absolute_sum_in, absolute_sum_at}
-use Rattle.vectors.specs.declared.LevelVector.{LevelVector}
-use Rattle.vectors.specs.Steps.{vectors_before, NextVector}
 use Rattle.evaluation.specs.Steps.{if_asked}
-use Rattle.evaluation.proofs.Blocks.{taken_at, block_unreached}
-use Rattle.evaluation.proofs.Walking.{Walked, vector_in, levels_low, taken_in}
+use Rattle.evaluation.proofs.Blocks.{ListAt, taken_at, taken_below, block_unreached}
 
 module _ (s : Shape) (xs : List ℤ) (x : ℕ → ℕ) where
   -- What point number p adds to S.
@@ -51,52 +47,40 @@ pub asked_small : (asked : Bool) (i j : ℕ) → i ≤ j → if_asked asked i �
 asked_small true i j h = h
 asked_small false i j h = omega arith
 
--- S so far, where it is asked for: over all points before the next vector's first, and small by the vectors passed.
-pub record Tallied (asked : Bool) (s : Shape) (xs : List ℤ) (x : ℕ → ℕ) (total first : ℕ) (vector : LevelVector) : Type 0 where
+-- S so far, past so many lists, where it is asked for: over all points before number `first`, and small.
+pub record Tallied (asked : Bool) (s : Shape) (xs : List ℤ) (x : ℕ → ℕ) (total first count : ℕ) : Type 0 where
   pub sum : total ≡ if_asked asked (sum_to (size_at s xs x) first)
-  pub small : total ≤ vectors_before s.axes (at vector.levels) * 2 ^ 47
+  pub small : total ≤ count * 2 ^ 47
 
-pub tallied_starts : (asked : Bool) (s : Shape) (xs : List ℤ) (x : ℕ → ℕ) (vector : LevelVector) → Tallied asked s xs x 0 0 vector
-tallied_starts true s xs x vector = record { sum = sym (sum_to_zero (size_at s xs x)); small = omega arith }
-tallied_starts false s xs x vector = record { sum = refl; small = omega arith }
+pub tallied_starts : (asked : Bool) (s : Shape) (xs : List ℤ) (x : ℕ → ℕ) → Tallied asked s xs x 0 0 0
+tallied_starts true s xs x = record { sum = sym (sum_to_zero (size_at s xs x)); small = omega arith }
+tallied_starts false s xs x = record { sum = refl; small = omega arith }
 
-module _ {asked : Bool} {s : Shape} {xs : List ℤ} {x : ℕ → ℕ} {high : ℤ} {low first total : ℕ} {vector : LevelVector}
-    (w : Walked s xs x high low first vector) (r : Tallied asked s xs x total first vector) where
-  pub tallied_room : total ≤ 12870 * 2 ^ 47
-  tallied_room = omega (arith, r.small, mul-le-mul_right (2 ^ 47) w.few)
+module _ {asked : Bool} {s : Shape} {xs : List ℤ} {x : ℕ → ℕ} {total first count : ℕ} (r : Tallied asked s xs x total first count) where
+  pub tallied_room : count ≤ 12870 → total ≤ 12870 * 2 ^ 47
+  tallied_room few = omega (arith, r.small, mul-le-mul_right (2 ^ 47) few)
 
-  module _ (h : first < points_of s) (inside : (t : ℕ) → t < s.axes → x t ≤ unit) where
-    others_none : (j : ℕ) → j < 2 ^ vector.sum → (j ≡ taken_at x (at vector.levels) s.axes → ⊥) → size_at s xs x (first + j) ≡ 0
-    others_none j lt ne =
-        size_unreached s xs x (first + j)
-        (ap (λ (a : ℕ). is_reached s.axes (weight_on s x (a + j))) (sym w.here)
-        ∙ block_unreached s x (at vector.levels) (vector_in w).rest (levels_low w h inside) inside j (rw (vector_in w).total lt) ne)
+  pub tallied_more : {count' : ℕ} → count ≤ count' → Tallied asked s xs x total first count'
+  tallied_more le = record { sum = r.sum; small = omega (arith, r.small, mul-le-mul_right (2 ^ 47) le) }
 
-    -- One vector more.
-    pub tallied_steps : (vector' : LevelVector) → NextVector s.axes vector.sum vector.levels vector'.sum vector'.levels →
-        in_limit (value_at xs (suc (first + taken_at x (at vector.levels) s.axes))) ≡ true →
-        Tallied asked s xs x (total + if_asked asked (size_at s xs x (first + taken_at x (at vector.levels) s.axes))) (first + 2 ^ vector.sum) vector'
-    tallied_steps vector' next limited =
-        let p : ℕ = first + taken_at x (at vector.levels) s.axes in
+  module _ {m l : ℕ → ℕ} (a : ListAt s m l first) (inside : (t : ℕ) → t < s.axes → x t ≤ unit) where
+    others_none : (j : ℕ) → j < 2 ^ sum_to l s.axes → (j ≡ taken_at x m l s.axes → ⊥) → size_at s xs x (first + j) ≡ 0
+    others_none j lt ne = size_unreached s xs x (first + j) (block_unreached a x inside j lt ne)
+
+    -- One list more.
+    pub tallied_steps : in_limit (value_at xs (suc (first + taken_at x m l s.axes))) ≡ true →
+        Tallied asked s xs x (total + if_asked asked (size_at s xs x (first + taken_at x m l s.axes))) (first + 2 ^ sum_to l s.axes) (suc count)
+    tallied_steps limited =
+        let p : ℕ = first + taken_at x m l s.axes in
         record {
           sum =
               ap (λ (k : ℕ). k + if_asked asked (size_at s xs x p)) r.sum
               ∙ asked_plus asked (sum_to (size_at s xs x) first) (size_at s xs x p)
-              ∙ ap (if_asked asked) (sym (sum_block (size_at s xs x) first (2 ^ vector.sum) (taken_at x (at vector.levels) s.axes) (taken_in w h inside) others_none));
-          small =
-              omega (
-                arith,
-                r.small,
-                suc-mul (vectors_before s.axes (at vector.levels)) (2 ^ 47),
-                asked_small asked (size_at s xs x p) (2 ^ 47) (size_small s xs x p limited),
-                ap (λ (k : ℕ). k * 2 ^ 47) next.count,
-              );
+              ∙ ap (if_asked asked) (sym (sum_block (size_at s xs x) first (2 ^ sum_to l s.axes) (taken_at x m l s.axes) (taken_below x m l s.axes) others_none));
+          small = omega (arith, r.small, suc-mul count (2 ^ 47), asked_small asked (size_at s xs x p) (2 ^ 47) (size_small s xs x p limited));
         }
 
--- Past the last point it is S.
-pub tallied_ends : {asked : Bool} {s : Shape} {xs : List ℤ} {x : ℕ → ℕ} {high : ℤ} {low first total : ℕ} {vector : LevelVector} → Walked s xs x high low first vector →
-    Tallied asked s xs x total first vector → points_of s ≤ first → total ≡ if_asked asked (absolute_sum_at s (value_at xs) x)
-unfolding absolute_sum_in absolute_sum
-tallied_ends {asked} {s} {xs} {x} {first = first} w r h =
-    let all_points : first ≡ points_of s = omega (arith, w.within) in
-    r.sum ∙ ap (λ (m : ℕ). if_asked asked (sum_to (size_at s xs x) m)) all_points
+  -- Past the last point it is S.
+  pub tallied_ends : first ≡ points_of s → total ≡ if_asked asked (absolute_sum_at s (value_at xs) x)
+  unfolding absolute_sum_in absolute_sum
+  tallied_ends all_points = r.sum ∙ ap (λ (m : ℕ). if_asked asked (sum_to (size_at s xs x) m)) all_points

@@ -1,16 +1,14 @@
--- The walk over the axes that takes one point of a level vector: after t axes it has the position that their cells give, their joint weight, whether their
+-- The walk over the axes that takes one point of a level list: after t axes it has the position that their cells give, their joint weight, whether their
 -- weights are all above zero, and the sum of their levels. True since each axis adds its cell, shifted by the levels before it, multiplies by its weight, and
 -- keeps the bit where that is above zero. No shift loses a bit, since a cell is below 2^level, and no product overflows, since weights and joint weights are
 -- at most the unit.
 -- Assumes nothing.
-use mathlib.Core.List.{List}
 use mathlib.Core.Path.{◌≡◌, refl, ap, ap₂, sym, ◌∙◌}
-use Prim.Native.Nat.{ℕ, zero, suc, ◌+◌, ◌*◌, ◌/◌, ◌%◌, ◌^◌, ◌≤◌, ◌<◌}
+use Prim.Native.Nat.{ℕ, zero, suc, ◌+◌, ◌*◌, ◌%◌, ◌^◌, ◌≤◌, ◌<◌}
 use native.Mathlib.Nat.{mul_comm, mul-le-mul}
-use native.Mathlib.Numerals.{add-one}
 use native.Mathlib.Omega.{arith}
 use lib.Arith.{digits_lt}
-use lib.Bits.{bit_and}
+use lib.Dec.{ltb}
 use lib.Pow.{pow_pos, pow_mono, shl_exact}
 use Rattle.naturals.specs.Sum.{sum_to}
 use Rattle.naturals.proofs.Tests.{all_zero, all_suc}
@@ -20,100 +18,140 @@ use Rattle.interpolation.specs.Hats.{indicator}
 use Rattle.surfaces.specs.Weights.{unit}
 use Rattle.surfaces.proofs.Unit.{unit_bits, unit_is}
 use Rattle.surfaces.proofs.Joint.{joint_zero, joint_suc, joint_le}
+use Rattle.faces.specs.Packing.{before}
+use Rattle.faces.proofs.Packing.{before_inner, before_border, before_borders}
 use Rattle.evaluation.specs.declared.Hat.{Hat}
-use Rattle.evaluation.specs.Steps.{hat_of, cell_at, weight_at, reached_on, joint_of, reached_of, step_of, position_of, Bounded}
-use Rattle.evaluation.proofs.Bits.{bit_of_both}
+use Rattle.evaluation.specs.declared.Passed.{Passed}
+use Rattle.evaluation.specs.Steps.{weight_at, reached_on, joint_of, reached_of, step_of, position_of, Found, Bounded, none_passed, Room, passed_with, term_passed, whole}
+use Rattle.evaluation.proofs.Bits.{bit_above, bit_of_both}
+use Rattle.evaluation.proofs.Lists.{whole_inner, whole_border}
 
-pub position_zero : (hats : List (List Hat)) (l : ℕ → ℕ) → position_of hats l 0 ≡ 0
+pub position_zero : (h : ℕ → Hat) (l : ℕ → ℕ) → position_of h l 0 ≡ 0
 unfolding position_of
-position_zero hats l = sum_to_zero (step_of hats l)
+position_zero h l = sum_to_zero (step_of h l)
 
-pub position_suc : (hats : List (List Hat)) (l : ℕ → ℕ) (k : ℕ) → position_of hats l (suc k) ≡ position_of hats l k + cell_at hats l k * 2 ^ sum_to l k
+pub position_suc : (h : ℕ → Hat) (l : ℕ → ℕ) (k : ℕ) → position_of h l (suc k) ≡ position_of h l k + (h k).cell * 2 ^ sum_to l k
 unfolding position_of step_of
-position_suc hats l k = sum_to_suc (step_of hats l) k
+position_suc h l k = sum_to_suc (step_of h l) k
 
-module _ {d : ℕ} {hats : List (List Hat)} (bounded : Bounded d hats) (l : ℕ → ℕ) (few : sum_to l d ≤ 8) where
+module _ {h : ℕ → Hat} {l : ℕ → ℕ} {d : ℕ} (bounded : Bounded h l d) where
   level_le : (t : ℕ) → t < d → l t ≤ 8
-  level_le t h = omega (arith, sum_to_mono l (suc t) d h, sum_to_suc l t)
+  level_le t lt = omega (arith, sum_to_mono l (suc t) d lt, sum_to_suc l t, bounded.levels)
 
-  cell_lt : (t : ℕ) → t < d → cell_at hats l t < 2 ^ l t
-  cell_lt t h = bounded.cell t (l t) h (omega (arith, level_le t h))
+  joint_small : (k : ℕ) → k ≤ d → joint_of h k ≤ unit
+  joint_small k le = joint_le unit (weight_at h) k (λ t lt. bounded.weight t (omega arith))
 
-  weight_le : (t : ℕ) → t < d → weight_at hats l t ≤ unit
-  weight_le t h = bounded.weight t (l t) h (omega (arith, level_le t h))
-
-  joint_small : (k : ℕ) → k ≤ d → joint_of hats l k ≤ unit
-  joint_small k h = joint_le unit (weight_at hats l) k (λ t lt. weight_le t (omega arith))
-
-  pub position_lt : (k : ℕ) → k ≤ d → position_of hats l k < 2 ^ sum_to l k
-  position_lt zero h = omega (arith, position_zero hats l, pow_pos (sum_to l 0))
-  position_lt (suc k) h =
+  pub position_lt : (k : ℕ) → k ≤ d → position_of h l k < 2 ^ sum_to l k
+  position_lt zero le = omega (arith, position_zero h l, pow_pos (sum_to l 0))
+  position_lt (suc k) le =
       omega (
         arith,
-        position_suc hats l k,
+        position_suc h l k,
         pow_sum l k,
         mul_comm (2 ^ sum_to l k) (2 ^ l k),
-        digits_lt (cell_lt k h) (position_lt k (omega arith)),
+        digits_lt (bounded.cell k le) (position_lt k (omega arith)),
       )
 
-pub record Taken (hats : List (List Hat)) (l : ℕ → ℕ) (d t position joint reached sum : ℕ) : Type 0 where
-  pub axis : t ≤ d
-  pub total : sum ≡ sum_to l t
-  pub packed : position ≡ position_of hats l t
-  pub weighed : joint ≡ joint_of hats l t
-  pub reaches : reached ≡ indicator (reached_of hats l t)
+-- ---- axis by axis
 
-pub taken_starts : (hats : List (List Hat)) (l : ℕ → ℕ) (d : ℕ) → Taken hats l d 0 0 (2 ^ unit_bits) 1 0
-taken_starts hats l d =
+pub record Taken (h : ℕ → Hat) (l : ℕ → ℕ) (d t : ℕ) (passed : Passed) : Type 0 where
+  pub axis : t ≤ d
+  pub total : passed.sum ≡ sum_to l t
+  pub packed : passed.position ≡ position_of h l t
+  pub weighed : passed.joint ≡ joint_of h t
+  pub reaches : passed.reached ≡ indicator (reached_of h t)
+
+pub taken_starts : (h : ℕ → Hat) (l : ℕ → ℕ) (d : ℕ) → Taken h l d 0 none_passed
+taken_starts h l d =
     record {
       axis = omega arith;
       total = sym (sum_to_zero l);
-      packed = sym (position_zero hats l);
-      weighed = sym (joint_zero unit (weight_at hats l) ∙ unit_is);
-      reaches = ap indicator (sym (all_zero (reached_on hats l)));
+      packed = sym (position_zero h l);
+      weighed = sym (joint_zero unit (weight_at h));
+      reaches = ap indicator (sym (all_zero (reached_on h)));
     }
 
-module _ {d : ℕ} {hats : List (List Hat)} {l : ℕ → ℕ} {t position joint reached sum : ℕ} (bounded : Bounded d hats) (few : sum_to l d ≤ 8)
-    (state : Taken hats l d t position joint reached sum) (h : t < d) where
+module _ {h : ℕ → Hat} {l : ℕ → ℕ} {d t : ℕ} {passed : Passed} (bounded : Bounded h l d) (state : Taken h l d t passed) (lt : t < d) where
   pub level_small : l t ≤ 8
-  level_small = level_le bounded l few t h
+  level_small = level_le bounded t lt
 
-  pub sum_fits : sum + l t ≤ 8
-  sum_fits = omega (arith, sum_to_mono l (suc t) d h, sum_to_suc l t)
+  sum_fits : passed.sum + l t ≤ 8
+  sum_fits = omega (arith, sum_to_mono l (suc t) d lt, sum_to_suc l t, state.total, bounded.levels)
 
-  turned : position + cell_at hats l t * 2 ^ sum % 2 ^ 64 ≡ position_of hats l (suc t)
-  turned =
-      omega (
-        arith,
-        position_suc hats l t,
-        shl_exact {a = cell_at hats l t} (l t) sum 64 (cell_lt bounded l few t h) (omega (arith, sum_fits)),
-        ap (λ (s : ℕ). cell_at hats l t * 2 ^ s) state.total,
-      )
+  turned : passed.position + (h t).cell * 2 ^ passed.sum ≡ position_of h l (suc t)
+  turned = omega (arith, position_suc h l t, state.packed, ap (λ (s : ℕ). (h t).cell * 2 ^ s) state.total)
 
-  pub position_fits : position + cell_at hats l t * 2 ^ sum % 2 ^ 64 < 256
+  position_fits : passed.position + (h t).cell * 2 ^ passed.sum < 256
   position_fits =
       omega (
         arith,
         turned,
-        position_lt bounded l few (suc t) h,
-        pow_mono {i = sum_to l (suc t)} {j = 8} (omega (arith, sum_to_mono l (suc t) d h)),
+        position_lt bounded (suc t) lt,
+        pow_mono {i = sum_to l (suc t)} {j = 8} (omega (arith, sum_to_mono l (suc t) d lt, bounded.levels)),
       )
 
-  pub joint_fits : joint * weight_at hats l t ≤ 2 ^ (unit_bits + unit_bits)
-  joint_fits =
-      let small : joint ≤ unit = omega (arith, joint_small bounded l few t state.axis) in
-      omega (arith, mul-le-mul small (weight_le bounded l few t h), ap₂ (λ (a b : ℕ). a * b) unit_is unit_is)
+  joint_fits : passed.joint * (h t).weight ≤ unit * unit
+  joint_fits = mul-le-mul (omega (arith, state.weighed, joint_small bounded t state.axis)) (bounded.weight t lt)
+
+  pub taken_room : Room passed (h t) (l t)
+  taken_room =
+      record {
+        sum = sum_fits;
+        cell = bounded.cell t lt;
+        position = position_fits;
+        joint = joint_fits;
+      }
 
   -- One axis more.
-  pub taken_steps :
-      Taken hats l d (t + 1) (position + cell_at hats l t * 2 ^ sum % 2 ^ 64) (joint * weight_at hats l t / unit) (bit_and reached ((hat_of hats t (l t)).above)) (sum + l t)
+  pub taken_steps : Taken h l d (suc t) (passed_with passed (h t) (l t))
   taken_steps =
       record {
-        axis = omega arith;
-        total = rw add-one (omega (arith, sum_to_suc l t));
-        packed = rw add-one turned;
-        weighed = rw (add-one, joint_suc unit (weight_at hats l) t, ← state.weighed) refl;
+        axis = lt;
+        total = omega (arith, state.total, sum_to_suc l t);
+        packed = turned;
+        weighed = rw (joint_suc unit (weight_at h) t, ← state.weighed) refl;
         reaches =
-            rw (add-one, all_suc (reached_on hats l) t, state.reaches)
-            (bit_of_both (reached_of hats l t) ((hat_of hats t (l t)).above) (bounded.above t (l t) h (omega (arith, level_small))));
+            rw (all_suc (reached_on h) t, state.reaches)
+            (bit_of_both (reached_of h t) ((h t).above) (bounded.above t lt));
       }
+
+-- Past the last axis.
+pub taken_ends : {h : ℕ → Hat} {l : ℕ → ℕ} {d t : ℕ} {passed : Passed} → Taken h l d t passed → d ≤ t → Found h l d (term_passed passed)
+taken_ends {h} {l} {d} {t} {passed} state past =
+    let last : t ≡ d = omega (arith, past, state.axis) in
+    record {
+      position = state.packed ∙ ap (position_of h l) last;
+      joint = state.weighed ∙ ap (joint_of h) last;
+      reached =
+          ap (ltb 0) (state.reaches ∙ ap (λ (k : ℕ). indicator (reached_of h k)) last) ∙ bit_above (reached_of h d);
+    }
+
+-- ---- one axis, as the code adds it
+
+module _ {passed : Passed} {g : Hat} {a : ℕ} (room : Room passed g a) where
+  pub cell_shifted : g.cell * 2 ^ passed.sum % 2 ^ 64 ≡ g.cell * 2 ^ passed.sum
+  cell_shifted = shl_exact {a = g.cell} a passed.sum 64 room.cell (omega (arith, room.sum))
+
+  pub product_fits : passed.joint * g.weight ≤ 2 ^ (unit_bits + unit_bits)
+  product_fits = omega (arith, room.joint, ap₂ ◌*◌ unit_is unit_is)
+
+-- ---- on a face
+
+-- Of the axes passed not more are inner.
+pub place_le : (m : ℕ → ℕ) (t : ℕ) → before m t ≤ t
+place_le m t = omega (arith, before_borders m t)
+
+module _ (m : ℕ → ℕ) (t : ℕ) where
+  pub next_inner : m t ≡ 0 → (place : ℕ) → place ≡ before m t → place + 1 ≡ before m (suc t)
+  next_inner e place is = omega (arith, is, before_inner m t e)
+
+  pub next_border : (m t ≡ 0 → ⊥) → (place : ℕ) → place ≡ before m t → place ≡ before m (suc t)
+  next_border ne place is = is ∙ sym (before_border m t (omega arith))
+
+-- The level of an inner axis stands at its place, and that of a border axis is 0.
+module _ (d : ℕ) (m v : ℕ → ℕ) (t : ℕ) (lt : t < d) where
+  pub inner_level : m t ≡ 0 → (place : ℕ) → place ≡ before m t → v place ≡ whole d m v t
+  inner_level e place is = ap v is ∙ sym (whole_inner d m v t lt e)
+
+  pub border_level : (m t ≡ 0 → ⊥) → 0 ≡ whole d m v t
+  border_level ne = sym (whole_border d m v t lt (omega arith))

@@ -1,14 +1,14 @@
-// The sums behind an estimate and its margin: one point for each level vector, the weights of an axis once for each level.
+// The sums behind an estimate and its margin: one point for each level list of each face, the weights of an axis once for each level and border.
 #![tactic(auto)]
 
 ghost use Rattle.std.specs.Prelude.{true, ◌≡◌, ◌&&◌, ◌*◌, ◌^◌, ◌≤◌, length, nat_abs, if◌then◌else◌};
-ghost use Rattle.naturals.specs.Sum.{sum_to};
 ghost use Rattle.numbering.specs.Point.{at};
 ghost use Rattle.hierarchy.specs.Turns.{value_at};
 ghost use Rattle.surfaces.specs.Surface.{estimate_at};
-ghost use Rattle.evaluation.specs.Steps.{hat_at, AxisHats, Tabulated, Found, Bounded, Listed, Evaluable, evaluated_at};
+ghost use Rattle.evaluation.specs.Steps.{hat_at, hats_of, AxisHats, Tabulated, MarkedHats, MarkedTable, none_passed, Room, passed_with, term_passed, Found, Bounded, MarksAt, levels_on, face_hats, Listed, Evaluable, evaluated_at};
 
 use axis_weights::Coordinate;
+use layouts::Layout;
 use shapes::Shape;
 use std::array;
 use surfaces::BITS;
@@ -25,16 +25,29 @@ struct Hat {
 }
 
 impl Hat {
-    // That of a coordinate at a level.
+    // That of a coordinate inside at a level.
     #[tactic(auto, using(axis_weights::proofs::Weighing::index_below, axis_weights::proofs::Weighing::cell_small))]
     fn at(coordinate: Coordinate, level: u32) -> Hat
         requires { level ≤ 8 }
-        ensures { result ≡ hat_at coordinate.x level }
+        ensures { result ≡ hat_at coordinate.x 0 level }
     {
         let cell = coordinate.cell(level);
         let weight = coordinate.weight(level, 2 * cell + 1);
         Hat {
             cell: cell as u32,
+            above: u32::from(weight > 0),
+            weight,
+        }
+    }
+
+    // That on a border of the axis. (There is one cell, and one level.)
+    fn on_border(coordinate: Coordinate, mark: u32) -> Hat
+        requires { 1 ≤ mark }
+        ensures { result ≡ hat_at coordinate.x mark 0 }
+    {
+        let weight = coordinate.border_weight(mark);
+        Hat {
+            cell: 0,
             above: u32::from(weight > 0),
             weight,
         }
@@ -65,8 +78,36 @@ fn tabulated(coordinates: &[u32]) -> [[Hat; 9]; 8]
     hats
 }
 
-// The one point of a level vector that can have a weight above 0 on each axis: its position among the points of the vector, its joint weight, and whether it
-// has, so that it is reached.
+// Those of an axis by mark: inside (0), and on the lower (1) and the upper border (2), where level 0 alone is read.
+fn marked_hats(coordinate: Coordinate) -> [[Hat; 9]; 3]
+    ensures { MarkedHats coordinate.x result }
+{
+    [
+        axis_hats(coordinate),
+        [Hat::on_border(coordinate, 1); 9],
+        [Hat::on_border(coordinate, 2); 9],
+    ]
+}
+
+// Those of all axes.
+fn marked_table(coordinates: &[u32]) -> [[[Hat; 9]; 3]; 8]
+    requires { Listed (length coordinates.now) coordinates.now }
+    ensures { MarkedTable (at coordinates.now) (length coordinates.now) result }
+{
+    let none = Hat {
+        cell: 0,
+        above: 0,
+        weight: 0,
+    };
+    let mut hats = [[[none; 9]; 3]; 8];
+    for (t, x) in coordinates.iter().enumerate() {
+        hats[t] = marked_hats(Coordinate { x: u64::from(*x) });
+    }
+    hats
+}
+
+// The one point of a level list that can have a weight above 0 on each axis: its position among the points of the list, its joint weight, and whether it has,
+// so that it is reached.
 #[derive(Clone, Copy)]
 struct Term {
     position: u64,
@@ -87,28 +128,88 @@ impl Term {
     }
 }
 
+// What is found of it on the axes passed: its position, its joint weight, 1 where its weight is above 0 on each of them, else 0, and the sum of its levels.
+#[derive(Clone, Copy)]
+struct Passed {
+    position: u64,
+    joint: u64,
+    reached: u32,
+    sum: u32,
+}
+
+impl Passed {
+    // On no axis.
+    #[inline(always)]
+    fn none() -> Passed
+        ensures { result ≡ none_passed }
+    {
+        Passed {
+            position: 0,
+            joint: 1 << BITS,
+            reached: 1,
+            sum: 0,
+        }
+    }
+
+    // On one axis more, where it has this hat and level.
+    #[inline(always)]
+    fn with(self, hat: Hat, level: u32) -> Passed
+        requires { Room self hat level }
+        ensures { result ≡ passed_with self hat level }
+    {
+        Passed {
+            position: self.position + (u64::from(hat.cell) << self.sum),
+            joint: (self.joint * hat.weight) >> BITS,
+            reached: self.reached & hat.above,
+            sum: self.sum + level,
+        }
+    }
+
+    // On all axes.
+    #[inline(always)]
+    #[tactic(auto, using(crate::proofs::Bits::bit_is))]
+    fn term(self) -> Term
+        ensures { result ≡ term_passed self }
+    {
+        Term {
+            position: self.position,
+            joint: self.joint,
+            reached: self.reached != 0,
+        }
+    }
+}
+
+// That of a level list inside on every axis, axis by axis.
 #[inline]
-#[tactic(auto, using(crate::proofs::Bits::bit_is))]
 fn taken(hats: &[[Hat; 9]], levels: &[u32; 8]) -> Term
-    requires { Bounded (length hats.now) hats.now × (sum_to (at levels.now) (length hats.now) ≤ 8) }
-    ensures { Found hats.now (at levels.now) (length hats.now) result }
+    requires { Bounded (hats_of hats.now (at levels.now)) (at levels.now) (length hats.now) }
+    ensures { Found (hats_of hats.now (at levels.now)) (at levels.now) (length hats.now) result }
 {
-    let mut position: u64 = 0;
-    let mut joint: u64 = 1 << BITS;
-    let mut reached: u32 = 1;
-    let mut sum: u32 = 0;
+    let mut passed = Passed::none();
     for (axis, level) in hats.iter().zip(levels) {
-        let hat = axis[*level as usize];
-        position += u64::from(hat.cell) << sum;
-        joint = (joint * hat.weight) >> BITS;
-        reached &= hat.above;
-        sum += *level;
+        passed = passed.with(axis[*level as usize], *level);
     }
-    Term {
-        position,
-        joint,
-        reached: reached != 0,
+    passed.term()
+}
+
+// The same on a face: an inner axis has the level at its place among the inner ones, a border axis level 0.
+#[inline]
+fn taken_on_face(axes: u32, hats: &[[[Hat; 9]; 3]; 8], marks: &[u32; 8], levels: &[u32; 8]) -> Term
+    requires { MarksAt axes marks.now × Bounded (face_hats hats.now axes marks.now levels.now) (levels_on axes marks.now levels.now) axes }
+    ensures { Found (face_hats hats.now axes marks.now levels.now) (levels_on axes marks.now levels.now) axes result }
+{
+    let mut passed = Passed::none();
+    let mut place: usize = 0;
+    for t in 0..axes as usize {
+        let mark = marks[t];
+        let mut level = 0;
+        if mark == 0 {
+            level = levels[place];
+            place += 1;
+        }
+        passed = passed.with(hats[t][mark as usize][level as usize], level);
     }
+    passed.term()
 }
 
 // An estimate; and S, the sum of the absolute coefficients of the points that are reached, or 0 where it is not asked for.
@@ -118,6 +219,40 @@ pub struct Evaluated {
     pub absolute_sum: u64,
 }
 
+// Those of a table with values on the border, face by face. (A face without inner axes has one point, as one axis of top level 0 has.)
+fn summed_over_faces(asked: bool, shape: Shape, table: &[i64], coordinates: &[u32]) -> Evaluated
+    requires { Evaluable shape table.now coordinates.now × (shape.border ≡ true) }
+    ensures value { result ≡ evaluated_at asked shape (value_at table.now) (at coordinates.now) }
+    ensures room { result.absolute_sum ≤ 12870 * 2 ^ 47 }
+{
+    let hats = marked_table(coordinates);
+    let layout = Layout::of(shape.axes, shape.level);
+    let mut sum = Sum::new();
+    let mut absolute_sum: u64 = 0;
+    for f in 0..layout.count {
+        let face = layout.face(f);
+        let (axes, top) = if face.inner == 0 {
+            (1, 0)
+        } else {
+            (face.inner, shape.level)
+        };
+        let mut first = face.start;
+        let mut vector = LevelVector::first(axes);
+        while vector.sum <= top {
+            let term = taken_on_face(shape.axes, &hats, &face.marks, &vector.levels);
+            let c = table[(first + term.position) as usize];
+            sum.add(c, term.joint);
+            absolute_sum += term.absolute(asked, c);
+            first += 1 << vector.sum;
+            vector.next();
+        }
+    }
+    Evaluated {
+        estimate: sum.joined(),
+        absolute_sum,
+    }
+}
+
 // Those at these coordinates. S is of at most 12,870 points. (Inlined, so that an estimate alone does not look which points are reached.)
 #[inline(always)]
 fn summed(asked: bool, shape: Shape, table: &[i64], coordinates: &[u32]) -> Evaluated
@@ -125,6 +260,9 @@ fn summed(asked: bool, shape: Shape, table: &[i64], coordinates: &[u32]) -> Eval
     ensures value { result ≡ evaluated_at asked shape (value_at table.now) (at coordinates.now) }
     ensures room { result.absolute_sum ≤ 12870 * 2 ^ 47 }
 {
+    if shape.border {
+        return summed_over_faces(asked, shape, table, coordinates);
+    }
     let tabulated = tabulated(coordinates);
     let hats = &tabulated[..shape.axes as usize];
     let mut sum = Sum::new();

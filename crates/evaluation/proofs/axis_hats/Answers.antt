@@ -7,4 +7,4 @@ use Rattle.naturals.proofs.Made.{made}
 use Rattle.evaluation.proofs.axis_hats.Goals as goal
 
 pub returns : goal.returns
-returns c = made _ (λ (l : ℕ) (hat : Hat). hat ≡ hat_at c.args.coordinate.x l) _ (λ l hat f k. search rules) c.from_fn.result 9 c.from_fn.ensures.items no_hat
+returns c = made _ (λ (l : ℕ) (hat : Hat). hat ≡ hat_at c.args.coordinate.x 0 l) _ (λ l hat f k. search rules) c.from_fn.result 9 c.from_fn.ensures.items no_hat

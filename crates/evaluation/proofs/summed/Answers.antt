@@ -2,14 +2,20 @@ use Rattle.std.proofs.Common.{◌≡◌, ℕ, ◌+◌, ◌-◌, ◌^◌, ◌≤�
 use Rattle.std.proofs.lemmas.List.{get_or-drop}
 use Rattle.std.proofs.lemmas.Bool.{eqb-true, eqb-false}
 use mir.ValLaws.{to_z-of_z}
+use Rattle.naturals.specs.Sum.{sum_to}
 use Rattle.integers.specs.Half.{in_limit}
 use Rattle.numbering.specs.Point.{at}
+use Rattle.numbered.specs.Numbered.{unmarked}
 use Rattle.shapes.specs.Shapes.{points_of}
-use Rattle.evaluation.specs.Steps.{Tabulated, Found}
-use Rattle.evaluation.proofs.Walking.{walked_starts, high_room, low_room, walked_ends}
-use Rattle.evaluation.proofs.Reaching.{tallied_starts, tallied_room, tallied_ends}
-use Rattle.evaluation.proofs.Stepping.{size_in, tallied, sum_small, levels_small, vector_size, vector_within, place_read, place_small, weight_in_lem, value_in, value_fits, stepped}
-use Rattle.evaluation.proofs.Tabulating.{tabulated_bounded, tabulated_front}
+use Rattle.shapes.proofs.Layers.{points_plain}
+use Rattle.vectors.specs.Steps.{vectors_before}
+use Rattle.evaluation.specs.Steps.{hats_of, Tabulated, Found}
+use Rattle.evaluation.proofs.Lists.{vector_starts, none_before, vector_low, vector_steps, next_count}
+use Rattle.evaluation.proofs.Tabulating.{HatsAt, tabulated_front, tabulated_hats}
+use Rattle.evaluation.proofs.Walking.{summed_starts, high_room, low_room, summed_ends}
+use Rattle.evaluation.proofs.Reaching.{tallied_starts, tallied_ends}
+use Rattle.evaluation.proofs.Stepping.{Next, levels_small, list_size, list_within, bounded, place_read, place_small, weight_in_lem, value_in, value_fits, stepped, counted}
+use Rattle.evaluation.proofs.Inside.{next_inside}
 use Rattle.evaluation.proofs.summed.Goals.{After-tabulated-tabulated, In-loop-hats, After-taken-term}
 use Rattle.evaluation.proofs.summed.Goals as goal
 
@@ -17,11 +23,14 @@ pub loop-hats-init : goal.loop-hats-init
 loop-hats-init c =
     let a = c.args in
     let none : length a.table.now - length a.table.now ≡ 0 = omega arith in
-    rw (none, c.new-sum.ensures.high, c.new-sum.ensures.low) (
-      walked_starts a.shape a.table.now (at a.coordinates.now) c.first-vector.result c.first-vector.ensures,
+    let starts = c.first-vector.ensures in
+    let count = none_before a.shape.axes a.shape.level 0 c.first-vector.result starts in
+    rw (none, count, c.new-sum.ensures.high, c.new-sum.ensures.low) (
+      vector_starts a.shape.axes a.shape.level 0 c.first-vector.result starts,
       omega arith,
       refl,
-      tallied_starts a.asked a.shape a.table.now (at a.coordinates.now) c.first-vector.result,
+      summed_starts a.shape a.table.now (at a.coordinates.now),
+      tallied_starts a.asked a.shape a.table.now (at a.coordinates.now),
     )
 
 -- ---- the table of hats
@@ -31,6 +40,11 @@ hats_long c = length-take-le c.args.shape.axes c.tabulated-tabulated.result (ome
 
 hats_at : (c : After-tabulated-tabulated) → Tabulated (at c.args.coordinates.now) c.args.shape.axes (take c.args.shape.axes c.tabulated-tabulated.result)
 hats_at c = tabulated_front (rw c.requires.listed.long at c.tabulated-tabulated.ensures.0)
+
+-- so the hats of a level vector
+hats_here : (c : After-tabulated-tabulated) → (l : ℕ → ℕ) → sum_to l c.args.shape.axes ≤ 8 →
+    HatsAt (at c.args.coordinates.now) unmarked l c.args.shape.axes (hats_of (take c.args.shape.axes c.tabulated-tabulated.result) l)
+hats_here c l low = tabulated_hats (hats_at c) l low
 
 -- ---- where the walk is
 
@@ -43,18 +57,26 @@ unfolding first
 more c =
     omega (arith, c.loop-hats.invariant.1, eqb-false (length c.loop-hats.rest.now) 0 (sym c.is_empty.ensures ∙ c.loop-hats-test.true))
 
+next : (c : In-loop-hats) →
+    let a = c.args in
+    let loop = c.loop-hats in
+    Next a.asked a.shape a.table.now a.coordinates.now unmarked (at loop.vector.levels) loop.sum.high loop.sum.low loop.absolute_sum (first c) (vectors_before a.shape.axes (at loop.vector.levels)) loop.vector.sum
+unfolding first
+next c =
+    let inv = c.loop-hats.invariant in
+    next_inside c.requires c.if-shape.false inv.0 (more c) inv.3 inv.4
+
+found : (c : After-taken-term) → length (take c.args.shape.axes c.tabulated-tabulated.result) ≡ c.args.shape.axes →
+    Found (hats_of (take c.args.shape.axes c.tabulated-tabulated.result) (at c.loop-hats.vector.levels)) (at c.loop-hats.vector.levels) c.args.shape.axes c.taken-term.result
+found c long = rw long at c.taken-term.ensures
+
 pub taken-term-requires : goal.taken-term-requires
 unfolding first
 taken-term-requires c =
     let seen = goal.at.taken-term-requires c in
-    rw (hats_long seen.After-tabulated-tabulated) (
-      tabulated_bounded c.requires.listed.few (hats_at seen.After-tabulated-tabulated),
-      levels_small c.requires c.loop-hats.invariant.0 (more seen.In-loop-hats),
-    )
-
-found : (c : After-taken-term) → length (take c.args.shape.axes c.tabulated-tabulated.result) ≡ c.args.shape.axes →
-    Found (take c.args.shape.axes c.tabulated-tabulated.result) (at c.loop-hats.vector.levels) c.args.shape.axes c.taken-term.result
-found c long = rw long at c.taken-term.ensures
+    let n = next seen.In-loop-hats in
+    rw (hats_long seen.After-tabulated-tabulated)
+    (bounded n (hats_here seen.After-tabulated-tabulated (at c.loop-hats.vector.levels) (levels_small n)))
 
 -- The value read, as the table has it.
 read : (c : After-taken-term) →
@@ -70,93 +92,83 @@ pub offset_bounds-rest-term : goal.offset_bounds-rest-term
 unfolding first
 offset_bounds-rest-term c =
     let seen = goal.at.offset_bounds-rest-term c in
-    record { fits = omega (arith, place_small c.requires c.loop-hats.invariant.0 (more seen.In-loop-hats) (hats_at seen.After-tabulated-tabulated) (found seen.After-taken-term (hats_long seen.After-tabulated-tabulated))) }
+    let n = next seen.In-loop-hats in
+    let hats = hats_here seen.After-tabulated-tabulated (at c.loop-hats.vector.levels) (levels_small n) in
+    record { fits = omega (arith, place_small n hats (found seen.After-taken-term (hats_long seen.After-tabulated-tabulated))) }
 
 pub bounds-rest-term : goal.bounds-rest-term
 unfolding first
 bounds-rest-term c =
     let seen = goal.at.bounds-rest-term c in
-    omega (arith, place_read c.requires c.loop-hats.invariant.0 (more seen.In-loop-hats) (hats_at seen.After-tabulated-tabulated) (found seen.After-taken-term (hats_long seen.After-tabulated-tabulated)))
+    let n = next seen.In-loop-hats in
+    let hats = hats_here seen.After-tabulated-tabulated (at c.loop-hats.vector.levels) (levels_small n) in
+    omega (arith, place_read n hats (found seen.After-taken-term (hats_long seen.After-tabulated-tabulated)), c.loop-hats.invariant.1)
 
 pub add-requires : goal.add-requires
 unfolding first
 add-requires c =
     let seen = goal.at.add-requires c in
-    let inv = c.loop-hats.invariant.0 in
-    let here = more seen.In-loop-hats in
-    let hats = hats_at seen.After-tabulated-tabulated in
+    let n = next seen.In-loop-hats in
+    let hats = hats_here seen.After-tabulated-tabulated (at c.loop-hats.vector.levels) (levels_small n) in
     let term = found seen.After-taken-term (hats_long seen.After-tabulated-tabulated) in
     rw (read seen.After-taken-term) (
-      high_room inv,
-      low_room inv,
-      ap in_limit (to_z-of_z w64 _ (value_fits c.requires inv here hats term)) ∙ value_in c.requires inv here hats term,
-      weight_in_lem c.requires inv here hats term,
+      high_room n.summed,
+      low_room n.summed,
+      ap in_limit (to_z-of_z w64 _ (value_fits n hats term)) ∙ value_in n hats term,
+      weight_in_lem n hats term,
     )
 
 pub overflow_shl-vector : goal.overflow_shl-vector
-unfolding first
 overflow_shl-vector c =
-    omega (arith, sum_small c.requires c.loop-hats.invariant.0 (more (goal.at.overflow_shl-vector c).In-loop-hats))
+    let n = next (goal.at.overflow_shl-vector c).In-loop-hats in
+    omega (arith, n.small)
 
 pub split_at-requires : goal.split_at-requires
 unfolding first
 split_at-requires c =
-    let here = more (goal.at.split_at-requires c).In-loop-hats in
-    let inv = c.loop-hats.invariant in
-    omega (arith, vector_size c.requires inv.0 here, vector_within c.requires inv.0 here, inv.1)
+    let n = next (goal.at.split_at-requires c).In-loop-hats in
+    omega (arith, list_size n, list_within n, c.loop-hats.invariant.1)
 
 pub next-requires : goal.next-requires
-unfolding first
-next-requires c = sum_small c.requires c.loop-hats.invariant.0 (more (goal.at.next-requires c).In-loop-hats)
+next-requires c = (next (goal.at.next-requires c).In-loop-hats).small
 
 pub loop-hats-smaller : goal.loop-hats-smaller
-unfolding first
 loop-hats-smaller c =
-    let here = more (goal.at.loop-hats-smaller c).In-loop-hats in
-    let inv = c.loop-hats.invariant in
-    omega (arith, c.split_at.ensures.back_len, vector_size c.requires inv.0 here, pow_pos c.loop-hats.vector.sum)
+    let n = next (goal.at.loop-hats-smaller c).In-loop-hats in
+    omega (arith, c.split_at.ensures.back_len, list_size n, pow_pos c.loop-hats.vector.sum)
 
 pub loop-hats-preserved : goal.loop-hats-preserved
 unfolding first
 loop-hats-preserved c =
     let seen = goal.at.loop-hats-preserved c in
     let inv = c.loop-hats.invariant in
-    let here = more seen.In-loop-hats in
-    let hats = hats_at seen.After-tabulated-tabulated in
+    let here = seen.In-loop-hats in
+    let n = next here in
+    let hats = hats_here seen.After-tabulated-tabulated (at c.loop-hats.vector.levels) (levels_small n) in
     let term = found seen.After-taken-term (hats_long seen.After-tabulated-tabulated) in
+    let s = c.args.shape in
     let xs = c.args.table.now in
     let before : ℕ = length xs - length c.loop-hats.rest.now in
     let step : ℕ = 2 ^ c.loop-hats.vector.sum in
-    let size = vector_size c.requires inv.0 here in
-    let next : length xs - length c.split_at.result.1.now ≡ before + step =
-    omega (arith, c.split_at.ensures.back_len, size, vector_within c.requires inv.0 here, inv.1) in
-    let value = to_z-of_z w64 (get_or xs (before + c.taken-term.result.position) (pos 0)) (value_fits c.requires inv.0 here hats term) in
+    let size = list_size n in
+    let next_first : length xs - length c.split_at.result.1.now ≡ before + step =
+    omega (arith, c.split_at.ensures.back_len, size, list_within n, inv.1) in
+    let low = vector_low inv.0 (omega (arith, more here, c.requires.long, points_plain s c.if-shape.false)) in
+    let count = next_count inv.0 low c.next.new.self c.next.ensures in
+    let value = to_z-of_z w64 (get_or xs (before + c.taken-term.result.position) (pos 0)) (value_fits n hats term) in
     let is = read seen.After-taken-term in
-    rw next (
-      stepped c.requires inv.0 here hats term c.next.new.self c.next.ensures (rw (is, value) at c.add.ensures.high) (rw (is, value) at c.add.ensures.low),
+    rw next_first (
+      vector_steps inv.0 low c.next.new.self c.next.ensures,
       omega (arith, c.split_at.ensures.back_len, inv.1),
-      c.split_at.ensures.back ∙ ap₂ (λ (n : ℕ) (l : List ℤ). drop n l) size inv.2 ∙ drop-drop step before xs,
-      tallied c.requires inv.0 here hats term c.next.new.self inv.3 c.next.ensures (ap (λ (k : ℕ). c.loop-hats.absolute_sum + k) (rw (is, value) at c.absolute-absolute_sum.ensures)),
+      c.split_at.ensures.back ∙ ap₂ (λ (k : ℕ) (l : List ℤ). drop k l) size inv.2 ∙ drop-drop step before xs,
+      stepped n hats term (rw (is, value) at c.add.ensures.high) (rw (is, value) at c.add.ensures.low) count,
+      counted n hats term (ap (λ (k : ℕ). c.loop-hats.absolute_sum + k) (rw (is, value) at c.absolute-absolute_sum.ensures)) count,
     )
 
-pub overflow_add-absolute_sum : goal.overflow_add-absolute_sum
-unfolding first
-overflow_add-absolute_sum c =
-    let seen = goal.at.overflow_add-absolute_sum c in
+pub returns-clause-value : goal.returns-clause-value
+returns-clause-value c =
     let inv = c.loop-hats.invariant in
-    let here = more seen.In-loop-hats in
-    let hats = hats_at seen.After-tabulated-tabulated in
-    let term = found seen.After-taken-term (hats_long seen.After-tabulated-tabulated) in
-    let value = to_z-of_z w64 (get_or c.args.table.now (first seen.In-loop-hats + c.taken-term.result.position) (pos 0)) (value_fits c.requires inv.0 here hats term) in
-    record { fits = omega (arith, tallied_room inv.0 inv.3, rw (read seen.After-taken-term, value) at c.absolute-absolute_sum.ensures, size_in c.requires inv.0 here hats term) }
-
-pub returns : goal.returns
-returns c =
     let none : length c.loop-hats.rest.now ≡ 0 = eqb-true (length c.loop-hats.rest.now) 0 (sym c.is_empty.ensures ∙ c.loop-hats-test.false) in
-    let end : points_of c.args.shape ≤ length c.args.table.now - length c.loop-hats.rest.now = omega (arith, c.requires.long, none) in
-    let estimate = to_z-of_z w64 c.joined.result (record { sfits = c.joined.type_inv }) ∙ c.joined.ensures ∙ walked_ends c.loop-hats.invariant.0 end in
-    let absolute_sum = tallied_ends c.loop-hats.invariant.0 c.loop-hats.invariant.3 end in
-    record {
-      value = rw (estimate, absolute_sum) refl;
-      room = tallied_room c.loop-hats.invariant.0 c.loop-hats.invariant.3;
-    }
+    let end : length c.args.table.now - length c.loop-hats.rest.now ≡ points_of c.args.shape = omega (arith, c.requires.long, none) in
+    let estimate = to_z-of_z w64 c.joined.result (record { sfits = c.joined.type_inv }) ∙ c.joined.ensures ∙ summed_ends inv.3 end in
+    rw (estimate, tallied_ends inv.4 end) refl
