@@ -20,6 +20,7 @@ use Rattle.integers.specs.Half.{content_at}
 use Rattle.numbering.specs.Point.{at}
 use Rattle.hierarchy.specs.Turns.{value_at}
 use Rattle.shapes.proofs.Checked.{InRange}
+use Rattle.shapes.proofs.Layers.{most_bordered}
 use Rattle.surfaces.specs.Weights.{unit, is_coordinate}
 use Rattle.surfaces.specs.Surface.{estimate_at}
 use Rattle.states.specs.declared.State.{State}
@@ -66,7 +67,7 @@ module _ (s : State) (xs : List ℤ) (cs : List ℕ) (passed : check_estimate un
   pub in_range : InRange s.shape
   in_range = stands.range
 
-  listed : Listed d cs
+  pub listed : Listed d cs
   unfolding check_coordinates
   listed =
       let lengths = unless (eqb (length cs) d) ListLength in
@@ -90,6 +91,7 @@ module _ (s : State) (xs : List ℤ) (cs : List ℕ) (passed : check_estimate un
       record {
         some = in_range.low;
         low = in_range.top;
+        most = most_bordered in_range;
         long = stands.long;
         contents = λ p lt. all_at (content_at xs) (length xs) contents p (omega (arith, stands));
         listed = listed;
