@@ -79,21 +79,23 @@ fn tabulated(coordinates: &[u32]) -> [[Hat; 9]; 8]
 }
 
 // Those of an axis by mark: inside (0), and on the lower (1) and the upper border (2), where level 0 alone is read.
-fn marked_hats(coordinate: Coordinate) -> [[Hat; 9]; 3]
+fn marked_hats(inside: [Hat; 9], coordinate: Coordinate) -> [[Hat; 9]; 3]
+    requires { AxisHats coordinate.x inside }
     ensures { MarkedHats coordinate.x result }
 {
     [
-        axis_hats(coordinate),
+        inside,
         [Hat::on_border(coordinate, 1); 9],
         [Hat::on_border(coordinate, 2); 9],
     ]
 }
 
-// Those of all axes.
+// Those of all axes. (Not from `axis_hats`: with a second caller it is no longer made part of the first.)
 fn marked_table(coordinates: &[u32]) -> [[[Hat; 9]; 3]; 8]
     requires { Listed (length coordinates.now) coordinates.now }
     ensures { MarkedTable (at coordinates.now) (length coordinates.now) result }
 {
+    let inside = tabulated(coordinates);
     let none = Hat {
         cell: 0,
         above: 0,
@@ -101,7 +103,7 @@ fn marked_table(coordinates: &[u32]) -> [[[Hat; 9]; 3]; 8]
     };
     let mut hats = [[[none; 9]; 3]; 8];
     for (t, x) in coordinates.iter().enumerate() {
-        hats[t] = marked_hats(Coordinate { x: u64::from(*x) });
+        hats[t] = marked_hats(inside[t], Coordinate { x: u64::from(*x) });
     }
     hats
 }
