@@ -1,5 +1,5 @@
--- The walk over the faces of a table with values on the border, one after the other: a face begins where the one before ends, so once the lists of a face are passed both
--- sums and S are over all points before the next face, and past the last face over all points.
+-- The walk over the faces of a table with values on the border, one after the other: a face begins where the one before ends, so once the lists of a face are
+-- passed both sums and S are over all points before the next face, and past the last face over all points.
 -- Assumes nothing.
 use mathlib.Core.Bool.{Bool, true}
 use mathlib.Core.List.{List}
@@ -32,14 +32,19 @@ pub record ToFace (asked : Bool) (s : Shape) (xs : List ℤ) (cs : List ℕ) (f 
   pub summed : Summed s xs (at cs) high low (row s.axes s.level f) (lists_before s.axes s.level f)
   pub tallied : Tallied asked s xs (at cs) total (row s.axes s.level f) (lists_before s.axes s.level f)
 
--- And of face number f the lists before the one at hand.
-pub record OnFace (asked : Bool) (s : Shape) (xs : List ℤ) (cs : List ℕ) (f : ℕ) (face : Face) (w top first : ℕ) (vector : LevelVector) (high : ℤ) (low total : ℕ) : Type 0 where
+-- How many lists come before one of face number f, over w axes.
+abbrev pub lists_passed : Shape → ℕ → ℕ → (ℕ → ℕ) → ℕ
+lists_passed s f w v = lists_before s.axes s.level f + vectors_before w v
+
+-- All faces before number f are summed, and of that face the lists before the one at hand.
+pub record OnFace (asked : Bool) (s : Shape) (xs : List ℤ) (cs : List ℕ) (f : ℕ) (face : Face) (w top first : ℕ) (vector : LevelVector) (high : ℤ)
+    (low total : ℕ) : Type 0 where
   pub in_row : f < all_faces s.axes
   pub is : IsFace s.axes s.level f face
   pub walks : Walks face.inner s.level w top
   pub here : VectorAt w top face.start first vector
-  pub summed : Summed s xs (at cs) high low first (lists_before s.axes s.level f + vectors_before w (at vector.levels))
-  pub tallied : Tallied asked s xs (at cs) total first (lists_before s.axes s.level f + vectors_before w (at vector.levels))
+  pub summed : Summed s xs (at cs) high low first (lists_passed s f w (at vector.levels))
+  pub tallied : Tallied asked s xs (at cs) total first (lists_passed s f w (at vector.levels))
 
 module _ (asked : Bool) (s : Shape) (xs : List ℤ) (cs : List ℕ) where
   pub to_first : ToFace asked s xs cs 0 (pos 0) 0 0
@@ -76,7 +81,7 @@ module _ {s : Shape} {xs : List ℤ} {cs : List ℕ} (asks : Evaluable s xs cs) 
         (vector.axes ≡ w) × (vector.sum ≡ 0) → ToFace asked s xs cs f high low total →
         OnFace asked s xs cs f face w top face.start vector high low total
     face_starts {w = w} {top} {vector} walks starts to =
-        let none : lists_before s.axes s.level f + vectors_before w (at vector.levels) ≡ lists_before s.axes s.level f =
+        let none : lists_passed s f w (at vector.levels) ≡ lists_before s.axes s.level f =
         omega (arith, none_before w top face.start vector starts) in
         record {
           in_row = in_row;
@@ -94,14 +99,16 @@ module _ {s : Shape} {xs : List ℤ} {cs : List ℕ} (asks : Evaluable s xs cs) 
 
     -- The list at hand.
     pub face_next : vector.sum ≤ top →
-        Next asked s xs cs (at face.marks) (whole s.axes (at face.marks) (at vector.levels)) high low total first (lists_before s.axes s.level f + vectors_before w (at vector.levels)) vector.sum
+        Next asked s xs cs (at face.marks) (whole s.axes (at face.marks) (at vector.levels)) high low total first (lists_passed s f w (at vector.levels))
+        vector.sum
     face_next in_face =
-        next_on_face (lists_before s.axes s.level f) asks (face_here o.in_row o.is) o.walks o.here in_face refl refl (room_here o.in_row o.is o.walks) o.summed o.tallied
+        next_on_face (lists_before s.axes s.level f) asks (face_here o.in_row o.is) o.walks o.here in_face refl refl (room_here o.in_row o.is o.walks)
+        o.summed o.tallied
 
     -- The list after it is one more.
     pub count_next : vector.sum ≤ top → (vector' : LevelVector) →
         (vector'.axes ≡ vector.axes) × NextVector vector.axes vector.sum vector.levels vector'.sum vector'.levels →
-        lists_before s.axes s.level f + vectors_before w (at vector'.levels) ≡ suc (lists_before s.axes s.level f + vectors_before w (at vector.levels))
+        lists_passed s f w (at vector'.levels) ≡ suc (lists_passed s f w (at vector.levels))
     count_next in_face vector' next = omega (arith, next_count o.here in_face vector' next)
 
     -- Past the last list the face is summed.
@@ -116,7 +123,7 @@ module _ {s : Shape} {xs : List ℤ} {cs : List ℕ} (asks : Evaluable s xs cs) 
           o.is.start,
           row_suc s.axes s.level f,
         ) in
-        let count : lists_before s.axes s.level f + vectors_before w (at vector.levels) ≤ lists_before s.axes s.level (suc f) =
+        let count : lists_passed s f w (at vector.levels) ≤ lists_before s.axes s.level (suc f) =
         omega (
           arith,
           o.here.counted,

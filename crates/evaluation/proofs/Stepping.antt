@@ -58,8 +58,8 @@ pub record Next (asked : Bool) (s : Shape) (xs : List ℤ) (cs : List ℕ) (m l 
   pub tallied : Tallied asked s xs (at cs) total first count
 
 -- The list at hand in the walk over a face.
-module _ {asked : Bool} {s : Shape} {xs : List ℤ} {cs : List ℕ} {m l : ℕ → ℕ} {k base w top : ℕ} (before : ℕ) {high : ℤ} {low total first count : ℕ} {vector : LevelVector}
-    (asks : Evaluable s xs cs) (f : FaceOf s m k base) (walks : Walks k s.level w top) (here : VectorAt w top base first vector) (in_face : vector.sum ≤ top)
+module _ {asked : Bool} {s : Shape} {xs : List ℤ} {cs : List ℕ} {m l : ℕ → ℕ} {k base w top : ℕ} (before : ℕ) {high : ℤ}
+    {low total first count : ℕ} {vector : LevelVector} (asks : Evaluable s xs cs) (f : FaceOf s m k base) (walks : Walks k s.level w top) (here : VectorAt w top base first vector) (in_face : vector.sum ≤ top)
     (is : whole s.axes m (at vector.levels) ≡ l) where
   pub next_on_face : count ≡ before + vectors_before w (at vector.levels) → before + sum_to (vectors w) (suc top) ≤ 12870 →
       Summed s xs (at cs) high low first count → Tallied asked s xs (at cs) total first count →
@@ -140,7 +140,8 @@ module _ {asked : Bool} {s : Shape} {xs : List ℤ} {cs : List ℕ} {m l : ℕ �
 
       -- What the code adds to S, if it is asked.
       size_added :
-          (if asked && term.reached then nat_abs (get_or xs (first + term.position) (pos 0)) else 0) ≡ if_asked asked (size_at s xs (at cs) (first + taken_at (at cs) m l s.axes))
+          (if asked && term.reached then nat_abs (get_or xs (first + term.position) (pos 0)) else 0)
+          ≡ if_asked asked (size_at s xs (at cs) (first + taken_at (at cs) m l s.axes))
       unfolding absolute_reached
       size_added =
           ap₂ (λ (b : Bool) (z : ℤ). if asked && b then nat_abs z else 0) reached_read (sym (value_suc xs (first + term.position)))

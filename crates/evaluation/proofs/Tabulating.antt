@@ -22,8 +22,8 @@ use Rattle.evaluation.specs.Steps.{hat_weight, hat_at, hats_of, hats_on, AxisHat
 use Rattle.evaluation.proofs.Bits.{bit_byte, bit_small}
 
 -- A hat from its parts: inside, and on a border.
-pub hat_inside : (x l : ℕ) {cell above weight' : ℕ} → cell ≡ cell_of x l → weight' ≡ weight unit x l (index_of_cell cell) → above ≡ bool_byte (ltb 0 weight') →
-    record { cell = cell; above = above; weight = weight' } ≡ hat_at x 0 l
+pub hat_inside : (x l : ℕ) {cell above weight' : ℕ} → cell ≡ cell_of x l → weight' ≡ weight unit x l (index_of_cell cell) →
+    above ≡ bool_byte (ltb 0 weight') → record { cell = cell; above = above; weight = weight' } ≡ hat_at x 0 l
 hat_inside x l {cell} {above} {weight'} ec ew ea =
     let same_cell : cell ≡ marked_cell x 0 l = ec ∙ sym (marked_cell_inside x 0 l refl) in
     let same : weight' ≡ hat_weight x 0 l =
@@ -39,7 +39,8 @@ hat_on_border x a some ew ea =
 abbrev pub HatsAt : (ℕ → ℕ) → (ℕ → ℕ) → (ℕ → ℕ) → ℕ → (ℕ → Hat) → Type 0
 HatsAt x m l d h = (t : ℕ) → t < d → h t ≡ hat_at (x t) (m t) (l t)
 
-pub hats_bounded : {x : ℕ → ℕ} (m : ℕ → ℕ) {l : ℕ → ℕ} {d : ℕ} {h : ℕ → Hat} → d ≤ 8 → sum_to l d ≤ 8 → ((t : ℕ) → t < d → x t ≤ unit) → HatsAt x m l d h → Bounded h l d
+pub hats_bounded : {x : ℕ → ℕ} (m : ℕ → ℕ) {l : ℕ → ℕ} {d : ℕ} {h : ℕ → Hat} → d ≤ 8 → sum_to l d ≤ 8 → ((t : ℕ) → t < d → x t ≤ unit) →
+    HatsAt x m l d h → Bounded h l d
 hats_bounded {x} m {l} few low inside hats =
     record {
       few = few;
@@ -57,7 +58,8 @@ pub tabulated_front : {x : ℕ → ℕ} {d : ℕ} {hats : List (List Hat)} → T
 tabulated_front {x} {d} {hats} table =
     record { axis = λ t h. subst (AxisHats (x t)) (sym (get_or-take d hats t [] h)) (table.axis t h) }
 
-pub tabulated_hats : {x : ℕ → ℕ} {d : ℕ} {hats : List (List Hat)} → Tabulated x d hats → (l : ℕ → ℕ) → sum_to l d ≤ 8 → HatsAt x unmarked l d (hats_of hats l)
+pub tabulated_hats : {x : ℕ → ℕ} {d : ℕ} {hats : List (List Hat)} → Tabulated x d hats → (l : ℕ → ℕ) → sum_to l d ≤ 8 →
+    HatsAt x unmarked l d (hats_of hats l)
 tabulated_hats {d = d} table l low t h = table.axis t h (l t) (omega (arith, low, term_le l d t h))
 
 -- ---- by mark

@@ -60,14 +60,17 @@ more c =
 next : (c : In-loop-hats) →
     let a = c.args in
     let loop = c.loop-hats in
-    Next a.asked a.shape a.table.now a.coordinates.now unmarked (at loop.vector.levels) loop.sum.high loop.sum.low loop.absolute_sum (first c) (vectors_before a.shape.axes (at loop.vector.levels)) loop.vector.sum
+    let l = at loop.vector.levels in
+    let count = vectors_before a.shape.axes l in
+    Next a.asked a.shape a.table.now a.coordinates.now unmarked l loop.sum.high loop.sum.low loop.absolute_sum (first c) count loop.vector.sum
 unfolding first
 next c =
     let inv = c.loop-hats.invariant in
     next_inside c.requires c.if-shape.false inv.0 (more c) inv.3 inv.4
 
 found : (c : After-taken-term) → length (take c.args.shape.axes c.tabulated-tabulated.result) ≡ c.args.shape.axes →
-    Found (hats_of (take c.args.shape.axes c.tabulated-tabulated.result) (at c.loop-hats.vector.levels)) (at c.loop-hats.vector.levels) c.args.shape.axes c.taken-term.result
+    let l = at c.loop-hats.vector.levels in
+    Found (hats_of (take c.args.shape.axes c.tabulated-tabulated.result) l) l c.args.shape.axes c.taken-term.result
 found c long = rw long at c.taken-term.ensures
 
 pub taken-term-requires : goal.taken-term-requires

@@ -5,14 +5,13 @@ use Rattle.numbering.specs.Point.{at}
 use Rattle.faces.specs.Row.{all_faces, row}
 use Rattle.shapes.specs.Shapes.{points_of}
 use Rattle.layouts.specs.Layouts.{IsFace}
-use Rattle.vectors.specs.Steps.{vectors_before}
 use Rattle.evaluation.specs.Steps.{whole, hats_on, MarkedTable}
 use Rattle.evaluation.proofs.Lists.{Walks, walks_inner, walks_none, whole_border, vector_steps}
 use Rattle.evaluation.proofs.Tabulating.{HatsAt, marked_hats}
-use Rattle.evaluation.proofs.Walking.{lists_before, high_room, low_room, summed_ends}
+use Rattle.evaluation.proofs.Walking.{high_room, low_room, summed_ends}
 use Rattle.evaluation.proofs.Reaching.{tallied_ends}
 use Rattle.evaluation.proofs.Stepping.{Next, levels_small, list_size, list_within, table_small, bounded, place_read, place_small, weight_in_lem, value_in, value_fits, stepped, counted}
-use Rattle.evaluation.proofs.Facing.{to_first, marks_here, inner_few, face_starts, face_next, face_ends, count_next, all_faces_end}
+use Rattle.evaluation.proofs.Facing.{lists_passed, to_first, marks_here, inner_few, face_starts, face_next, face_ends, count_next, all_faces_end}
 use Rattle.evaluation.proofs.summed_over_faces.Goals.{then-face-eq0, else-face-eq0, After-face-face, After-first-vector, In-loop-vector}
 use Rattle.evaluation.proofs.summed_over_faces.Goals as goal
 
@@ -57,7 +56,9 @@ next : (c : In-loop-vector) →
     let a = c.args in
     let m = at c.face-face.result.marks in
     let loop = c.loop-vector in
-    Next a.asked a.shape a.table.now a.coordinates.now m (whole a.shape.axes m (at loop.vector.levels)) loop.sum.high loop.sum.low loop.absolute_sum loop.first (lists_before a.shape.axes a.shape.level c.loop-f.f + vectors_before c.if-face-eq0.axes.0 (at loop.vector.levels)) loop.vector.sum
+    let v = at loop.vector.levels in
+    let count = lists_passed a.shape c.loop-f.f c.if-face-eq0.axes.0 v in
+    Next a.asked a.shape a.table.now a.coordinates.now m (whole a.shape.axes m v) loop.sum.high loop.sum.low loop.absolute_sum loop.first count loop.vector.sum
 next c =
     face_next c.requires.0 c.requires.1 c.loop-vector.invariant c.loop-vector-test.true
 
