@@ -8,8 +8,7 @@ ghost use Rattle.surfaces.specs.Surface.{estimate_at};
 ghost use Rattle.evaluation.specs.Steps.{hat_at, hats_of, AxisHats, Tabulated, MarkedHats, MarkedTable, none_passed, Room, passed_with, term_passed, Found, Bounded, MarksAt, levels_on, face_hats, Listed, Evaluable, evaluated_at};
 
 use axis_weights::Coordinate;
-use layouts::Layout;
-use shapes::Shape;
+use shapes::{Rows, Shape};
 use std::array;
 use surfaces::BITS;
 use vectors::LevelVector;
@@ -221,32 +220,36 @@ pub struct Evaluated {
     pub absolute_sum: u64,
 }
 
-// Those of a table with values on the border, face by face. (A face without inner axes has one point, as one axis of top level 0 has.)
+// Those of a table with values on the border, face by face. (A face without inner axes has one point, as one axis of top level 0 has. Each face is made as the
+// walk comes to it: with all of them in an array beforehand an estimate took a fifth longer at (4, 5), and half as long again at (2, 8).)
 fn summed_over_faces(asked: bool, shape: Shape, table: &[i64], coordinates: &[u32]) -> Evaluated
     requires { Evaluable shape table.now coordinates.now × (shape.border ≡ true) }
     ensures value { result ≡ evaluated_at asked shape (value_at table.now) (at coordinates.now) }
     ensures room { result.absolute_sum ≤ 12870 * 2 ^ 47 }
 {
     let hats = marked_table(coordinates);
-    let layout = Layout::of(shape.axes, shape.level);
+    let rows = Rows::new();
     let mut sum = Sum::new();
     let mut absolute_sum: u64 = 0;
-    for f in 0..layout.count {
-        let face = layout.face(f);
-        let (axes, top) = if face.inner == 0 {
+    let mut first: u64 = 0;
+    for borders in 0..shape.axes + 1 {
+        let inner = shape.axes - borders;
+        let (axes, top) = if inner == 0 {
             (1, 0)
         } else {
-            (face.inner, shape.level)
+            (inner, shape.level)
         };
-        let mut first = face.start;
-        let mut vector = LevelVector::first(axes);
-        while vector.sum <= top {
-            let term = taken_on_face(shape.axes, &hats, &face.marks, &vector.levels);
-            let c = table[(first + term.position) as usize];
-            sum.add(c, term.joint);
-            absolute_sum += term.absolute(asked, c);
-            first += 1 << vector.sum;
-            vector.next();
+        for rank in 0..rows.faces(shape.axes, borders) {
+            let marks = layouts::marks_of(&rows, shape.axes, borders, rank);
+            let mut vector = LevelVector::first(axes);
+            while vector.sum <= top {
+                let term = taken_on_face(shape.axes, &hats, &marks, &vector.levels);
+                let c = table[(first + term.position) as usize];
+                sum.add(c, term.joint);
+                absolute_sum += term.absolute(asked, c);
+                first += 1 << vector.sum;
+                vector.next();
+            }
         }
     }
     Evaluated {

@@ -1,78 +1,68 @@
-use Rattle.std.proofs.Common.{◌≡◌, ℕ, ◌+◌, ◌≤◌, ◌<◌, get_or, pos, refl, ap, ◌∙◌, arith, add-one, pow_pos, w64}
+use Rattle.std.proofs.Common.{◌≡◌, ℕ, suc, ◌+◌, ◌-◌, ◌≤◌, ◌<◌, get_or, pos, refl, sym, ap, ◌∙◌, arith, pow_pos, w64}
 use mir.ValLaws.{to_z-of_z}
 use Rattle.integers.specs.Half.{in_limit}
 use Rattle.numbering.specs.Point.{at}
+use Rattle.faces.specs.Faces.{faces}
 use Rattle.faces.specs.Row.{all_faces, row}
 use Rattle.shapes.specs.Shapes.{points_of}
-use Rattle.layouts.specs.Layouts.{IsFace}
 use Rattle.evaluation.specs.Steps.{whole, hats_on, MarkedTable}
 use Rattle.evaluation.proofs.Lists.{Walks, walks_inner, walks_none, whole_border, vector_steps}
 use Rattle.evaluation.proofs.Tabulating.{HatsAt, marked_hats}
 use Rattle.evaluation.proofs.Walking.{high_room, low_room, summed_ends}
 use Rattle.evaluation.proofs.Reaching.{tallied_ends}
 use Rattle.evaluation.proofs.Stepping.{Next, levels_small, list_size, list_within, table_small, bounded, place_read, place_small, weight_in_lem, value_in, value_fits, stepped, counted}
-use Rattle.evaluation.proofs.Facing.{lists_passed, to_first, marks_here, inner_few, face_starts, face_next, face_ends, count_next, all_faces_end}
-use Rattle.evaluation.proofs.summed_over_faces.Goals.{then-face-eq0, else-face-eq0, After-face-face, After-first-vector, In-loop-vector}
+use Rattle.evaluation.proofs.Facing.{face_of, face_in_row, face_inner, face_marks, next_layer, first_face, past_faces, lists_passed, to_first, face_starts, marks_here, face_next, count_next, face_ends, all_faces_end}
+use Rattle.evaluation.proofs.summed_over_faces.Goals.{then-inner-eq0, else-inner-eq0, After-first-vector, In-loop-vector}
 use Rattle.evaluation.proofs.summed_over_faces.Goals as goal
 
-pub loop-f-init : goal.loop-f-init
-loop-f-init c =
-    rw (c.new-sum.ensures.high, c.new-sum.ensures.low) (to_first c.args.asked c.args.shape c.args.table.now c.args.coordinates.now)
+pub loop-borders-init : goal.loop-borders-init
+loop-borders-init c =
+    rw (c.new-sum.ensures.high, c.new-sum.ensures.low, first_face c.args.shape.axes)
+    (to_first c.args.asked c.args.shape c.args.table.now c.args.coordinates.now)
 
 -- ---- the face at hand
 
-in_row : (c : After-face-face) → c.loop-f.f < all_faces c.args.shape.axes
-in_row c = omega (arith, c.loop-f-test.true, c.of-layout.result.all, ap all_faces c.of-layout.ensures.0)
-
-face_is : (c : After-face-face) → IsFace c.args.shape.axes c.args.shape.level c.loop-f.f c.face-face.result
-face_is c = rw (c.of-layout.ensures.0, c.of-layout.ensures.1) at c.face-face.ensures
-
-pub first-vector-requires : goal.first-vector-requires
-first-vector-requires c =
-    let here = (goal.at.first-vector-requires c).After-face-face in
-    let few = inner_few c.requires.0 c.requires.1 (in_row here) (face_is here) in
-    elim c.if-face-eq0.branch [
-      | then-face-eq0 w ↦ rw w.axes-is (omega arith, omega arith)
-      | else-face-eq0 w ↦ rw w.axes-is (omega (arith, w.if-face-eq0.false), omega (arith, few, c.requires.0.listed.few))
-    ]
-
-walks : (c : After-first-vector) → Walks c.face-face.result.inner c.args.shape.level c.if-face-eq0.axes.0 c.if-face-eq0.axes.1
+walks : (c : After-first-vector) → Walks (c.args.shape.axes - c.loop-borders.borders) c.args.shape.level c.if-inner-eq0.axes.0 c.if-inner-eq0.axes.1
 walks c =
-    let inner = c.face-face.result.inner in
+    let inner : ℕ = c.args.shape.axes - c.loop-borders.borders in
     let n = c.args.shape.level in
-    elim c.if-face-eq0.branch [
-      | then-face-eq0 w ↦ rw (w.axes-is, w.if-face-eq0.true) (walks_none n)
-      | else-face-eq0 w ↦ rw w.axes-is (walks_inner inner n)
+    elim c.if-inner-eq0.branch [
+      | then-inner-eq0 w ↦ rw (w.axes-is, w.if-inner-eq0.true) (walks_none n)
+      | else-inner-eq0 w ↦ rw w.axes-is (walks_inner inner n)
     ]
 
 pub loop-vector-init : goal.loop-vector-init
 loop-vector-init c =
-    let here = (goal.at.loop-vector-init c).After-face-face in
-    face_starts c.requires.0 c.requires.1 (in_row here) (face_is here) (walks c) c.first-vector.ensures c.loop-f.invariant
+    let d = c.args.shape.axes in
+    let b = c.loop-borders.borders in
+    let r = c.loop-rank.rank in
+    let le : b ≤ d = omega (arith, c.loop-borders-test.true) in
+    let lt : r < faces d b = omega (arith, c.loop-rank-test.true, c.faces-rank-end.ensures) in
+    face_starts (face_in_row d b r le lt) (c.marks_of-marks.ensures ∙ face_marks d b r le lt) (face_inner d b r le lt) (walks c) c.first-vector.ensures c.loop-rank.invariant
 
 -- ---- the list at hand
 
 next : (c : In-loop-vector) →
     let a = c.args in
-    let m = at c.face-face.result.marks in
+    let m = at c.marks_of-marks.result in
     let loop = c.loop-vector in
     let v = at loop.vector.levels in
-    let count = lists_passed a.shape c.loop-f.f c.if-face-eq0.axes.0 v in
+    let count = lists_passed a.shape (face_of a.shape.axes c.loop-borders.borders c.loop-rank.rank) c.if-inner-eq0.axes.0 v in
     Next a.asked a.shape a.table.now a.coordinates.now m (whole a.shape.axes m v) loop.sum.high loop.sum.low loop.absolute_sum loop.first count loop.vector.sum
 next c =
     face_next c.requires.0 c.requires.1 c.loop-vector.invariant c.loop-vector-test.true
 
-marks : (c : In-loop-vector) → (t : ℕ) → t < c.args.shape.axes → at c.face-face.result.marks t ≤ 2
+marks : (c : In-loop-vector) → (t : ℕ) → t < c.args.shape.axes → at c.marks_of-marks.result t ≤ 2
 marks c = marks_here c.requires.0 c.requires.1 c.loop-vector.invariant
 
 hats_here : (c : In-loop-vector) →
     let d = c.args.shape.axes in
-    let m = at c.face-face.result.marks in
+    let m = at c.marks_of-marks.result in
     let l = whole d m (at c.loop-vector.vector.levels) in
     HatsAt (at c.args.coordinates.now) m l d (hats_on c.marked_table-hats.result m l)
 hats_here c =
     let d = c.args.shape.axes in
-    let m = at c.face-face.result.marks in
+    let m = at c.marks_of-marks.result in
     let v = at c.loop-vector.vector.levels in
     let table : MarkedTable (at c.args.coordinates.now) d c.marked_table-hats.result = rw c.requires.0.listed.long at c.marked_table-hats.ensures in
     marked_hats table m (whole d m v) (levels_small (next c)) (marks c) (whole_border d m v)
@@ -135,23 +125,33 @@ loop-vector-preserved c =
     rw (list_size n)
     (record {
       in_row = inv.in_row;
-      is = inv.is;
+      marks = inv.marks;
+      inner = inv.inner;
       walks = inv.walks;
       here = vector_steps inv.here test c.next.new.self c.next.ensures;
       summed = stepped n hats found (rw value at c.add.ensures.high) (rw value at c.add.ensures.low) count;
       tallied = counted n hats found (ap (λ (k : ℕ). c.loop-vector.absolute_sum + k) (rw value at c.absolute-absolute_sum.ensures)) count;
     })
 
-pub loop-f-preserved : goal.loop-f-preserved
-loop-f-preserved c =
-    rw (add-one c.loop-f.f) (face_ends c.requires.0 c.requires.1 c.loop-vector.invariant (omega (arith, c.loop-vector-test.false)))
+pub loop-rank-preserved : goal.loop-rank-preserved
+loop-rank-preserved c =
+    let next : face_of c.args.shape.axes c.loop-borders.borders (c.loop-rank.rank + 1) ≡ suc (face_of c.args.shape.axes c.loop-borders.borders c.loop-rank.rank) = omega arith in
+    rw next (face_ends c.requires.0 c.requires.1 c.loop-vector.invariant (omega (arith, c.loop-vector-test.false)))
+
+pub loop-borders-preserved : goal.loop-borders-preserved
+loop-borders-preserved c =
+    let d = c.args.shape.axes in
+    let b = c.loop-borders.borders in
+    let r = c.loop-rank.rank in
+    let last : r ≡ faces d b = omega (arith, c.loop-rank-test.false, c.loop-rank.auto.rank-end, c.faces-rank-end.ensures) in
+    rw (sym (next_layer d b r last)) c.loop-rank.invariant
 
 pub returns-clause-value : goal.returns-clause-value
 returns-clause-value c =
     let s = c.args.shape in
-    let last : c.loop-f.f ≡ all_faces s.axes =
-    omega (arith, c.loop-f-test.false, c.loop-f.auto.f-end, c.of-layout.result.all, ap all_faces c.of-layout.ensures.0) in
-    let end : row s.axes s.level c.loop-f.f ≡ points_of s = ap (row s.axes s.level) last ∙ all_faces_end s c.requires.1 in
-    let estimate =
-    to_z-of_z w64 c.joined.result (record { sfits = c.joined.type_inv }) ∙ c.joined.ensures ∙ summed_ends c.loop-f.invariant.summed end in
-    rw (estimate, tallied_ends c.loop-f.invariant.tallied end) refl
+    let to = c.loop-borders.invariant in
+    let past : face_of s.axes c.loop-borders.borders 0 ≡ all_faces s.axes =
+    past_faces s.axes c.loop-borders.borders (omega (arith, c.loop-borders-test.false, c.loop-borders.auto.borders-end)) in
+    let end : c.loop-borders.first ≡ points_of s = to.reached ∙ ap (row s.axes s.level) past ∙ all_faces_end s c.requires.1 in
+    let estimate = to_z-of_z w64 c.joined.result (record { sfits = c.joined.type_inv }) ∙ c.joined.ensures ∙ summed_ends to.summed end in
+    rw (estimate, tallied_ends to.tallied end) refl
