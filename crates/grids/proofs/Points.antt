@@ -24,6 +24,8 @@ use Rattle.numbered.specs.Numbered.{mark_of, unmarked, Numbering}
 use Rattle.numbered.proofs.Instance as numbered_points
 use Rattle.faces.specs.Marked.{Marked, border_number, borders_at, number_at, mark_at, border_level_at, border_index_at}
 use Rattle.faces.specs.Packing.{before}
+use borrow.Author.Tests.{le-ltb}
+use Rattle.faces.proofs.Ranks as ranks
 use Rattle.faces.proofs.Numbering as faces
 use Rattle.faces.proofs.Beside.{one_border_number, parent_marked, across_marked}
 use Rattle.shapes.specs.declared.Shape.{Shape}
@@ -174,15 +176,28 @@ module _ (s : Shape) where
     pub level_le : (t : ℕ) → t < s.axes → level_on s p t ≤ s.level
     level_le t axis = level_top p t
 
-    -- Past the last axis there is nothing.
-    pub mark_past : (t : ℕ) → s.axes ≤ t → mark_on s p t ≡ 0
-    mark_past = point_at_lem.marked.no_mark
+  -- Past the last axis there is nothing.
+  module _ (p t : ℕ) (past : s.axes ≤ t) where
+    pub mark_past : mark_on s p t ≡ 0
+    unfolding mark_at
+    mark_past =
+        true_or_false s.border
+        (λ on. ap (λ (m : ℕ → ℕ). m t) (marks_bordered s on p) ∙ ranks.mark_past s.axes _ _ t past)
+        (λ off. ap (λ (m : ℕ → ℕ). m t) (marks_plain s off p))
 
-    pub level_past : (t : ℕ) → s.axes ≤ t → level_on s p t ≡ 0
-    level_past = point_at_lem.marked.no_level
+    pub level_past : level_on s p t ≡ 0
+    unfolding border_level_at
+    level_past =
+        true_or_false s.border
+        (λ on. ap (λ (l : ℕ → ℕ). l t) (levels_bordered s on p) ∙ rw (le-ltb t s.axes past) refl)
+        (λ off. ap (λ (l : ℕ → ℕ). l t) (levels_plain s off p) ∙ sparse.level_zero s.axes s.level p t past)
 
-    pub index_past : (t : ℕ) → s.axes ≤ t → index_on s p t ≡ 0
-    index_past = point_at_lem.marked.no_index
+    pub index_past : index_on s p t ≡ 0
+    unfolding border_index_at
+    index_past =
+        true_or_false s.border
+        (λ on. ap (λ (i : ℕ → ℕ). i t) (indices_bordered s on p) ∙ rw (le-ltb t s.axes past) refl)
+        (λ off. ap (λ (i : ℕ → ℕ). i t) (indices_plain s off p) ∙ sparse.index_zero s.axes s.level p t past)
 
   -- The numbering.
   pub numbering : Numbering (numbered s) (PointOf s)
