@@ -45,9 +45,9 @@ impl Starts {
 
 // One level list on: each cursor that stands at a list below this one steps over it. (The loop needs j for the cursor and for the
 // step; with `..=` it left goals open. Its twin back is as short as a call with a closure that adds or subtracts, which would have to ask that the result fits.)
-pub fn pass(v: &Subspace, cursors: &mut [u64; 9])
-    requires { Cursors v.now.facet v.now.vector.sum (rank (at v.now.vector.levels) v.now.facet.axes) cursors.old }
-    ensures { Cursors v.now.facet v.now.vector.sum (suc (rank (at v.now.vector.levels) v.now.facet.axes)) cursors.new }
+pub fn pass(v: Subspace, cursors: &mut [u64; 9])
+    requires { Cursors v.facet v.vector.sum (rank (at v.vector.levels) v.facet.axes) cursors.old }
+    ensures { Cursors v.facet v.vector.sum (suc (rank (at v.vector.levels) v.facet.axes)) cursors.new }
 {
     for j in 1..v.own + 1 {
         cursors[j as usize] += 1 << (v.vector.sum - j);
@@ -55,9 +55,9 @@ pub fn pass(v: &Subspace, cursors: &mut [u64; 9])
 }
 
 // One level list back: each cursor that stands after a list below this one steps back to it.
-pub fn pass_back(v: &Subspace, cursors: &mut [u64; 9])
-    requires { Cursors v.now.facet v.now.vector.sum (suc (rank (at v.now.vector.levels) v.now.facet.axes)) cursors.old }
-    ensures { Cursors v.now.facet v.now.vector.sum (rank (at v.now.vector.levels) v.now.facet.axes) cursors.new }
+pub fn pass_back(v: Subspace, cursors: &mut [u64; 9])
+    requires { Cursors v.facet v.vector.sum (suc (rank (at v.vector.levels) v.facet.axes)) cursors.old }
+    ensures { Cursors v.facet v.vector.sum (rank (at v.vector.levels) v.facet.axes) cursors.new }
 {
     for j in 1..v.own + 1 {
         cursors[j as usize] -= 1 << (v.vector.sum - j);

@@ -17,14 +17,13 @@ use Rattle.naturals.proofs.Shifts.{one_shifted}
 use Rattle.numbering.specs.declared.Side.{Side}
 use Rattle.numbering.specs.declared.Side.TheVariants.{Left, Right}
 use Rattle.numbering.specs.Point.{at}
-use Rattle.numbering.specs.Number.{first_of}
 use Rattle.hierarchy.specs.Turns.{value_at, sum_on}
 use Rattle.shapes.specs.Shapes.{points_of}
 use Rattle.grids.specs.Grids.{neighbour}
 use Rattle.neighbours.specs.declared.facets.Line.{Line}
 use Rattle.neighbours.specs.declared.facets.Rims.{Rims}
 use Rattle.neighbours.specs.declared.subspaces.Subspace.{Subspace}
-use Rattle.neighbours.specs.Facets.{without, further, moved_on}
+use Rattle.neighbours.specs.Facets.{further, moved_on}
 use Rattle.neighbours.specs.Steps.{parent_from, rims_of}
 use Rattle.neighbours.proofs.Seeing.{seen}
 use Rattle.neighbours.proofs.Beside.{bits, end_inside, first_small}
@@ -354,10 +353,6 @@ module _ {v : Subspace} {starts : List ℕ} {first beyond width : ℕ} {xs : Lis
 
   pub rims_handed : (x : Rims) → x ≡ further r (beyond * 2 ^ v.low % 2 ^ 64) → Some x ≡ block_rims v beyond
   rims_handed x e = ap Some (e ∙ ap (further r) rims_shifted) ∙ sym block_some
-
-pub none_across : (v : Subspace) → v.facet.rims ≡ None → rims_of v ≡ None
-unfolding moved_on
-none_across v none = ap (λ (o : Option Rims). moved_on o (first_of (v.facet.axes - 1) (without v.facet.place (at v.vector.levels)))) none
 
 pub no_rims : (v : Subspace) (beyond : ℕ) → rims_of v ≡ None → None ≡ block_rims v beyond
 unfolding moved_on

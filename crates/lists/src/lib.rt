@@ -71,7 +71,7 @@ fn edge_run<D: Direction>(
 // points across the border of the block follow each other from the numbers `rims` on.
 #[inline(always)]
 fn block<D: Direction>(
-    v: &Subspace,
+    v: Subspace,
     starts: &[u64; 9],
     rims: Option<Rims>,
     table: &mut [i64],
@@ -79,8 +79,8 @@ fn block<D: Direction>(
     beyond: u64,
     width: usize,
 ) -> u64
-    requires { Workable v.now starts.now first table.old × BlockAt v.now first beyond × (1 ≤ v.now.own) × (width ≡ 2 ^ v.now.low) × (rims ≡ moved_on (rims_of v.now) (beyond * 2 ^ v.now.low)) }
-    ensures { Stepped D.ahead v.now.facet.line.shape v.now.facet.line.place first (first + 2 ^ (v.now.low + v.now.own)) table.old result table.new }
+    requires { Workable v starts.now first table.old × BlockAt v first beyond × (1 ≤ v.own) × (width ≡ 2 ^ v.low) × (rims ≡ moved_on (rims_of v) (beyond * 2 ^ v.low)) }
+    ensures { Stepped D.ahead v.facet.line.shape v.facet.line.place first (first + 2 ^ (v.low + v.own)) table.old result table.new }
 {
     let pairs: u32 = 1 << (v.own - 1);
     let mut x = first as usize;
@@ -103,15 +103,15 @@ fn block<D: Direction>(
 // each point and axis in place of 21.
 #[inline(always)]
 fn sized_block<D: Direction>(
-    v: &Subspace,
+    v: Subspace,
     starts: &[u64; 9],
     rims: Option<Rims>,
     table: &mut [i64],
     first: u64,
     beyond: u64,
 ) -> u64
-    requires { Workable v.now starts.now first table.old × BlockAt v.now first beyond × (rims ≡ rims_of v.now) × (rims ≡ None → 1 ≤ v.now.own) }
-    ensures { Stepped D.ahead v.now.facet.line.shape v.now.facet.line.place first (first + 2 ^ (v.now.low + v.now.own)) table.old result table.new }
+    requires { Workable v starts.now first table.old × BlockAt v first beyond × (rims ≡ rims_of v) × (rims ≡ None → 1 ≤ v.own) }
+    ensures { Stepped D.ahead v.facet.line.shape v.facet.line.place first (first + 2 ^ (v.low + v.own)) table.old result table.new }
 {
     match rims {
         Some(rims) => {
@@ -142,13 +142,13 @@ fn sized_block<D: Direction>(
 // Block after block, of a level list that moves on the axis.
 #[inline(always)]
 fn all_blocks<D: Direction>(
-    v: &Subspace,
+    v: Subspace,
     starts: &[u64; 9],
     rims: Option<Rims>,
     table: &mut [i64],
 ) -> u64
-    requires { Below v.now starts.now × TableOf v.now.facet.line.shape (2 ^ 61) table.old × (rims ≡ rims_of v.now) × (rims ≡ None → 1 ≤ v.now.own) }
-    ensures { Stepped D.ahead v.now.facet.line.shape v.now.facet.line.place v.now.start v.now.end table.old result table.new }
+    requires { Below v starts.now × TableOf v.facet.line.shape (2 ^ 61) table.old × (rims ≡ rims_of v) × (rims ≡ None → 1 ≤ v.own) }
+    ensures { Stepped D.ahead v.facet.line.shape v.facet.line.place v.start v.end table.old result table.new }
 {
     let bits = v.low + v.own;
     let mut odd: u64 = 0;
@@ -162,14 +162,14 @@ fn all_blocks<D: Direction>(
 // A step at each point of a level list, forward or back; answers how many of the sums are odd. Where the list has level 0 on the axis and nothing lies across the
 // border, nothing moves. In a turn that has come so far, the list's points then hold what the whole turn leaves them, and no other place changes. (What lies
 // across the border is asked once for a list: `all_blocks` is compiled for each of the two.)
-pub fn work<D: Direction>(v: &Subspace, starts: &[u64; 9], table: &mut [i64]) -> u64
-    requires { Below v.now starts.now × TableOf v.now.facet.line.shape (2 ^ 61) table.old }
-    ensures worked { table.new ≡ list_worked D.ahead v.now.facet.line.shape v.now.facet.line.place v.now.facet.base v.now.facet.axes (at v.now.vector.levels) table.old }
-    ensures odds { odd_sums v.now.facet.line.shape v.now.facet.line.place table.old v.now.start + result ≡ odd_sums v.now.facet.line.shape v.now.facet.line.place table.old v.now.end }
-    ensures turned { (xs : List ℤ) → length xs ≡ length table.old → table.old ≡ came_to D.ahead v.now.facet.line.shape v.now.facet.line.place v.now.facet.base v.now.facet.axes (at v.now.vector.levels) xs → ListTurned D.ahead v.now.facet.line.shape v.now.facet.line.place v.now.facet.base v.now.facet.axes (at v.now.vector.levels) xs table.old table.new }
+pub fn work<D: Direction>(v: Subspace, starts: &[u64; 9], table: &mut [i64]) -> u64
+    requires { Below v starts.now × TableOf v.facet.line.shape (2 ^ 61) table.old }
+    ensures worked { table.new ≡ list_worked D.ahead v.facet.line.shape v.facet.line.place v.facet.base v.facet.axes (at v.vector.levels) table.old }
+    ensures odds { odd_sums v.facet.line.shape v.facet.line.place table.old v.start + result ≡ odd_sums v.facet.line.shape v.facet.line.place table.old v.end }
+    ensures turned { (xs : List ℤ) → length xs ≡ length table.old → table.old ≡ came_to D.ahead v.facet.line.shape v.facet.line.place v.facet.base v.facet.axes (at v.vector.levels) xs → ListTurned D.ahead v.facet.line.shape v.facet.line.place v.facet.base v.facet.axes (at v.vector.levels) xs table.old table.new }
 {
-    match v.facet.rims {
-        Some(rims) => all_blocks::<D>(v, starts, Some(v.across(rims)), table),
+    match v.rims {
+        Some(rims) => all_blocks::<D>(v, starts, Some(rims), table),
         None => {
             if v.own == 0 {
                 return 0;

@@ -35,8 +35,8 @@ pub fn lower_face(facet: Facet, table: &mut [i64]) -> u64
     loop {
         start -= 1 << vector.sum;
         let v = Subspace::on(facet, &vector, start);
-        cursors::pass_back(&v, &mut cursors);
-        odd += lists::work::<Forward>(&v, &cursors, table);
+        cursors::pass_back(v, &mut cursors);
+        odd += lists::work::<Forward>(v, &cursors, table);
         if start == facet.base {
             return odd;
         }
@@ -64,12 +64,12 @@ pub fn raise_face(facet: Facet, table: &mut [i64]) -> u64
     let mut odd: u64 = 0;
     loop {
         let v = Subspace::on(facet, &vector, start);
-        odd += lists::work::<Back>(&v, &cursors, table);
+        odd += lists::work::<Back>(v, &cursors, table);
         start += 1 << vector.sum;
         if start == end {
             return odd;
         }
-        cursors::pass(&v, &mut cursors);
+        cursors::pass(v, &mut cursors);
         vector.next();
         if v.vector.sum < vector.sum {
             cursors = starts.before_first(vector.sum);

@@ -10,17 +10,17 @@ use Rattle.cursors.proofs.pass.Goals.{In-loop-j}
 use Rattle.cursors.proofs.pass.Goals as goal
 
 pub overflow_add-j-end : goal.overflow_add-j-end
-overflow_add-j-end c = omega (arith, own_le (seen c.args.v.now) (vector_of c.args.v.now).total, sum_le (seen c.args.v.now) (vector_of c.args.v.now).total)
+overflow_add-j-end c = omega (arith, own_le (seen c.args.v) (vector_of c.args.v).total, sum_le (seen c.args.v) (vector_of c.args.v).total)
 
 pub loop-j-init : goal.loop-j-init
-loop-j-init c = (own_le (seen c.args.v.now) (vector_of c.args.v.now).total, sum_le (seen c.args.v.now) (vector_of c.args.v.now).total, moved_starts c.requires)
+loop-j-init c = (own_le (seen c.args.v) (vector_of c.args.v).total, sum_le (seen c.args.v) (vector_of c.args.v).total, moved_starts c.requires)
 
 -- cursor j after its step
-stepped : (c : In-loop-j) → at c.loop-j.cursors c.loop-j.j + 1 * 2 ^ (c.args.v.now.vector.sum - c.loop-j.j) % 2 ^ 64
-    ≡ cursor_at c.args.v.now.facet c.args.v.now.vector.sum (suc (rank (at c.args.v.now.vector.levels) c.args.v.now.facet.axes)) c.loop-j.j
+stepped : (c : In-loop-j) → at c.loop-j.cursors c.loop-j.j + 1 * 2 ^ (c.args.v.vector.sum - c.loop-j.j) % 2 ^ 64
+    ≡ cursor_at c.args.v.facet c.args.v.vector.sum (suc (rank (at c.args.v.vector.levels) c.args.v.facet.axes)) c.loop-j.j
 stepped c =
     let (own, low, moved) = c.loop-j.invariant in
-    stepped_up (seen c.args.v.now) (vector_of c.args.v.now).total c.loop-j.j (omega arith) (at c.loop-j.cursors c.loop-j.j)
+    stepped_up (seen c.args.v) (vector_of c.args.v).total c.loop-j.j (omega arith) (at c.loop-j.cursors c.loop-j.j)
     (moved.left c.loop-j.j (omega arith) (omega arith) (omega arith))
 
 pub overflow_add-cursors : goal.overflow_add-cursors
@@ -28,7 +28,7 @@ overflow_add-cursors c =
     omega (
       arith,
       stepped (goal.at.overflow_add-cursors c).In-loop-j,
-      cursor_small (seen c.args.v.now) (vector_of c.args.v.now).total c.loop-j.j (omega arith),
+      cursor_small (seen c.args.v) (vector_of c.args.v).total c.loop-j.j (omega arith),
     )
 
 pub loop-j-preserved : goal.loop-j-preserved
@@ -42,5 +42,5 @@ loop-j-preserved c =
 pub returns : goal.returns
 returns c =
     let (own, low, moved) = c.loop-j.invariant in
-    let ended : c.loop-j.j ≡ suc c.args.v.now.own = omega (arith, own) in
-    moved_up (seen c.args.v.now) (vector_of c.args.v.now).total (rw ended at moved)
+    let ended : c.loop-j.j ≡ suc c.args.v.own = omega (arith, own) in
+    moved_up (seen c.args.v) (vector_of c.args.v).total (rw ended at moved)

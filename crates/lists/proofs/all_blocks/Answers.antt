@@ -9,24 +9,24 @@ use Rattle.lists.proofs.all_blocks.Goals as goal
 -- ---- shifts
 
 pub overflow_add-bits : goal.overflow_add-bits
-overflow_add-bits g c = omega (arith, bits (seen c.args.v.now))
+overflow_add-bits g c = omega (arith, bits (seen c.args.v))
 
 pub overflow_sub-beyond-end : goal.overflow_sub-beyond-end
-overflow_sub-beyond-end g c = bits_within c.args.v.now
+overflow_sub-beyond-end g c = bits_within c.args.v
 
 pub overflow_shl-first : goal.overflow_shl-first
-overflow_shl-first g c = omega (arith, bits (seen c.args.v.now))
+overflow_shl-first g c = omega (arith, bits (seen c.args.v))
 
 pub overflow_add-first : goal.overflow_add-first
 overflow_add-first g c =
     let more = c.loop-beyond-test.true in
-    omega (arith, shift_exact c.args.v.now c.loop-beyond.beyond more, block_small c.args.v.now c.loop-beyond.beyond more (on_line c.args.v.now.facet.line c.requires.1.0))
+    omega (arith, shift_exact c.args.v c.loop-beyond.beyond more, block_small c.args.v c.loop-beyond.beyond more (on_line c.args.v.facet.line c.requires.1.0))
 
 -- ---- a block
 
 pub sized_block-odd-requires : goal.sized_block-odd-requires
 sized_block-odd-requires g c =
-    let v = c.args.v.now in
+    let v = c.args.v in
     let more = c.loop-beyond-test.true in
     let (below, (long, within), rims, moves) = c.requires in
     rw (shift_exact v c.loop-beyond.beyond more) (
@@ -38,14 +38,14 @@ sized_block-odd-requires g c =
 
 pub overflow_add-odd : goal.overflow_add-odd
 overflow_add-odd g c =
-    let v = c.args.v.now in
+    let v = c.args.v in
     let more = c.loop-beyond-test.true in
     let did = rw (shift_exact v c.loop-beyond.beyond more) at c.sized_block-odd.ensures in
     omega (arith, next_few v c.loop-beyond.beyond more (on_line v.facet.line c.requires.1.0) c.loop-beyond.invariant did)
 
 pub loop-beyond-preserved : goal.loop-beyond-preserved
 loop-beyond-preserved g c =
-    let v = c.args.v.now in
+    let v = c.args.v in
     let more = c.loop-beyond-test.true in
     next_done v c.loop-beyond.beyond more (on_line v.facet.line c.requires.1.0) c.loop-beyond.invariant
     (rw (shift_exact v c.loop-beyond.beyond more) at c.sized_block-odd.ensures)
@@ -54,5 +54,5 @@ loop-beyond-preserved g c =
 
 pub returns : goal.returns
 returns g c =
-    let all : c.loop-beyond.beyond ≡ blocks_of c.args.v.now = omega arith in
-    rw (last_block c.args.v.now) at (rw all at c.loop-beyond.invariant)
+    let all : c.loop-beyond.beyond ≡ blocks_of c.args.v = omega arith in
+    rw (last_block c.args.v) at (rw all at c.loop-beyond.invariant)

@@ -15,13 +15,13 @@ use Rattle.lists.proofs.block.Goals as goal
 -- ---- shifts
 
 pub overflow_shl-pairs : goal.overflow_shl-pairs
-overflow_shl-pairs g c = omega (arith, bits (seen c.args.v.now))
+overflow_shl-pairs g c = omega (arith, bits (seen c.args.v))
 
 pub overflow_add-near : goal.overflow_add-near
-overflow_add-near g c = omega (arith, bits (seen c.args.v.now))
+overflow_add-near g c = omega (arith, bits (seen c.args.v))
 
 pub overflow_shl-near : goal.overflow_shl-near
-overflow_shl-near g c = omega (arith, bits (seen c.args.v.now))
+overflow_shl-near g c = omega (arith, bits (seen c.args.v))
 
 pub overflow_add-near-2 : goal.overflow_add-near-2
 overflow_add-near-2 g c =
@@ -31,13 +31,13 @@ overflow_add-near-2 g c =
 
 -- ---- the first run
 
-here : (g : Over) (c : Start g) → let a = c.args in Here a.v.now a.starts.now a.first a.beyond a.width a.table.now
+here : (g : Over) (c : Start g) → let a = c.args in Here a.v a.starts.now a.first a.beyond a.width a.table.now
 here g c = record { work = c.requires.0; block = c.requires.1; wide = c.requires.3 }
 
 first : (g : Over) (c : Start g) →
     let a = c.args in
-    let near = at a.starts.now 1 + a.beyond * 2 ^ (a.v.now.low + a.v.now.own - 1) % 2 ^ 64 in
-    Edge g.D.Direction.ahead a.v.now Left a.rims a.first a.width a.table.now 0 a.first near 0 a.table.now
+    let near = at a.starts.now 1 + a.beyond * 2 ^ (a.v.low + a.v.own - 1) % 2 ^ 64 in
+    Edge g.D.Direction.ahead a.v Left a.rims a.first a.width a.table.now 0 a.first near 0 a.table.now
 first g c = rw c.requires.4 (first_run (here g c) c.requires.2 (near_is c.requires.0 c.requires.1))
 
 pub edge_run-odd-requires : goal.edge_run-odd-requires
@@ -67,7 +67,7 @@ up : (g : Over) (c : After-parent_run-far g) →
     let a = c.args in
     let s = c.loop-j in
     let width = a.width in
-    Between g.D.Direction.ahead a.v.now a.first width a.table.now (2 * s.j - 1) (s.x + width) s.near c.parent_run-far.result s.odd s.table
+    Between g.D.Direction.ahead a.v a.first width a.table.now (2 * s.j - 1) (s.x + width) s.near c.parent_run-far.result s.odd s.table
 up g c =
     let s = c.loop-j.invariant in
     up_run (here g (goal.at.After-parent_run-far g c).Start) c.requires.2 c.loop-j.auto.j c.loop-j-test.true c.parent_run-far.ensures s.0 s.1
@@ -88,7 +88,7 @@ down : (g : Over) (c : After-run_between-odd g) →
     let width = a.width in
     let far = c.parent_run-far.result in
     let run = c.run_between-odd in
-    Between g.D.Direction.ahead a.v.now a.first width a.table.now (2 * s.j) (s.x + width + width) far (s.near + width) (s.odd + run.result) run.new.table
+    Between g.D.Direction.ahead a.v a.first width a.table.now (2 * s.j) (s.x + width + width) far (s.near + width) (s.odd + run.result) run.new.table
 down g c =
     let s = c.loop-j.invariant in
     let before = goal.at.After-run_between-odd g c in
@@ -126,7 +126,7 @@ last : (g : Over) (c : After-loop-j g) →
     let a = c.args in
     let s = c.loop-j in
     let width = a.width in
-    Edge g.D.Direction.ahead a.v.now Right a.rims a.first width a.table.now (2 ^ a.v.now.own - 1) (s.x + width) s.near s.odd s.table
+    Edge g.D.Direction.ahead a.v Right a.rims a.first width a.table.now (2 ^ a.v.own - 1) (s.x + width) s.near s.odd s.table
 last g c =
     let s = c.loop-j.invariant in
     let h = here g (goal.at.After-loop-j g c).Start in
@@ -144,4 +144,4 @@ overflow_add-result g c = omega (arith, odds_few (last g (goal.at.overflow_add-r
 pub returns : goal.returns
 returns g c =
     let r = last g (goal.at.returns g c).After-loop-j in
-    block_done r.next (omega (arith, pow_pos c.args.v.now.own)) c.edge_run.ensures r.sums
+    block_done r.next (omega (arith, pow_pos c.args.v.own)) c.edge_run.ensures r.sums

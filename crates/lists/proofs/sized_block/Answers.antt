@@ -20,26 +20,26 @@ use Rattle.lists.proofs.sized_block.Goals as goal
 pub block-requires-then-v-eq0-2 : goal.block-requires-then-v-eq0-2
 block-requires-then-v-eq0-2 g c =
     let (work, block, rims, moves) = c.requires in
-    let v = c.args.v.now in
+    let v = c.args.v in
     let wide : 1 ≡ 2 ^ v.low = ap (λ (a : ℕ). 2 ^ a) (sym c.if-v-eq0-2.true) in
     (work, block, moves c.in-None.is, wide, no_rims v c.args.beyond (sym rims ∙ c.in-None.is))
 
 pub overflow_shl-v : goal.overflow_shl-v
-overflow_shl-v g c = omega (arith, bits (seen c.args.v.now))
+overflow_shl-v g c = omega (arith, bits (seen c.args.v))
 
 pub block-requires-in-None : goal.block-requires-in-None
 block-requires-in-None g c =
     let (work, block, rims, moves) = c.requires in
-    let v = c.args.v.now in
+    let v = c.args.v in
     (work, block, moves c.in-None.is, one_shifted 64 v.low (omega (arith, bits (seen v))), no_rims v c.args.beyond (sym rims ∙ c.in-None.is))
 
 -- ---- with points across the border
 
-here : (g : Over) (c : Start g) → let a = c.args in Here a.v.now a.starts.now a.first a.beyond (2 ^ a.v.now.low) a.table.now
+here : (g : Over) (c : Start g) → let a = c.args in Here a.v a.starts.now a.first a.beyond (2 ^ a.v.low) a.table.now
 here g c = record { work = c.requires.0; block = c.requires.1; wide = refl }
 
 pub overflow_shl-beyond : goal.overflow_shl-beyond
-overflow_shl-beyond g c = omega (arith, bits (seen c.args.v.now))
+overflow_shl-beyond g c = omega (arith, bits (seen c.args.v))
 
 pub further-rims-requires : goal.further-rims-requires
 further-rims-requires g c =
@@ -48,27 +48,27 @@ further-rims-requires g c =
     rw (rims_shifted h c.in-Some.rims (sym c.requires.2 ∙ c.in-Some.is)) small
 
 pub overflow_shl-width : goal.overflow_shl-width
-overflow_shl-width g c = omega (arith, bits (seen c.args.v.now))
+overflow_shl-width g c = omega (arith, bits (seen c.args.v))
 
 -- The points across the border of the block.
-handed : (g : Over) (c : After-further-rims g) → let a = c.args in Some c.further-rims.result ≡ moved_on (rims_of a.v.now) (a.beyond * 2 ^ a.v.now.low)
+handed : (g : Over) (c : After-further-rims g) → let a = c.args in Some c.further-rims.result ≡ moved_on (rims_of a.v) (a.beyond * 2 ^ a.v.low)
 handed g c =
     rims_handed (here g (goal.at.After-further-rims g c).Start) c.in-Some.rims (sym c.requires.2 ∙ c.in-Some.is) c.further-rims.result c.further-rims.ensures
 
-only : (g : Over) (c : After-further-rims g) → c.args.v.now.own ≡ 0 →
+only : (g : Over) (c : After-further-rims g) → c.args.v.own ≡ 0 →
     let a = c.args in
     let r = c.further-rims.result in
-    Between g.D.Direction.ahead a.v.now a.first (2 ^ a.v.now.low) a.table.now 0 a.first r.lower r.upper 0 a.table.now
+    Between g.D.Direction.ahead a.v a.first (2 ^ a.v.low) a.table.now 0 a.first r.lower r.upper 0 a.table.now
 only g c flat = only_run (here g (goal.at.After-further-rims g c).Start) flat c.further-rims.result (sym (handed g c))
 
 pub run_between-requires : goal.run_between-requires
 run_between-requires g c =
-    let v = c.args.v.now in
+    let v = c.args.v in
     rw (one_shifted 64 v.low (omega (arith, bits (seen v)))) (between_asks (only g (goal.at.run_between-requires g c).After-further-rims c.if-v-eq0.true))
 
 pub returns-then-v-eq0 : goal.returns-then-v-eq0
 returns-then-v-eq0 g c =
-    let v = c.args.v.now in
+    let v = c.args.v in
     let r = only g (goal.at.returns-then-v-eq0 g c).After-further-rims c.if-v-eq0.true in
     let last : 1 ≡ 2 ^ v.own = ap (λ (o : ℕ). 2 ^ o) (sym c.if-v-eq0.true) in
     let all = block_done r.next last (rw (one_shifted 64 v.low (omega (arith, bits (seen v)))) at c.run_between.ensures) r.sums in
@@ -77,7 +77,7 @@ returns-then-v-eq0 g c =
 pub block-requires : goal.block-requires
 block-requires g c =
     let (work, block, rims, moves) = c.requires in
-    let v = c.args.v.now in (
+    let v = c.args.v in (
       work,
       block,
       omega (arith, c.if-v-eq0.false),

@@ -4,7 +4,7 @@
 use mathlib.Core.Path.{sym, ◌∙◌}
 use native.Mathlib.Omega.{arith}
 use Rattle.neighbours.proofs.Seeing.{seen}
-use Rattle.lists.proofs.Blocks.{on_line, none_across}
+use Rattle.lists.proofs.Blocks.{on_line}
 use Rattle.lists.proofs.Lists.{list_worked_lem, flat_stepped}
 use Rattle.lists.proofs.Turned.{work_turned}
 use Rattle.lists.proofs.work.Goals as goal
@@ -13,43 +13,48 @@ use Rattle.lists.proofs.work.Goals as goal
 
 pub returns-then-v-eq0-clause-worked : goal.returns-then-v-eq0-clause-worked
 returns-then-v-eq0-clause-worked g c =
-    let v = c.args.v.now in
+    let v = c.args.v in
     list_worked_lem (seen v) (on_line v.facet.line c.requires.1.0)
-    (flat_stepped (seen v) (none_across c.args.v.now c.in-None.is) c.if-v-eq0.true g.D.Direction.ahead c.args.table.now)
+    (flat_stepped (seen v) (sym c.args.v.across ∙ c.in-None.is) c.if-v-eq0.true g.D.Direction.ahead c.args.table.now)
 
 pub returns-then-v-eq0-clause-odds : goal.returns-then-v-eq0-clause-odds
 returns-then-v-eq0-clause-odds g c =
-    (flat_stepped (seen c.args.v.now) (none_across c.args.v.now c.in-None.is) c.if-v-eq0.true g.D.Direction.ahead c.args.table.now).odds
+    (flat_stepped (seen c.args.v) (sym c.args.v.across ∙ c.in-None.is) c.if-v-eq0.true g.D.Direction.ahead c.args.table.now).odds
 
 pub returns-then-v-eq0-clause-turned : goal.returns-then-v-eq0-clause-turned
 returns-then-v-eq0-clause-turned g c =
     let pre = c.requires in
     let xs = c.args.table.now in
     λ old long came.
-    work_turned (seen c.args.v.now) g.D.Direction.ahead 0 old xs xs
-    (flat_stepped (seen c.args.v.now) (none_across c.args.v.now c.in-None.is) c.if-v-eq0.true g.D.Direction.ahead xs) (long ∙ pre.1.0) came
+    work_turned (seen c.args.v) g.D.Direction.ahead 0 old xs xs
+    (flat_stepped (seen c.args.v) (sym c.args.v.across ∙ c.in-None.is) c.if-v-eq0.true g.D.Direction.ahead xs) (long ∙ pre.1.0) came
 
 -- ---- a list that moves
 
 pub returns-in-Some-clause-worked : goal.returns-in-Some-clause-worked
-returns-in-Some-clause-worked g c = list_worked_lem (seen c.args.v.now) (on_line c.args.v.now.facet.line c.requires.1.0) c.all_blocks.ensures
+returns-in-Some-clause-worked g c = list_worked_lem (seen c.args.v) (on_line c.args.v.facet.line c.requires.1.0) c.all_blocks.ensures
 
 pub returns-in-Some-clause-turned : goal.returns-in-Some-clause-turned
 returns-in-Some-clause-turned g c =
     let pre = c.requires in
     λ old long came.
-    work_turned (seen c.args.v.now) g.D.Direction.ahead c.all_blocks.result old c.args.table.now c.all_blocks.new.table c.all_blocks.ensures (long ∙ pre.1.0) came
+    work_turned (seen c.args.v) g.D.Direction.ahead c.all_blocks.result old c.args.table.now c.all_blocks.new.table c.all_blocks.ensures (long ∙ pre.1.0) came
 
 pub returns-else-v-eq0-clause-worked : goal.returns-else-v-eq0-clause-worked
-returns-else-v-eq0-clause-worked g c = list_worked_lem (seen c.args.v.now) (on_line c.args.v.now.facet.line c.requires.1.0) c.all_blocks-in-None.ensures
+returns-else-v-eq0-clause-worked g c = list_worked_lem (seen c.args.v) (on_line c.args.v.facet.line c.requires.1.0) c.all_blocks-in-None.ensures
 
 pub returns-else-v-eq0-clause-turned : goal.returns-else-v-eq0-clause-turned
 returns-else-v-eq0-clause-turned g c =
     let pre = c.requires in
     λ old long came.
-    work_turned (seen c.args.v.now) g.D.Direction.ahead c.all_blocks-in-None.result old c.args.table.now c.all_blocks-in-None.new.table
+    work_turned (seen c.args.v) g.D.Direction.ahead c.all_blocks-in-None.result old c.args.table.now c.all_blocks-in-None.new.table
     c.all_blocks-in-None.ensures (long ∙ pre.1.0) came
+
+-- ---- what lies across the border
+
+pub all_blocks-requires : goal.all_blocks-requires
+all_blocks-requires g c = (c.requires.0, c.requires.1, sym c.in-Some.is ∙ c.args.v.across, λ none. cc)
 
 pub all_blocks-requires-in-None : goal.all_blocks-requires-in-None
 all_blocks-requires-in-None g c =
-    (c.requires.0, c.requires.1, sym (none_across c.args.v.now c.in-None.is), λ none. omega (arith, c.if-v-eq0.false))
+    (c.requires.0, c.requires.1, sym c.in-None.is ∙ c.args.v.across, λ none. omega (arith, c.if-v-eq0.false))
