@@ -10,10 +10,16 @@
  * where the call succeeded. Where a call is refused, every output but `*place` and every buffer hold what they
  * held.
  *
- * Values. A shape is a number of axes, 1 to 8, and a top level, 0 to 8 [1]; its table has N numbers [3]. A state
- * is the shape and a byte of forward axes, bit t - 1 for axis t [8]. The caller keeps them and hands them in.
- * There are no preconditions on values: any number, list and contents may be handed in, and what is bad is
+ * Values. A shape is a number of axes, a top level, 0 to 8, and whether its tables have values on the border [1]:
+ * `border` 0 says no, with 1 to 8 axes; every other number says yes, with 1 to 4 axes. Its table has N numbers [3].
+ * A state is the shape and a byte of forward axes, bit t - 1 for axis t [8]. The caller keeps them and hands them
+ * in. There are no preconditions on values: any number, list and contents may be handed in, and what is bad is
  * refused.
+ *
+ * Points. A point has a mark, a level and an index on each axis [2]. The mark is 0 inside; with border values it can
+ * also be 1, on the lower border of the axis, or 2, on the upper one, and the level is 0 and the index 1 there. A
+ * point goes in as three lists, one item for each axis, and comes out in three arrays of eight, 0 in the places past
+ * the last axis.
  *
  * Pointers. C cannot check these, so here the caller is asked for something [15]:
  * - every pointer is aligned and not null, also where a length is 0;
@@ -38,7 +44,8 @@ extern "C" {
 enum numolefays_refusal {
     NUMOLEFAYS_SUCCESS = 0,          /* not refused */
     /* because of the input */
-    NUMOLEFAYS_AXES = 1,             /* d outside 1 to 8; a list of top levels not 1 to 8 long */
+    NUMOLEFAYS_AXES = 1,             /* d outside 1 to 8, with border values outside 1 to 4; a list of top levels
+                                        not 1 to 8 long */
     NUMOLEFAYS_LEVEL = 2,            /* n, or one of a list of top levels, above 8 */
     NUMOLEFAYS_TABLE_LENGTH = 3,     /* table not of exactly N places (reader: fewer than N; component grid:
                                         not of the grid's own number of points);
@@ -47,10 +54,10 @@ enum numolefays_refusal {
                                         grid: smallest such position in the layout) */
     NUMOLEFAYS_AXIS = 5,             /* axis outside 1 to d; place: the axis given */
     NUMOLEFAYS_POINT_NUMBER = 6,     /* point number N or more */
-    NUMOLEFAYS_LIST_LENGTH = 7,      /* a list of coordinates, levels or indices not of length d
-                                        (run: lists not of one length) */
+    NUMOLEFAYS_LIST_LENGTH = 7,      /* a list of coordinates, marks, levels or indices not of
+                                        length d (run: lists not of one length) */
     NUMOLEFAYS_COORDINATE = 8,       /* a coordinate above 1,048,576; place: first such axis */
-    NUMOLEFAYS_NO_POINT = 9,         /* levels and indices that name no point of the shape */
+    NUMOLEFAYS_NO_POINT = 9,         /* marks, levels and indices that name no point of the shape */
     NUMOLEFAYS_CONTENTS = 10,        /* the contents do not allow the call; see each function */
     NUMOLEFAYS_FILE_ENDS = 11,       /* the file ends inside or before a number */
     NUMOLEFAYS_FILED_NUMBER = 12,    /* a filed number of more than 5 bytes or too large */
@@ -67,47 +74,56 @@ enum numolefays_refusal {
 
 /* ---- points [2] ---- */
 
-/*
- * How many points the shape has: N, at most 2,228,225 [3].
- * Refused: 1, 2.
- */
-uint32_t numolefays_count(uint32_t axes, uint32_t level, uint64_t *points, uint64_t *place);
+/* The marks. Without border values a point has no other than 0. */
+enum numolefays_mark {
+    NUMOLEFAYS_INSIDE = 0,
+    NUMOLEFAYS_LOWER_BORDER = 1,
+    NUMOLEFAYS_UPPER_BORDER = 2
+};
 
 /*
- * The number of a point, from 0 to N - 1 [4]. The point is a list of levels and a list of indices, one of each
- * for each axis.
- * Refused: 1, 2, 7 (either list), 9.
+ * How many points the shape has: N, at most 2,228,225; with border values at most 331,777 [3].
+ * Refused: 1, 2.
  */
-uint32_t numolefays_number_of_point(uint32_t axes, uint32_t level, const uint32_t *levels, size_t levels_length,
+uint32_t numolefays_count(uint32_t axes, uint32_t level, uint8_t border, uint64_t *points, uint64_t *place);
+
+/*
+ * The number of a point, from 0 to N - 1 [4].
+ * Refused: 1, 2, 7 (any of the lists), 9.
+ */
+uint32_t numolefays_number_of_point(uint32_t axes, uint32_t level, uint8_t border, const uint32_t *marks,
+                                    size_t marks_length, const uint32_t *levels, size_t levels_length,
                                     const uint32_t *indices, size_t indices_length, uint64_t *number,
                                     uint64_t *place);
 
 /*
- * The point of a number [4]: a level and an index for each axis, and 0 in the places past the last axis.
+ * The point of a number [4].
  * Refused: 1, 2, 6.
  */
-uint32_t numolefays_point_of_number(uint32_t axes, uint32_t level, uint64_t number, uint32_t levels[8],
-                                    uint32_t indices[8], uint64_t *place);
+uint32_t numolefays_point_of_number(uint32_t axes, uint32_t level, uint8_t border, uint64_t number,
+                                    uint32_t marks[8], uint32_t levels[8], uint32_t indices[8], uint64_t *place);
 
 /*
- * The successor of a point [5]: the point numbered one higher goes to the two arrays, 0 in the places past the
- * last axis, and `*end` gets 0. After the last point `*end` gets 1 and the two arrays hold what they held; this
- * is no refusal.
- * Refused: 1, 2, 7 (either list), 9.
+ * The successor of a point [5]: the point numbered one higher goes to the arrays, and `*end` gets 0. After the last
+ * point `*end` gets 1 and the arrays hold what they held; this is no refusal.
+ * Refused: 1, 2, 7 (any of the lists), 9.
  */
-uint32_t numolefays_successor(uint32_t axes, uint32_t level, const uint32_t *levels, size_t levels_length,
-                              const uint32_t *indices, size_t indices_length, uint32_t next_levels[8],
-                              uint32_t next_indices[8], uint32_t *end, uint64_t *place);
+uint32_t numolefays_successor(uint32_t axes, uint32_t level, uint8_t border, const uint32_t *marks,
+                              size_t marks_length, const uint32_t *levels, size_t levels_length,
+                              const uint32_t *indices, size_t indices_length, uint32_t next_marks[8],
+                              uint32_t next_levels[8], uint32_t next_indices[8], uint32_t *end, uint64_t *place);
 
 /*
  * The parent of a point on an axis [6]. Side 0 is left, toward 0; every other number is right, toward 1. The
- * parent goes to the two arrays, 0 in the places past the last axis, and `*border` gets 0. Where the neighbour
- * is the border, `*border` gets 1 and the two arrays hold what they held; this is no refusal.
- * Refused: 1, 2, 5 (the axis given), 7 (either list), 9.
+ * parent goes to the arrays, and `*none` gets 0. Where there is none, `*none` gets 1 and the arrays hold what they
+ * held; this is no refusal. Where the neighbour is the border, the parent is the point there with border values, and
+ * there is none without. A point on the border of this axis has none either.
+ * Refused: 1, 2, 5 (the axis given), 7 (any of the lists), 9.
  */
-uint32_t numolefays_parent(uint32_t axes, uint32_t level, const uint32_t *levels, size_t levels_length,
-                           const uint32_t *indices, size_t indices_length, uint32_t axis, uint32_t side,
-                           uint32_t parent_levels[8], uint32_t parent_indices[8], uint32_t *border,
+uint32_t numolefays_parent(uint32_t axes, uint32_t level, uint8_t border, const uint32_t *marks, size_t marks_length,
+                           const uint32_t *levels, size_t levels_length, const uint32_t *indices,
+                           size_t indices_length, uint32_t axis, uint32_t side, uint32_t parent_marks[8],
+                           uint32_t parent_levels[8], uint32_t parent_indices[8], uint32_t *none,
                            uint64_t *place);
 
 /* ---- tables [7] ---- */
@@ -117,8 +133,8 @@ uint32_t numolefays_parent(uint32_t axes, uint32_t level, const uint32_t *levels
  * times 2^d. `*forward` gets 0: no axis is forward.
  * Refused: 1, 2, 3, 4 (the smallest point number with no rate).
  */
-uint32_t numolefays_load(uint32_t axes, uint32_t level, int64_t *table, size_t table_length, uint8_t *forward,
-                         uint64_t *place);
+uint32_t numolefays_load(uint32_t axes, uint32_t level, uint8_t border, int64_t *table, size_t table_length,
+                         uint8_t *forward, uint64_t *place);
 
 /*
  * Adopt [9]: a table of N coefficients, which is only read. `*forward` gets a bit for each axis: all are
@@ -126,46 +142,47 @@ uint32_t numolefays_load(uint32_t axes, uint32_t level, int64_t *table, size_t t
  * only the byte of a state can tell.
  * Refused: 1, 2, 3, 10 (a value past 2^47 on either side of zero).
  */
-uint32_t numolefays_adopt(uint32_t axes, uint32_t level, const int64_t *table, size_t table_length,
+uint32_t numolefays_adopt(uint32_t axes, uint32_t level, uint8_t border, const int64_t *table, size_t table_length,
                           uint8_t *forward, uint64_t *place);
 
 /*
  * Forward on an axis [8]: each value becomes itself minus half the sum of its two parents' values, read as they
- * were before the turn. `*forward` gets the bit of the axis.
+ * were before the turn; where there is no parent, 0 is read. With border values those of points on the border of this
+ * axis stay. `*forward` gets the bit of the axis.
  * Refused: 1, 2, 14, 3, 5 (the axis given), 15 (the axis), 10 (an odd sum, or a value past 2^47 before or
  * after).
  */
-uint32_t numolefays_forward(uint32_t axes, uint32_t level, uint8_t *forward, int64_t *table, size_t table_length,
-                            uint32_t axis, uint64_t *place);
+uint32_t numolefays_forward(uint32_t axes, uint32_t level, uint8_t border, uint8_t *forward, int64_t *table,
+                            size_t table_length, uint32_t axis, uint64_t *place);
 
 /*
  * Back on an axis [8]: the table becomes the one that an accepted forward turn takes to the present one.
  * `*forward` loses the bit of the axis.
  * Refused: 1, 2, 14, 3, 5 (the axis given), 16 (the axis), 10 (there is no such table).
  */
-uint32_t numolefays_back(uint32_t axes, uint32_t level, uint8_t *forward, int64_t *table, size_t table_length,
-                         uint32_t axis, uint64_t *place);
+uint32_t numolefays_back(uint32_t axes, uint32_t level, uint8_t border, uint8_t *forward, int64_t *table,
+                         size_t table_length, uint32_t axis, uint64_t *place);
 
 /*
  * Unload [9]: a table with no axis forward becomes rates, each value divided by 2^d.
  * Refused: 1, 2, 14, 3, 18 (the first forward axis), 10 (a value that is not 2^d times a rate).
  */
-uint32_t numolefays_unload(uint32_t axes, uint32_t level, uint8_t forward, int64_t *table, size_t table_length,
-                           uint64_t *place);
+uint32_t numolefays_unload(uint32_t axes, uint32_t level, uint8_t border, uint8_t forward, int64_t *table,
+                           size_t table_length, uint64_t *place);
 
 /*
  * Rates to coefficients, whole [9]: a table of N rates is loaded and turned forward on every axis.
  * Refused: 1, 2, 3, 4 (the smallest point number with no rate). 10 cannot occur.
  */
-uint32_t numolefays_rates_to_coefficients(uint32_t axes, uint32_t level, int64_t *table, size_t table_length,
-                                          uint64_t *place);
+uint32_t numolefays_rates_to_coefficients(uint32_t axes, uint32_t level, uint8_t border, int64_t *table,
+                                          size_t table_length, uint64_t *place);
 
 /*
  * Coefficients to rates, whole [9]: the table becomes the rates that have these coefficients.
  * Refused: 1, 2, 3, 10 (no rates have them).
  */
-uint32_t numolefays_coefficients_to_rates(uint32_t axes, uint32_t level, int64_t *table, size_t table_length,
-                                          uint64_t *place);
+uint32_t numolefays_coefficients_to_rates(uint32_t axes, uint32_t level, uint8_t border, int64_t *table,
+                                          size_t table_length, uint64_t *place);
 
 /*
  * A list of turns, in order [10]: direction i (0 forward, every other number back) on axis turned[i].
@@ -175,10 +192,10 @@ uint32_t numolefays_coefficients_to_rates(uint32_t axes, uint32_t level, int64_t
  * Refused: 1, 2, 14, 3, 7 (the four lists are not of one length). Refusals of the turns are no refusals of the
  * run.
  */
-uint32_t numolefays_run(uint32_t axes, uint32_t level, uint8_t *forward, int64_t *table, size_t table_length,
-                        const uint8_t *directions, size_t directions_length, const uint32_t *turned,
-                        size_t turned_length, uint32_t *numbers, size_t numbers_length, uint64_t *places,
-                        size_t places_length, uint64_t *place);
+uint32_t numolefays_run(uint32_t axes, uint32_t level, uint8_t border, uint8_t *forward, int64_t *table,
+                        size_t table_length, const uint8_t *directions, size_t directions_length,
+                        const uint32_t *turned, size_t turned_length, uint32_t *numbers, size_t numbers_length,
+                        uint64_t *places, size_t places_length, uint64_t *place);
 
 /* ---- estimates [11] ---- */
 
@@ -188,12 +205,13 @@ uint32_t numolefays_run(uint32_t axes, uint32_t level, uint8_t *forward, int64_t
 /*
  * The estimate at a list of coordinates, one for each axis, each from 0 to 1,048,576 and meaning that many
  * 1,048,576ths: in the table's unit, 2^d times a rate. Its last division is to the nearest whole number, halves
- * away from zero; the joint weights before it are rounded down.
+ * away from zero; the joint weights before it are rounded down. With X the coordinate of an axis, a point on the
+ * lower border of it weighs 1,048,576 - X on it, and one on the upper border X.
  * The table is only read, and every axis must be forward.
  * Refused: 1, 2, 14, 3, 17 (the first axis that is not forward), 7, 8 (the first axis with such a coordinate),
  * 10 (a value past 2^47).
  */
-uint32_t numolefays_estimate(uint32_t axes, uint32_t level, uint8_t forward, const int64_t *table,
+uint32_t numolefays_estimate(uint32_t axes, uint32_t level, uint8_t border, uint8_t forward, const int64_t *table,
                              size_t table_length, const uint32_t *coordinates, size_t coordinates_length,
                              int64_t *estimate, uint64_t *place);
 
@@ -204,31 +222,31 @@ uint32_t numolefays_estimate(uint32_t axes, uint32_t level, uint8_t forward, con
  * nothing of how far the surface is from the truth between the samples.
  * Refused: 1, 2, 14, 3, 17, 7, 8, 10, as the estimate alone.
  */
-uint32_t numolefays_estimate_with_margin(uint32_t axes, uint32_t level, uint8_t forward, const int64_t *table,
-                                         size_t table_length, const uint32_t *coordinates,
-                                         size_t coordinates_length, int64_t *estimate,
-                                         uint64_t *absolute_sum, uint64_t *margin, uint64_t *place);
+uint32_t numolefays_estimate_with_margin(uint32_t axes, uint32_t level, uint8_t border, uint8_t forward,
+                                         const int64_t *table, size_t table_length, const uint32_t *coordinates,
+                                         size_t coordinates_length, int64_t *estimate, uint64_t *absolute_sum,
+                                         uint64_t *margin, uint64_t *place);
 
 /* ---- component grids [18] ---- */
 
 /*
- * Rates to coefficients on a component grid: a full grid, refined differently on each axis. The list has the top
- * level of each axis, axis 1 first; it is only read. The grid has all points whose level on each axis is within
- * that axis's top level m: 2^(m+1) - 1 on an axis, and the product of these numbers in all. The table has a rate
- * for each point, by coordinate, axis 1 running fastest: a point stands at the sum over axes of
- * (index * 2^(m - level) - 1) times the product of the points of the axes before. Each rate times 2^d, d being
- * the length of the list, is changed by the rule of the forward turn [8] on every axis, smallest first.
+ * Rates to coefficients on a component grid: a full grid, refined differently on each axis, without border values.
+ * The list has the top level of each axis, axis 1 first; it is only read. The grid has all points whose level on
+ * each axis is within that axis's top level m: 2^(m+1) - 1 on an axis, and the product of these numbers in all. The
+ * table has a rate for each point, by coordinate, axis 1 running fastest: a point stands at the sum over axes of
+ * (index * 2^(m - level) - 1) times the product of the points of the axes before. Each rate times 2^d, d being the
+ * length of the list, is changed by the rule of the forward turn [8] on every axis, smallest first.
  * Refused: 1 (the list is not 1 to 8 long), 2 (a top level above 8), 19, 3 (not exactly the grid's own number of
  * points), 4 (the smallest position in the layout with no rate). 10 cannot occur.
  */
 uint32_t numolefays_component_coefficients(const uint32_t *levels, size_t levels_length, int64_t *table,
                                            size_t table_length, uint64_t *place);
 
-/* ---- house files [12, 16] ---- */
+/* ---- house files [12, 16]: tables without border values ---- */
 
 /*
  * A house file's N rates into the first N places of the table; the places after them hold what they held.
- * `*axes` and `*level` get the file's shape. To load it, hand in the first N places.
+ * `*axes` and `*level` get the file's shape. To load it, hand in the first N places, and `border` 0.
  * Refused: 11 or 12 for d, 11 or 12 for n, 1, 2, 3 (fewer than N places), 11 or 12 for each rate, 13.
  */
 uint32_t numolefays_read_house_file(const uint8_t *bytes, size_t bytes_length, int64_t *table,
