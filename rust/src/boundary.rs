@@ -2,8 +2,9 @@
 //!
 //! Each function passes its arguments on and nothing else. Each answers 0 where the call succeeded, else the refusal's
 //! number; `place` gets the refusal's place, 0 where the call succeeded. Other outputs are written only where the call
-//! succeeded; after a refusal they and every buffer hold what they held. Most callers want [`crate::Shape`] and
-//! [`crate::State`] instead.
+//! succeeded; after a refusal they and every buffer hold what they held. `border` says whether the shape has values on the
+//! border: 0 is no, every other number yes. A point goes in as marks, levels and indices, and comes out so, 0 in the places
+//! past the last axis. Most callers want [`crate::Shape`] and [`crate::State`] instead.
 //!
 //! Why the `unsafe` blocks are sound: the library needs pointers to as many places as it is told, aligned, not null, and
 //! none that it writes overlapping another; Rust's slices and `&mut` references are that, also where a slice is empty. It
@@ -14,10 +15,13 @@
 
 mod raw {
     extern "C" {
-        pub fn numolefays_count(axes: u32, level: u32, points: *mut u64, place: *mut u64) -> u32;
+        pub fn numolefays_count(axes: u32, level: u32, border: u8, points: *mut u64, place: *mut u64) -> u32;
         pub fn numolefays_number_of_point(
             axes: u32,
             level: u32,
+            border: u8,
+            marks: *const u32,
+            marks_len: usize,
             levels: *const u32,
             levels_len: usize,
             indices: *const u32,
@@ -28,7 +32,9 @@ mod raw {
         pub fn numolefays_point_of_number(
             axes: u32,
             level: u32,
+            border: u8,
             number: u64,
+            marks: *mut [u32; 8],
             levels: *mut [u32; 8],
             indices: *mut [u32; 8],
             place: *mut u64,
@@ -36,10 +42,14 @@ mod raw {
         pub fn numolefays_successor(
             axes: u32,
             level: u32,
+            border: u8,
+            marks: *const u32,
+            marks_len: usize,
             levels: *const u32,
             levels_len: usize,
             indices: *const u32,
             indices_len: usize,
+            next_marks: *mut [u32; 8],
             next_levels: *mut [u32; 8],
             next_indices: *mut [u32; 8],
             end: *mut u32,
@@ -48,20 +58,25 @@ mod raw {
         pub fn numolefays_parent(
             axes: u32,
             level: u32,
+            border: u8,
+            marks: *const u32,
+            marks_len: usize,
             levels: *const u32,
             levels_len: usize,
             indices: *const u32,
             indices_len: usize,
             axis: u32,
             side: u32,
+            parent_marks: *mut [u32; 8],
             parent_levels: *mut [u32; 8],
             parent_indices: *mut [u32; 8],
-            border: *mut u32,
+            none: *mut u32,
             place: *mut u64,
         ) -> u32;
         pub fn numolefays_load(
             axes: u32,
             level: u32,
+            border: u8,
             table: *mut i64,
             len: usize,
             forward: *mut u8,
@@ -70,6 +85,7 @@ mod raw {
         pub fn numolefays_adopt(
             axes: u32,
             level: u32,
+            border: u8,
             table: *const i64,
             len: usize,
             forward: *mut u8,
@@ -78,6 +94,7 @@ mod raw {
         pub fn numolefays_forward(
             axes: u32,
             level: u32,
+            border: u8,
             forward: *mut u8,
             table: *mut i64,
             len: usize,
@@ -87,6 +104,7 @@ mod raw {
         pub fn numolefays_back(
             axes: u32,
             level: u32,
+            border: u8,
             forward: *mut u8,
             table: *mut i64,
             len: usize,
@@ -96,6 +114,7 @@ mod raw {
         pub fn numolefays_unload(
             axes: u32,
             level: u32,
+            border: u8,
             forward: u8,
             table: *mut i64,
             len: usize,
@@ -104,6 +123,7 @@ mod raw {
         pub fn numolefays_rates_to_coefficients(
             axes: u32,
             level: u32,
+            border: u8,
             table: *mut i64,
             len: usize,
             place: *mut u64,
@@ -111,6 +131,7 @@ mod raw {
         pub fn numolefays_coefficients_to_rates(
             axes: u32,
             level: u32,
+            border: u8,
             table: *mut i64,
             len: usize,
             place: *mut u64,
@@ -118,6 +139,7 @@ mod raw {
         pub fn numolefays_run(
             axes: u32,
             level: u32,
+            border: u8,
             forward: *mut u8,
             table: *mut i64,
             len: usize,
@@ -134,6 +156,7 @@ mod raw {
         pub fn numolefays_estimate(
             axes: u32,
             level: u32,
+            border: u8,
             forward: u8,
             table: *const i64,
             len: usize,
@@ -145,6 +168,7 @@ mod raw {
         pub fn numolefays_estimate_with_margin(
             axes: u32,
             level: u32,
+            border: u8,
             forward: u8,
             table: *const i64,
             len: usize,
@@ -202,14 +226,16 @@ mod raw {
 }
 
 /// How many points the shape has. Section 3. Refused with 1, 2.
-pub fn count(axes: u32, level: u32, points: &mut u64, place: &mut u64) -> u32 {
-    unsafe { raw::numolefays_count(axes, level, points, place) }
+pub fn count(axes: u32, level: u32, border: u8, points: &mut u64, place: &mut u64) -> u32 {
+    unsafe { raw::numolefays_count(axes, level, border, points, place) }
 }
 
 /// The number of a point. Section 4. Refused with 1, 2, 7, 9.
 pub fn number_of_point(
     axes: u32,
     level: u32,
+    border: u8,
+    marks: &[u32],
     levels: &[u32],
     indices: &[u32],
     number: &mut u64,
@@ -219,6 +245,9 @@ pub fn number_of_point(
         raw::numolefays_number_of_point(
             axes,
             level,
+            border,
+            marks.as_ptr(),
+            marks.len(),
             levels.as_ptr(),
             levels.len(),
             indices.as_ptr(),
@@ -233,21 +262,26 @@ pub fn number_of_point(
 pub fn point_of_number(
     axes: u32,
     level: u32,
+    border: u8,
     number: u64,
+    marks: &mut [u32; 8],
     levels: &mut [u32; 8],
     indices: &mut [u32; 8],
     place: &mut u64,
 ) -> u32 {
-    unsafe { raw::numolefays_point_of_number(axes, level, number, levels, indices, place) }
+    unsafe { raw::numolefays_point_of_number(axes, level, border, number, marks, levels, indices, place) }
 }
 
-/// The point numbered one higher; `end` is 1 after the last, and the two arrays then hold what they held. Section 5.
+/// The point numbered one higher; `end` is 1 after the last, and the arrays then hold what they held. Section 5.
 /// Refused with 1, 2, 7, 9.
 pub fn successor(
     axes: u32,
     level: u32,
+    border: u8,
+    marks: &[u32],
     levels: &[u32],
     indices: &[u32],
+    next_marks: &mut [u32; 8],
     next_levels: &mut [u32; 8],
     next_indices: &mut [u32; 8],
     end: &mut u32,
@@ -257,10 +291,14 @@ pub fn successor(
         raw::numolefays_successor(
             axes,
             level,
+            border,
+            marks.as_ptr(),
+            marks.len(),
             levels.as_ptr(),
             levels.len(),
             indices.as_ptr(),
             indices.len(),
+            next_marks,
             next_levels,
             next_indices,
             end,
@@ -269,71 +307,86 @@ pub fn successor(
     }
 }
 
-/// The parent on an axis: side 0 is left, every other number right; `border` is 1 where the neighbour is the border, and
-/// the two arrays then hold what they held. Section 6. Refused with 1, 2, 5, 7, 9.
+/// The parent on an axis: side 0 is left, every other number right; `none` is 1 where there is no such point, and the arrays
+/// then hold what they held. Section 6. Refused with 1, 2, 5, 7, 9.
 pub fn parent(
     axes: u32,
     level: u32,
+    border: u8,
+    marks: &[u32],
     levels: &[u32],
     indices: &[u32],
     axis: u32,
     side: u32,
+    parent_marks: &mut [u32; 8],
     parent_levels: &mut [u32; 8],
     parent_indices: &mut [u32; 8],
-    border: &mut u32,
+    none: &mut u32,
     place: &mut u64,
 ) -> u32 {
     unsafe {
         raw::numolefays_parent(
             axes,
             level,
+            border,
+            marks.as_ptr(),
+            marks.len(),
             levels.as_ptr(),
             levels.len(),
             indices.as_ptr(),
             indices.len(),
             axis,
             side,
+            parent_marks,
             parent_levels,
             parent_indices,
-            border,
+            none,
             place,
         )
     }
 }
 
 /// Rates to a loaded table. Section 9. Refused with 1, 2, 3, 4.
-pub fn load(axes: u32, level: u32, table: &mut [i64], forward: &mut u8, place: &mut u64) -> u32 {
-    unsafe { raw::numolefays_load(axes, level, table.as_mut_ptr(), table.len(), forward, place) }
+pub fn load(axes: u32, level: u32, border: u8, table: &mut [i64], forward: &mut u8, place: &mut u64) -> u32 {
+    unsafe { raw::numolefays_load(axes, level, border, table.as_mut_ptr(), table.len(), forward, place) }
 }
 
 /// Coefficients as they are. Section 9. Refused with 1, 2, 3, 10.
-pub fn adopt(axes: u32, level: u32, table: &[i64], forward: &mut u8, place: &mut u64) -> u32 {
-    unsafe { raw::numolefays_adopt(axes, level, table.as_ptr(), table.len(), forward, place) }
+pub fn adopt(axes: u32, level: u32, border: u8, table: &[i64], forward: &mut u8, place: &mut u64) -> u32 {
+    unsafe { raw::numolefays_adopt(axes, level, border, table.as_ptr(), table.len(), forward, place) }
 }
 
 /// Forward on one axis. Section 8. Refused with 1, 2, 14, 3, 5, 15, 10.
-pub fn forward(axes: u32, level: u32, forward: &mut u8, table: &mut [i64], axis: u32, place: &mut u64) -> u32 {
-    unsafe { raw::numolefays_forward(axes, level, forward, table.as_mut_ptr(), table.len(), axis, place) }
+pub fn forward(
+    axes: u32,
+    level: u32,
+    border: u8,
+    forward: &mut u8,
+    table: &mut [i64],
+    axis: u32,
+    place: &mut u64,
+) -> u32 {
+    unsafe { raw::numolefays_forward(axes, level, border, forward, table.as_mut_ptr(), table.len(), axis, place) }
 }
 
 /// Back on one axis. Section 8. Refused with 1, 2, 14, 3, 5, 16, 10.
-pub fn back(axes: u32, level: u32, forward: &mut u8, table: &mut [i64], axis: u32, place: &mut u64) -> u32 {
-    unsafe { raw::numolefays_back(axes, level, forward, table.as_mut_ptr(), table.len(), axis, place) }
+pub fn back(axes: u32, level: u32, border: u8, forward: &mut u8, table: &mut [i64], axis: u32, place: &mut u64) -> u32 {
+    unsafe { raw::numolefays_back(axes, level, border, forward, table.as_mut_ptr(), table.len(), axis, place) }
 }
 
 /// A loaded table to rates. Section 9. Refused with 1, 2, 14, 3, 18, 10.
-pub fn unload(axes: u32, level: u32, forward: u8, table: &mut [i64], place: &mut u64) -> u32 {
-    unsafe { raw::numolefays_unload(axes, level, forward, table.as_mut_ptr(), table.len(), place) }
+pub fn unload(axes: u32, level: u32, border: u8, forward: u8, table: &mut [i64], place: &mut u64) -> u32 {
+    unsafe { raw::numolefays_unload(axes, level, border, forward, table.as_mut_ptr(), table.len(), place) }
 }
 
 /// Rates to coefficients, whole. Section 9. Refused with 1, 2, 3, 4.
-pub fn rates_to_coefficients(axes: u32, level: u32, table: &mut [i64], place: &mut u64) -> u32 {
-    unsafe { raw::numolefays_rates_to_coefficients(axes, level, table.as_mut_ptr(), table.len(), place) }
+pub fn rates_to_coefficients(axes: u32, level: u32, border: u8, table: &mut [i64], place: &mut u64) -> u32 {
+    unsafe { raw::numolefays_rates_to_coefficients(axes, level, border, table.as_mut_ptr(), table.len(), place) }
 }
 
 /// Coefficients to rates, whole. Section 9. Refused with 1, 2, 3, 10.
-pub fn coefficients_to_rates(axes: u32, level: u32, table: &mut [i64], place: &mut u64) -> u32 {
-    unsafe { raw::numolefays_coefficients_to_rates(axes, level, table.as_mut_ptr(), table.len(), place) }
+pub fn coefficients_to_rates(axes: u32, level: u32, border: u8, table: &mut [i64], place: &mut u64) -> u32 {
+    unsafe { raw::numolefays_coefficients_to_rates(axes, level, border, table.as_mut_ptr(), table.len(), place) }
 }
 
 /// A list of turns: direction 0 is forward, any other is back; `numbers` and `places` get each turn's refusal, 0 and 0 where
@@ -341,6 +394,7 @@ pub fn coefficients_to_rates(axes: u32, level: u32, table: &mut [i64], place: &m
 pub fn run(
     axes: u32,
     level: u32,
+    border: u8,
     forward: &mut u8,
     table: &mut [i64],
     directions: &[u8],
@@ -353,6 +407,7 @@ pub fn run(
         raw::numolefays_run(
             axes,
             level,
+            border,
             forward,
             table.as_mut_ptr(),
             table.len(),
@@ -373,6 +428,7 @@ pub fn run(
 pub fn estimate(
     axes: u32,
     level: u32,
+    border: u8,
     forward: u8,
     table: &[i64],
     coordinates: &[u32],
@@ -383,6 +439,7 @@ pub fn estimate(
         raw::numolefays_estimate(
             axes,
             level,
+            border,
             forward,
             table.as_ptr(),
             table.len(),
@@ -399,6 +456,7 @@ pub fn estimate(
 pub fn estimate_with_margin(
     axes: u32,
     level: u32,
+    border: u8,
     forward: u8,
     table: &[i64],
     coordinates: &[u32],
@@ -411,6 +469,7 @@ pub fn estimate_with_margin(
         raw::numolefays_estimate_with_margin(
             axes,
             level,
+            border,
             forward,
             table.as_ptr(),
             table.len(),

@@ -3,10 +3,11 @@
 //! contract; it adds types and no logic. The repository's docs/MANUAL.md explains every word; "section" below is one of it.
 //!
 //! A table is a slice of `i64`, one place for each point of its [`Shape`], in the order of the point numbers; that of a
-//! component grid is laid out by coordinate ([`component_coefficients`]). The library allocates nothing and keeps nothing
-//! between calls: a [`State`] says which axes are forward, and whoever holds the table holds the state beside it. Calls on
-//! different tables may run at the same time in different threads. Of this crate only [`house_file`] and
-//! [`rewritten_house_file`] allocate, the `Vec` that they answer.
+//! component grid is laid out by coordinate ([`component_coefficients`]). On its border the surface is zero ([`Shape::new`]) or
+//! has points and values of its own ([`Shape::with_border`]); component grids and house files have a zero border. The library
+//! allocates nothing and keeps nothing between calls: a [`State`] says which axes are forward, and whoever holds the table
+//! holds the state beside it. Calls on different tables may run at the same time in different threads. Of this crate only
+//! [`house_file`] and [`rewritten_house_file`] allocate, the `Vec` that they answer.
 //!
 //! There are no preconditions on values: whatever numbers, lists and slices a call is handed, it either succeeds or answers a
 //! [`Refusal`], and after a refusal the table, the state and every other buffer hold what they held. What C asks of its
@@ -41,7 +42,7 @@ pub use component::component_coefficients;
 pub use house_file::{
     house_file, house_file_shape, read_house_file, rewrite_house_file, rewritten_house_file, write_house_file,
 };
-pub use point::{Point, Side};
+pub use point::{Point, Side, INSIDE, LOWER_BORDER, UPPER_BORDER};
 pub use refusal::Refusal;
 pub use shape::Shape;
 pub use state::{Estimated, State};
@@ -49,6 +50,9 @@ pub use turn::Turn;
 
 /// The most axes and the highest top level that a shape may have.
 pub const MOST: u32 = 8;
+
+/// The most axes that a shape with values on the border may have.
+pub const MOST_WITH_BORDER: u32 = 4;
 
 /// A coordinate of this is 1; coordinates run from 0 to this.
 pub const UNIT: u32 = 1_048_576;

@@ -6,7 +6,8 @@ use std::fmt;
 /// Why a call was refused: a case for each number of docs/MANUAL.md, section 14, with its place where it names one.
 #[derive(Clone, Copy, Debug, PartialEq, Eq, Hash)]
 pub enum Refusal {
-    /// 1: the number of axes is outside 1 to 8, or a list of top levels is not 1 to 8 long.
+    /// 1: the number of axes is outside 1 to 8, with values on the border outside 1 to 4, or a list of top levels is not 1 to 8
+    /// long.
     Axes,
     /// 2: the top level, or one of a list of them, is above 8.
     Level,
@@ -24,7 +25,7 @@ pub enum Refusal {
     ListLength,
     /// 8: a coordinate is above 1,048,576; the first such axis.
     Coordinate(u32),
-    /// 9: the levels and indices name no point of the shape.
+    /// 9: the marks, levels and indices name no point of the shape.
     NoPoint,
     /// 10: the contents do not allow the call.
     Contents,
@@ -144,7 +145,7 @@ impl fmt::Display for Refusal {
     fn fmt(&self, f: &mut fmt::Formatter<'_>) -> fmt::Result {
         write!(f, "refused {}: ", self.number())?;
         match self {
-            Refusal::Axes => write!(f, "the number of axes is outside 1 to 8"),
+            Refusal::Axes => write!(f, "the number of axes is outside 1 to 8, or 1 to 4 with values on the border"),
             Refusal::Level => write!(f, "a top level is above 8"),
             Refusal::TableLength => write!(f, "the table has the wrong number of places, or the output buffer too few"),
             Refusal::Rate(point) => write!(f, "the rate of point {point} is out of range"),
@@ -152,7 +153,7 @@ impl fmt::Display for Refusal {
             Refusal::PointNumber => write!(f, "there is no point of this number"),
             Refusal::ListLength => write!(f, "a list has the wrong length"),
             Refusal::Coordinate(axis) => write!(f, "the coordinate on axis {axis} is above {UNIT}"),
-            Refusal::NoPoint => write!(f, "the levels and indices name no point"),
+            Refusal::NoPoint => write!(f, "the marks, levels and indices name no point"),
             Refusal::Contents => write!(f, "the contents do not allow the call"),
             Refusal::FileEnds => write!(f, "the file ends too early"),
             Refusal::FiledNumber => write!(f, "a filed number is too long or too large"),

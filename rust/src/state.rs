@@ -26,11 +26,20 @@ impl State {
         (1..=8).contains(&axis) && self.bits >> (axis - 1) & 1 == 1
     }
 
-    /// Forward on one axis: each value becomes itself minus half the sum of its two parents' values. Section 8.
+    /// Forward on one axis: each value becomes itself minus half the sum of its two parents' values, 0 where there is no
+    /// parent. Points on the border of the axis keep their values. Section 8.
     /// Refused with 1, 2, 14, 3, 5, 15, 10.
     pub fn forward(&mut self, table: &mut [i64], axis: u32) -> Result<(), Refusal> {
         let mut place = 0;
-        let number = boundary::forward(self.shape.axes, self.shape.level, &mut self.bits, table, axis, &mut place);
+        let number = boundary::forward(
+            self.shape.axes,
+            self.shape.level,
+            self.shape.border.into(),
+            &mut self.bits,
+            table,
+            axis,
+            &mut place,
+        );
         Refusal::checked(number, place)
     }
 
@@ -38,7 +47,15 @@ impl State {
     /// Refused with 1, 2, 14, 3, 5, 16, 10.
     pub fn back(&mut self, table: &mut [i64], axis: u32) -> Result<(), Refusal> {
         let mut place = 0;
-        let number = boundary::back(self.shape.axes, self.shape.level, &mut self.bits, table, axis, &mut place);
+        let number = boundary::back(
+            self.shape.axes,
+            self.shape.level,
+            self.shape.border.into(),
+            &mut self.bits,
+            table,
+            axis,
+            &mut place,
+        );
         Refusal::checked(number, place)
     }
 
@@ -78,6 +95,7 @@ impl State {
         let number = boundary::run(
             self.shape.axes,
             self.shape.level,
+            self.shape.border.into(),
             &mut self.bits,
             table,
             directions,
@@ -93,7 +111,8 @@ impl State {
     /// Refused with 1, 2, 14, 3, 18, 10.
     pub fn unload(self, table: &mut [i64]) -> Result<(), Refusal> {
         let mut place = 0;
-        let number = boundary::unload(self.shape.axes, self.shape.level, self.bits, table, &mut place);
+        let number =
+            boundary::unload(self.shape.axes, self.shape.level, self.shape.border.into(), self.bits, table, &mut place);
         Refusal::checked(number, place)
     }
 
@@ -106,6 +125,7 @@ impl State {
         let number = boundary::estimate(
             self.shape.axes,
             self.shape.level,
+            self.shape.border.into(),
             self.bits,
             table,
             coordinates,
@@ -123,6 +143,7 @@ impl State {
         let number = boundary::estimate_with_margin(
             self.shape.axes,
             self.shape.level,
+            self.shape.border.into(),
             self.bits,
             table,
             coordinates,
