@@ -1,4 +1,7 @@
-/* The four callers of the front page on one small table: 2 axes, top level 1, rates 4, 3, 5, 2, 6. */
+/*
+ * The four callers of the front page on one small table: 2 axes, top level 1, rates 4, 3, 5, 2, 6. Then their calls on a table
+ * with values on the border.
+ */
 #include "numolefays.h"
 
 #include <inttypes.h>
@@ -12,6 +15,7 @@ enum { AXES = 2, TOP = 1, POINTS = 5 };
 struct kept {
     uint32_t axes;
     uint32_t level;
+    uint8_t border;
     uint8_t forward;
     int64_t table[POINTS];
 };
@@ -47,21 +51,25 @@ static void loader(struct kept *k)
 {
     static const uint8_t file[] = {0x02, 0x01, 0x08, 0x06, 0x0A, 0x04, 0x0C};
     uint64_t points, place, number;
-    uint32_t levels[8], indices[8], end = 0;
+    uint32_t marks[8], levels[8], indices[8], end = 0;
 
     must("file", numolefays_read_house_file(file, sizeof file, k->table, POINTS, &k->axes, &k->level, &place), &place);
-    must("count", numolefays_count(k->axes, k->level, &points, &place), &place);
+    k->border = 0;
+    must("count", numolefays_count(k->axes, k->level, k->border, &points, &place), &place);
     printf("axes %u, level %u, points %" PRIu64 "\n", (unsigned)k->axes, (unsigned)k->level, points);
 
-    must("first point", numolefays_point_of_number(k->axes, k->level, 0, levels, indices, &place), &place);
+    must("first point", numolefays_point_of_number(k->axes, k->level, k->border, 0, marks, levels, indices, &place), &place);
     while (!end) {
-        must("number", numolefays_number_of_point(k->axes, k->level, levels, AXES, indices, AXES, &number, &place), &place);
+        must("number",
+             numolefays_number_of_point(k->axes, k->level, k->border, marks, AXES, levels, AXES, indices, AXES, &number, &place), &place);
         printf("point %" PRIu64 ": levels %u %u, indices %u %u, rate %" PRId64 "\n", number, (unsigned)levels[0], (unsigned)levels[1],
                (unsigned)indices[0], (unsigned)indices[1], k->table[number]);
-        uint32_t next_levels[8], next_indices[8];
+        uint32_t next_marks[8], next_levels[8], next_indices[8];
         must("successor",
-             numolefays_successor(k->axes, k->level, levels, AXES, indices, AXES, next_levels, next_indices, &end, &place), &place);
+             numolefays_successor(k->axes, k->level, k->border, marks, AXES, levels, AXES, indices, AXES, next_marks, next_levels,
+                                  next_indices, &end, &place), &place);
         if (!end) {
+            memcpy(marks, next_marks, sizeof marks);
             memcpy(levels, next_levels, sizeof levels);
             memcpy(indices, next_indices, sizeof indices);
         }
@@ -69,8 +77,8 @@ static void loader(struct kept *k)
 
     int64_t wrong[POINTS] = {4, 3, INT64_C(2147483648), 2, 6};
     uint8_t forward = 0;
-    tell("load of a rate that is none", numolefays_load(k->axes, k->level, wrong, POINTS, &forward, &place), &place);
-    tell("load", numolefays_load(k->axes, k->level, k->table, POINTS, &k->forward, &place), &place);
+    tell("load of a rate that is none", numolefays_load(k->axes, k->level, k->border, wrong, POINTS, &forward, &place), &place);
+    tell("load", numolefays_load(k->axes, k->level, k->border, k->table, POINTS, &k->forward, &place), &place);
     show("loaded", k);
 }
 
@@ -79,7 +87,7 @@ static void job_begins(struct kept *k, FILE *saved)
 {
     uint64_t place;
 
-    tell("forward on axis 1", numolefays_forward(k->axes, k->level, &k->forward, k->table, POINTS, 1, &place), &place);
+    tell("forward on axis 1", numolefays_forward(k->axes, k->level, k->border, &k->forward, k->table, POINTS, 1, &place), &place);
     show("stopped", k);
     if (fwrite(k, sizeof *k, 1, saved) != 1)
         exit(2);
@@ -97,7 +105,9 @@ static void job_goes_on(struct kept *k, FILE *saved)
     if (fread(k, sizeof *k, 1, saved) != 1)
         exit(2);
     show("read back", k);
-    must("run", numolefays_run(k->axes, k->level, &k->forward, k->table, POINTS, directions, 2, turned, 2, numbers, 2, places, 2, &place), &place);
+    must("run",
+         numolefays_run(k->axes, k->level, k->border, &k->forward, k->table, POINTS, directions, 2, turned, 2, numbers, 2, places, 2, &place),
+         &place);
     tell("forward on axis 1", numbers[0], &places[0]);
     tell("forward on axis 2", numbers[1], &places[1]);
     show("coefficients", k);
@@ -108,7 +118,7 @@ static void ask(const struct kept *k, uint32_t x, uint32_t y)
     const uint32_t coordinates[AXES] = {x, y};
     int64_t estimate = 0;
     uint64_t absolute_sum, margin = 0, place;
-    uint32_t number = numolefays_estimate_with_margin(k->axes, k->level, k->forward, k->table, POINTS, coordinates, AXES,
+    uint32_t number = numolefays_estimate_with_margin(k->axes, k->level, k->border, k->forward, k->table, POINTS, coordinates, AXES,
                                                       &estimate, &absolute_sum, &margin, &place);
 
     printf("estimate at %u %u", (unsigned)x, (unsigned)y);
@@ -126,7 +136,7 @@ static void analyst(const struct kept *half, const struct kept *whole)
 
     ask(half, NUMOLEFAYS_UNIT / 2, NUMOLEFAYS_UNIT / 2);
     k.forward = 0;
-    tell("adopt", numolefays_adopt(k.axes, k.level, k.table, POINTS, &k.forward, &place), &place);
+    tell("adopt", numolefays_adopt(k.axes, k.level, k.border, k.table, POINTS, &k.forward, &place), &place);
     ask(&k, NUMOLEFAYS_UNIT / 2, NUMOLEFAYS_UNIT / 2);     /* point 0, rate 4 */
     ask(&k, NUMOLEFAYS_UNIT / 4, NUMOLEFAYS_UNIT / 2);     /* point 1, rate 3 */
     ask(&k, NUMOLEFAYS_UNIT / 2, 3 * NUMOLEFAYS_UNIT / 4); /* point 4, rate 6 */
@@ -163,35 +173,87 @@ static void reviewer(const struct kept *coefficients)
     struct kept k = *coefficients;
     uint64_t place;
 
-    tell("unload", numolefays_unload(k.axes, k.level, k.forward, k.table, POINTS, &place), &place);
-    tell("back on axis 1", numolefays_back(k.axes, k.level, &k.forward, k.table, POINTS, 1, &place), &place);
-    tell("back on axis 2", numolefays_back(k.axes, k.level, &k.forward, k.table, POINTS, 2, &place), &place);
-    tell("unload", numolefays_unload(k.axes, k.level, k.forward, k.table, POINTS, &place), &place);
+    tell("unload", numolefays_unload(k.axes, k.level, k.border, k.forward, k.table, POINTS, &place), &place);
+    tell("back on axis 1", numolefays_back(k.axes, k.level, k.border, &k.forward, k.table, POINTS, 1, &place), &place);
+    tell("back on axis 2", numolefays_back(k.axes, k.level, k.border, &k.forward, k.table, POINTS, 2, &place), &place);
+    tell("unload", numolefays_unload(k.axes, k.level, k.border, k.forward, k.table, POINTS, &place), &place);
     show("rates", &k);
 
-    tell("rates to coefficients", numolefays_rates_to_coefficients(k.axes, k.level, k.table, POINTS, &place), &place);
+    tell("rates to coefficients", numolefays_rates_to_coefficients(k.axes, k.level, k.border, k.table, POINTS, &place), &place);
     printf("the coefficients of the job: %s\n", memcmp(k.table, coefficients->table, sizeof k.table) == 0 ? "the same" : "others");
-    tell("coefficients to rates", numolefays_coefficients_to_rates(k.axes, k.level, k.table, POINTS, &place), &place);
+    tell("coefficients to rates", numolefays_coefficients_to_rates(k.axes, k.level, k.border, k.table, POINTS, &place), &place);
     show("rates", &k);
     file_again(&k);
 
     k = *coefficients;
     k.table[3] += 1;
-    tell("coefficients to rates, one changed", numolefays_coefficients_to_rates(k.axes, k.level, k.table, POINTS, &place), &place);
+    tell("coefficients to rates, one changed", numolefays_coefficients_to_rates(k.axes, k.level, k.border, k.table, POINTS, &place), &place);
     show("left", &k);
 
     /* the parents of that point, number 3, on axis 2: what its coefficient was made with */
     for (uint32_t side = 0; side < 2; side++) {
-        const uint32_t levels[2] = {0, 1}, indices[2] = {1, 1};
-        uint32_t up_levels[8] = {0}, up_indices[8] = {0}, border = 0;
+        const uint32_t marks[2] = {0, 0}, levels[2] = {0, 1}, indices[2] = {1, 1};
+        uint32_t up_marks[8] = {0}, up_levels[8] = {0}, up_indices[8] = {0}, none = 0;
         tell(side == 0 ? "parent on the left" : "parent on the right",
-             numolefays_parent(k.axes, k.level, levels, 2, indices, 2, 2, side, up_levels, up_indices, &border, &place), &place);
-        if (border == 1)
+             numolefays_parent(k.axes, k.level, k.border, marks, 2, levels, 2, indices, 2, 2, side, up_marks, up_levels, up_indices,
+                               &none, &place), &place);
+        if (none == 1)
             printf("  the border\n");
         else
             printf("  levels %u %u, indices %u %u\n", (unsigned)up_levels[0], (unsigned)up_levels[1], (unsigned)up_indices[0],
                    (unsigned)up_indices[1]);
     }
+}
+
+/*
+ * Household size over income, which does not vanish at the lowest income: one axis, top level 1, with values on the border. The
+ * sizes at 1/2, 1/4 and 3/4 of the axis, then on its lower and its upper border.
+ */
+static void sizes(void)
+{
+    static const uint32_t coordinates[] = {0, NUMOLEFAYS_UNIT / 8, NUMOLEFAYS_UNIT / 4, 7 * (NUMOLEFAYS_UNIT / 8), NUMOLEFAYS_UNIT};
+    struct kept k = {1, TOP, 1, 0, {3, 2, 4, 1, 2}};
+    uint32_t marks[8], levels[8], indices[8];
+    uint64_t points, number, place;
+
+    must("count", numolefays_count(k.axes, k.level, k.border, &points, &place), &place);
+    for (uint64_t p = 0; p < points; p++) {
+        must("point", numolefays_point_of_number(k.axes, k.level, k.border, p, marks, levels, indices, &place), &place);
+        printf("point %" PRIu64 ": mark %u, level %u, index %u, size %" PRId64 "\n", p, (unsigned)marks[0], (unsigned)levels[0],
+               (unsigned)indices[0], k.table[p]);
+    }
+
+    tell("load", numolefays_load(k.axes, k.level, k.border, k.table, POINTS, &k.forward, &place), &place);
+    tell("forward", numolefays_forward(k.axes, k.level, k.border, &k.forward, k.table, POINTS, 1, &place), &place);
+    show("coefficients", &k);
+    for (size_t c = 0; c < sizeof coordinates / sizeof *coordinates; c++) {
+        int64_t estimate;
+        must("estimate", numolefays_estimate(k.axes, k.level, k.border, k.forward, k.table, POINTS, &coordinates[c], 1, &estimate, &place),
+             &place);
+        printf("estimate at %u: %" PRId64 ", in units of 1/2\n", (unsigned)coordinates[c], estimate);
+    }
+
+    /* point 1, at 1/4: its parents are the lower border, which is point 3, and point 0 */
+    must("point", numolefays_point_of_number(k.axes, k.level, k.border, 1, marks, levels, indices, &place), &place);
+    for (uint32_t side = 0; side < 2; side++) {
+        uint32_t up_marks[8], up_levels[8], up_indices[8], none;
+        must("parent",
+             numolefays_parent(k.axes, k.level, k.border, marks, 1, levels, 1, indices, 1, 1, side, up_marks, up_levels, up_indices,
+                               &none, &place), &place);
+        must("number",
+             numolefays_number_of_point(k.axes, k.level, k.border, up_marks, 1, up_levels, 1, up_indices, 1, &number, &place), &place);
+        printf("parent of point 1 on the %s: point %" PRIu64 "\n", side == 0 ? "left" : "right", number);
+    }
+
+    tell("back", numolefays_back(k.axes, k.level, k.border, &k.forward, k.table, POINTS, 1, &place), &place);
+    tell("unload", numolefays_unload(k.axes, k.level, k.border, k.forward, k.table, POINTS, &place), &place);
+    show("sizes", &k);
+
+    /* a border point without border values, and border values on five axes */
+    marks[0] = NUMOLEFAYS_LOWER_BORDER;
+    tell("number of a border point, zero border", numolefays_number_of_point(1, TOP, 0, marks, 1, (const uint32_t[]){0}, 1,
+                                                                             (const uint32_t[]){1}, 1, &number, &place), &place);
+    tell("count of five axes with border values", numolefays_count(5, TOP, 1, &points, &place), &place);
 }
 
 int main(void)
@@ -214,5 +276,7 @@ int main(void)
     analyst(&half, &k);
     printf("-- reviewer\n");
     reviewer(&k);
+    printf("-- with values on the border\n");
+    sizes();
     return 0;
 }

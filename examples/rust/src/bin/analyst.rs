@@ -2,6 +2,21 @@
 
 use numolefays::{Estimated, Refusal, Shape, UNIT};
 
+/// Household sizes over income and age: at the lowest income there are households too.
+fn sizes() -> Result<(), Refusal> {
+    let shape = Shape::with_border(2, 0);
+    let mut table = vec![4, 2, 3, 1, 3, 1, 2, 2, 5];
+    shape.rates_to_coefficients(&mut table)?;
+    let state = shape.adopt(&table)?;
+    println!("household sizes, coefficients {table:?}; estimates are in quarters of a person");
+    // the middle, two borders, a corner, then between
+    for at in [[UNIT / 2, UNIT / 2], [0, UNIT / 2], [UNIT / 2, UNIT], [0, 0], [UNIT / 4, UNIT / 4], [0, UNIT / 4]] {
+        let Estimated { estimate, margin, .. } = state.estimate_with_margin(&table, &at)?;
+        println!("  at {at:?}: {estimate}, at most {margin} off");
+    }
+    Ok(())
+}
+
 fn main() -> Result<(), Refusal> {
     let shape = Shape::new(2, 1);
     let mut table = vec![4, 3, 5, 2, 6];
@@ -36,5 +51,5 @@ fn main() -> Result<(), Refusal> {
     println!("  of rates in millionths: {}, at most {} off", found.estimate, found.margin);
     let refusal = state.estimate(&table, &[0, UNIT + 1]).unwrap_err();
     println!("  {refusal}");
-    Ok(())
+    sizes()
 }

@@ -3,9 +3,9 @@
 use numolefays::{house_file, house_file_shape, read_house_file, rewritten_house_file, Refusal, Shape, Side};
 
 /// The rates as a house file, the same for every such table, and read back; a longer file of the same table has this one as
-/// its form.
+/// its form. Such files are for tables with a zero border, so they take axes and level alone.
 fn file_again(shape: Shape, rates: &[i64]) -> Result<(), Refusal> {
-    let file = house_file(shape, rates)?;
+    let file = house_file(shape.axes, shape.level, rates)?;
     println!("house file: {}", file.iter().map(|b| format!("{b:02x}")).collect::<Vec<_>>().join(" "));
     let points = house_file_shape(&file)?.points()?;
     let mut table = vec![0; points as usize];
@@ -14,6 +14,28 @@ fn file_again(shape: Shape, rates: &[i64]) -> Result<(), Refusal> {
     let longer = [0x82, 0x00, 0x01, 0x88, 0x80, 0x00, 0x06, 0x0a, 0x04, 0x0c];
     let same = rewritten_house_file(&longer, rates.len())? == file;
     println!("rewritten from {} bytes: {}", longer.len(), if same { "the same file" } else { "another file" });
+    Ok(())
+}
+
+/// Household sizes over income and age, the ends of both axes too.
+fn sizes() -> Result<(), Refusal> {
+    let shape = Shape::with_border(2, 0);
+    let mut table = [8, 2, -2, -2, -2, 4, 8, 8, 20];
+    println!("household sizes: coefficients {table:?}");
+    // the parents on axis 1 of the point at the middle of both: the points on that axis's ends; and those have none
+    let point = shape.point(0)?;
+    for side in [Side::Left, Side::Right] {
+        let Some(parent) = shape.parent(point.marks(), point.levels(), point.indices(), 1, side)? else { continue };
+        let (marks, levels, indices) = (parent.marks(), parent.levels(), parent.indices());
+        let number = shape.number_of(marks, levels, indices)?;
+        println!(
+            "parent of point 0, {side:?}: point {number}, marks {marks:?}, coefficient {}",
+            table[number as usize]
+        );
+        println!("  parent of that on axis 1: {:?}", shape.parent(marks, levels, indices, 1, side)?);
+    }
+    shape.coefficients_to_rates(&mut table)?;
+    println!("sizes, in one call: {table:?}");
     Ok(())
 }
 
@@ -46,8 +68,11 @@ fn main() -> Result<(), Refusal> {
     // the parents of point 4 on axis 2: what its coefficient was made with
     let point = shape.point(4)?;
     for side in [Side::Left, Side::Right] {
-        match shape.parent(point.levels(), point.indices(), 2, side)? {
-            Some(parent) => println!("parent of point 4, {side:?}: point {}", shape.number_of(parent.levels(), parent.indices())?),
+        match shape.parent(point.marks(), point.levels(), point.indices(), 2, side)? {
+            Some(parent) => {
+                let number = shape.number_of(parent.marks(), parent.levels(), parent.indices())?;
+                println!("parent of point 4, {side:?}: point {number}");
+            }
             None => println!("parent of point 4, {side:?}: the border"),
         }
     }
@@ -56,5 +81,5 @@ fn main() -> Result<(), Refusal> {
     let mut table = coefficients;
     let state = shape.adopt(&table)?;
     println!("{}", state.unload(&mut table).unwrap_err());
-    Ok(())
+    sizes()
 }
