@@ -4,10 +4,10 @@ use crate::{boundary, Refusal};
 
 /// The rates of a component grid become its coefficients. docs/MANUAL.md, section 18.
 ///
-/// A component grid is full, refined differently on each axis, and has a zero border. `levels` has the top level of each axis, axis 1 first; the
-/// grid has all points whose level on each axis is within that axis's top level m, 2^(m+1) − 1 of them on an axis. `table`
-/// has one place for each point, by coordinate, axis 1 running fastest. The unit and the rule are those of a [`crate::Shape`]
-/// of as many axes with a zero border: each rate times 2^d, then forward on every axis.
+/// A component grid is full, refined differently on each axis, and has a zero border. `levels` has the top level of each axis,
+/// axis 1 first; the grid has all points whose level on each axis is within that axis's top level m, 2^(m+1) − 1 of them on an
+/// axis. `table` has one place for each point, by coordinate, axis 1 running fastest. The unit and the rule are those of a
+/// [`crate::Shape`] of as many axes with a zero border: each rate times 2^d, then forward on every axis.
 ///
 /// Refused with 1 (the list is not 1 to 8 long), 2 (a top level above 8), 19 (more than 32,768 points), 3 (the table has not
 /// exactly as many places as the grid has points), 4 (the smallest position with no rate). The table is then as it was.
