@@ -38,9 +38,7 @@ pub fn print(shapes: &[(u32, u32)], seconds: f64) {
 
 fn table(what: &str, all: &[Given], bytes: fn(&File) -> usize, measure: impl Fn(&Given) -> Vec<f64>) {
     println!("\n### {what}: million bytes for each second\n");
-    println!(
-        "| (d, n) | rates | bytes | library | number by number | ratio | many bytes at once | ratio |"
-    );
+    println!("| (d, n) | rates | bytes | library | number by number | ratio | many bytes at once | ratio |");
     println!("|---|---|---|---|---|---|---|---|");
     for g in all {
         let times = measure(g);
@@ -147,7 +145,7 @@ fn reading(g: &Given, seconds: f64) -> Vec<f64> {
 }
 
 fn writing(g: &Given, seconds: f64) -> Vec<f64> {
-    let Shape { axes, level } = g.shape;
+    let Shape { axes, level, .. } = g.shape;
     let n = g.files[0].rates.len();
     let longest = 2 + 5 * n;
     for f in &g.files {
@@ -158,7 +156,7 @@ fn writing(g: &Given, seconds: f64) -> Vec<f64> {
             let rooms = [longest, f.form.len(), f.form.len() - 1].map(|room| (&f.rates, room));
             for (rates, room) in rooms.into_iter().chain([(&bad, longest)]) {
                 let (mut mine, mut plain, mut wide) = (vec![0xa5; room], vec![0xa5; room], vec![0xa5; room]);
-                let answer = write_house_file(Shape::new(axes, level), rates, &mut mine);
+                let answer = write_house_file(axes, level, rates, &mut mine);
                 let length = same(answer, file::write(axes, level, rates, &mut plain));
                 same(answer, words::write(axes, level, rates, &mut wide));
                 assert!(mine == plain && mine == wide, "the same buffers");
@@ -171,7 +169,7 @@ fn writing(g: &Given, seconds: f64) -> Vec<f64> {
     let mut all: [Contestant; 3] = [
         Box::new(|| {
             each(g, |f| {
-                let _ = black_box(write_house_file(g.shape, black_box(&f.rates), &mut mine));
+                let _ = black_box(write_house_file(axes, level, black_box(&f.rates), &mut mine));
             })
         }),
         Box::new(|| {

@@ -1,53 +1,126 @@
-//! Number of a point, point of a number, successor through a whole table, in nanoseconds each.
+//! Number of a point, point of a number, successor through a whole table, parent, in nanoseconds each.
 
 use crate::input;
-use crate::plain::points;
-use crate::table::{head, row};
+use crate::plain::bordered::points as bordered_points;
+use crate::plain::points::{self, Point};
+use crate::table::{first_and_row, head};
 use crate::timing::{contest, nanoseconds, Contestant};
-use numolefays::Shape;
+use numolefays::{Shape, Side};
 use std::hint::black_box;
 
-const COLUMNS: [&str; 2] = ["library", "plain Rust, same tests"];
+pub const COLUMNS: [&str; 2] = ["library", "plain Rust, same tests"];
 const SAMPLE: usize = 20_000;
+
+/// Marks, levels and indices.
+type Lists<'a> = [&'a [u32]; 3];
+
+/// The plain calls on one sort of shape.
+pub trait Plain {
+    fn number_of(shape: Shape, lists: Lists) -> Result<u64, u32>;
+    fn point_of(shape: Shape, number: u64) -> Result<Point, u32>;
+    fn successor(shape: Shape, lists: Lists) -> Result<Option<Point>, u32>;
+    fn parent(shape: Shape, lists: Lists, axis: u32, right: bool) -> Result<Option<Point>, u32>;
+}
+
+macro_rules! plain {
+    ($sort:ident, $calls:ident) => {
+        pub struct $sort;
+
+        impl Plain for $sort {
+            fn number_of(shape: Shape, [m, l, i]: Lists) -> Result<u64, u32> {
+                $calls::number_of(shape.axes, shape.level, m, l, i)
+            }
+            fn point_of(shape: Shape, number: u64) -> Result<Point, u32> {
+                $calls::point_of(shape.axes, shape.level, number)
+            }
+            fn successor(shape: Shape, [m, l, i]: Lists) -> Result<Option<Point>, u32> {
+                $calls::successor(shape.axes, shape.level, m, l, i)
+            }
+            fn parent(shape: Shape, [m, l, i]: Lists, axis: u32, right: bool) -> Result<Option<Point>, u32> {
+                $calls::parent(shape.axes, shape.level, m, l, i, axis, right)
+            }
+        }
+    };
+}
+
+plain!(ZeroBorder, points);
+plain!(Border, bordered_points);
+
+/// A point, and one side of it on an axis.
+struct Beside {
+    point: numolefays::Point,
+    axis: u32,
+    side: Side,
+}
+
+impl Beside {
+    fn lists(&self) -> Lists<'_> {
+        [self.point.marks(), self.point.levels(), self.point.indices()]
+    }
+}
 
 pub fn print(shapes: &[(u32, u32)], seconds: f64) {
     head("Points: ns each (how many times as long the library takes)", &COLUMNS);
     for &(axes, level) in shapes {
-        let shape = Shape::new(axes, level);
-        let n = shape.points().expect("a shape");
-        let numbers = input::numbers(SAMPLE, n);
-        same_answers(shape, &numbers);
-        row((axes, level), "number of a point", &number_of(shape, &numbers, seconds), SAMPLE as f64);
-        row((axes, level), "point of a number", &point_of(shape, &numbers, seconds), SAMPLE as f64);
-        row((axes, level), "successor, whole table", &successor(shape, seconds), n as f64);
+        rows::<ZeroBorder>(Shape::new(axes, level), seconds);
     }
 }
 
-fn same_answers(shape: Shape, numbers: &[u64]) {
-    for &number in numbers {
-        let point = shape.point(number).expect("a point");
-        assert_eq!(points::point_of(shape.axes, shape.level, number), Ok((point.all_levels, point.all_indices)));
-        assert_eq!(points::number_of(shape.axes, shape.level, point.levels(), point.indices()), Ok(number));
-        let next = shape.successor(point.levels(), point.indices()).expect("a point");
-        let plain = points::successor(shape.axes, shape.level, point.levels(), point.indices());
-        assert_eq!(plain, Ok(next.map(|p| (p.all_levels, p.all_indices))));
+/// The rows of a shape, the opponent being of its sort.
+pub fn rows<P: Plain>(shape: Shape, seconds: f64) {
+    let n = shape.points().expect("a shape");
+    let numbers = input::numbers(SAMPLE, n);
+    let axes = input::numbers(SAMPLE, u64::from(shape.axes) * 2);
+    let given: Vec<Beside> = numbers
+        .iter()
+        .zip(&axes)
+        .map(|(&number, &choice)| Beside {
+            point: shape.point(number).expect("a point"),
+            axis: choice as u32 / 2 + 1,
+            side: if choice % 2 == 1 { Side::Right } else { Side::Left },
+        })
+        .collect();
+    same_answers::<P>(shape, &numbers, &given);
+    let print = |what, times: &[f64], unit| {
+        first_and_row(&format!("({}, {})", shape.axes, shape.level), what, times, unit);
+    };
+    print("number of a point", &number_of::<P>(shape, &given, seconds), SAMPLE as f64);
+    print("point of a number", &point_of::<P>(shape, &numbers, seconds), SAMPLE as f64);
+    print("successor, whole table", &successor::<P>(shape, seconds), n as f64);
+    print("parent", &parent::<P>(shape, &given, seconds), SAMPLE as f64);
+}
+
+fn plainly(p: numolefays::Point) -> Point {
+    Point { marks: p.all_marks, levels: p.all_levels, indices: p.all_indices }
+}
+
+fn same_answers<P: Plain>(shape: Shape, numbers: &[u64], given: &[Beside]) {
+    for (&number, beside) in numbers.iter().zip(given) {
+        let lists @ [m, l, i] = beside.lists();
+        assert_eq!(P::point_of(shape, number), Ok(plainly(beside.point)));
+        assert_eq!(P::number_of(shape, lists), Ok(number));
+        assert_eq!(shape.number_of(m, l, i), Ok(number));
+        let next = shape.successor(m, l, i).expect("a point");
+        assert_eq!(P::successor(shape, lists), Ok(next.map(plainly)));
+        let parent = shape.parent(m, l, i, beside.axis, beside.side).expect("a point");
+        assert_eq!(P::parent(shape, lists, beside.axis, beside.side == Side::Right), Ok(parent.map(plainly)));
     }
 }
 
-fn number_of(shape: Shape, numbers: &[u64], seconds: f64) -> Vec<f64> {
-    let given: Vec<_> = numbers.iter().map(|&n| shape.point(n).expect("a point")).collect();
+fn number_of<P: Plain>(shape: Shape, given: &[Beside], seconds: f64) -> Vec<f64> {
     let mut all: [Contestant; 2] = [
         Box::new(|| {
             nanoseconds(|| {
-                for p in &given {
-                    let _ = black_box(shape.number_of(black_box(p.levels()), p.indices()));
+                for beside in given {
+                    let [m, l, i] = black_box(beside.lists());
+                    let _ = black_box(shape.number_of(m, l, i));
                 }
             })
         }),
         Box::new(|| {
             nanoseconds(|| {
-                for p in &given {
-                    let _ = black_box(points::number_of(shape.axes, shape.level, black_box(p.levels()), p.indices()));
+                for beside in given {
+                    let _ = black_box(P::number_of(shape, black_box(beside.lists())));
                 }
             })
         }),
@@ -55,7 +128,7 @@ fn number_of(shape: Shape, numbers: &[u64], seconds: f64) -> Vec<f64> {
     contest(&mut all, seconds, 25)
 }
 
-fn point_of(shape: Shape, numbers: &[u64], seconds: f64) -> Vec<f64> {
+fn point_of<P: Plain>(shape: Shape, numbers: &[u64], seconds: f64) -> Vec<f64> {
     let mut all: [Contestant; 2] = [
         Box::new(|| {
             nanoseconds(|| {
@@ -67,7 +140,7 @@ fn point_of(shape: Shape, numbers: &[u64], seconds: f64) -> Vec<f64> {
         Box::new(|| {
             nanoseconds(|| {
                 for &n in numbers {
-                    let _ = black_box(points::point_of(shape.axes, shape.level, black_box(n)));
+                    let _ = black_box(P::point_of(shape, black_box(n)));
                 }
             })
         }),
@@ -75,7 +148,7 @@ fn point_of(shape: Shape, numbers: &[u64], seconds: f64) -> Vec<f64> {
     contest(&mut all, seconds, 25)
 }
 
-fn successor(shape: Shape, seconds: f64) -> Vec<f64> {
+fn successor<P: Plain>(shape: Shape, seconds: f64) -> Vec<f64> {
     let n = shape.points().expect("a shape");
     let d = shape.axes as usize;
     let mut all: [Contestant; 2] = [
@@ -83,7 +156,7 @@ fn successor(shape: Shape, seconds: f64) -> Vec<f64> {
             nanoseconds(|| {
                 let mut here = shape.point(0).expect("a point");
                 let mut steps = 1;
-                while let Some(next) = shape.successor(here.levels(), here.indices()).expect("a point") {
+                while let Some(next) = shape.successor(here.marks(), here.levels(), here.indices()).expect("a point") {
                     here = next;
                     steps += 1;
                 }
@@ -92,10 +165,10 @@ fn successor(shape: Shape, seconds: f64) -> Vec<f64> {
         }),
         Box::new(|| {
             nanoseconds(|| {
-                let mut here = points::point(d, 0);
+                let mut here = P::point_of(shape, 0).expect("a point");
                 let mut steps = 1;
                 while let Some(next) =
-                    points::successor(shape.axes, shape.level, &here.0[..d], &here.1[..d]).expect("a point")
+                    P::successor(shape, [&here.marks[..d], &here.levels[..d], &here.indices[..d]]).expect("a point")
                 {
                     here = next;
                     steps += 1;
@@ -105,4 +178,26 @@ fn successor(shape: Shape, seconds: f64) -> Vec<f64> {
         }),
     ];
     contest(&mut all, seconds, 15)
+}
+
+fn parent<P: Plain>(shape: Shape, given: &[Beside], seconds: f64) -> Vec<f64> {
+    let mut all: [Contestant; 2] = [
+        Box::new(|| {
+            nanoseconds(|| {
+                for beside in given {
+                    let [m, l, i] = black_box(beside.lists());
+                    let _ = black_box(shape.parent(m, l, i, beside.axis, beside.side));
+                }
+            })
+        }),
+        Box::new(|| {
+            nanoseconds(|| {
+                for beside in given {
+                    let lists = black_box(beside.lists());
+                    let _ = black_box(P::parent(shape, lists, beside.axis, beside.side == Side::Right));
+                }
+            })
+        }),
+    ];
+    contest(&mut all, seconds, 25)
 }

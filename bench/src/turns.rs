@@ -11,7 +11,8 @@ use numolefays::{Shape, State};
 use std::cell::RefCell;
 use std::hint::black_box;
 
-pub const COLUMNS: [&str; 6] = ["library", "hash map", "algorithm 6", "walk by level vector", "list by list", "one pass"];
+pub const COLUMNS: [&str; 6] =
+    ["library", "hash map", "algorithm 6", "walk by level vector", "list by list", "one pass"];
 
 struct Tables {
     axes: usize,

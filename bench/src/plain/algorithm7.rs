@@ -4,7 +4,7 @@ use super::grid::{first, next, Levels};
 use super::{BITS, UNIT};
 
 /// Which point of a level can have a weight at x, as (index − 1)/2, and its weight.
-fn hat(x: u64, level: u32) -> (u64, u64) {
+pub(super) fn hat(x: u64, level: u32) -> (u64, u64) {
     let place = if x < UNIT { (x << level) >> BITS } else { 0 };
     let apart = (x << (level + 1)).abs_diff((2 * place + 1) << BITS);
     (place, UNIT.saturating_sub(apart))
@@ -87,7 +87,7 @@ pub fn with_margin_tabulated(axes: usize, level: u32, table: &[i64], coordinates
     margined(axes, summed::<true>(axes, level, table, |t, l| hats[t & 7][l.min(8) as usize]))
 }
 
-fn margined(axes: usize, (estimate, reached): (i64, u64)) -> (i64, u64, u64) {
+pub(super) fn margined(axes: usize, (estimate, reached): (i64, u64)) -> (i64, u64, u64) {
     let more = u128::from(reached) * (axes as u128 - 1) + u128::from(UNIT / 2);
     (estimate, reached, more.div_ceil(u128::from(UNIT)) as u64)
 }

@@ -21,11 +21,11 @@ struct List {
     own: u32,
 }
 
-fn forward(v: i64, sum: i64) -> i64 {
+pub(super) fn forward(v: i64, sum: i64) -> i64 {
     v - (sum >> 1)
 }
 
-fn back(v: i64, sum: i64) -> i64 {
+pub(super) fn back(v: i64, sum: i64) -> i64 {
     v + (sum >> 1)
 }
 
@@ -36,19 +36,23 @@ fn by_border(here: &mut [i64], near: &[i64], step: impl Fn(i64, i64) -> i64) -> 
     })
 }
 
-fn between(here: &mut [i64], near: &[i64], far: &[i64], step: impl Fn(i64, i64) -> i64) -> i64 {
+pub(super) fn between(here: &mut [i64], near: &[i64], far: &[i64], step: impl Fn(i64, i64) -> i64) -> i64 {
     here.iter_mut().zip(near).zip(far).fold(0, |odd, ((v, &a), &b)| {
         *v = step(*v, a + b);
         odd | (a + b)
     })
 }
 
+/// Where the points of block `k` with numerator 4j have their parent.
+pub(super) fn by_far(low: u32, own: u32, below: &[usize; 9], k: usize, j: usize) -> usize {
+    let twos = j.trailing_zeros();
+    let level = own - 2 - twos;
+    below[twos as usize + 2] + (((k << level) + (j >> (twos + 1))) << low)
+}
+
 impl List {
-    /// Where the points of block `k` with numerator 4j have their parent.
     fn far(&self, below: &[usize; 9], k: usize, j: usize) -> usize {
-        let twos = j.trailing_zeros();
-        let level = self.own - 2 - twos;
-        below[twos as usize + 2] + (((k << level) + (j >> (twos + 1))) << self.low)
+        by_far(self.low, self.own, below, k, j)
     }
 
     /// A step at each point; whether a sum was odd, in the lowest bit.

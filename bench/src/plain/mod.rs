@@ -3,6 +3,7 @@
 
 pub mod algorithm6;
 pub mod algorithm7;
+pub mod bordered;
 pub mod component;
 pub mod file;
 pub mod grid;

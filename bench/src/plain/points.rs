@@ -1,18 +1,28 @@
-//! Number of a point, point of a number, successor.
+//! Number of a point, point of a number, successor, parent.
 
 use super::grid::{before_sum, check_shape, count, first, next, start, Levels, BINOMIAL};
 
-/// Refusal 1, 2, 7 or 9 of a point that was handed in as two lists.
-fn check_point(axes: u32, level: u32, levels: &[u32], indices: &[u32]) -> Option<u32> {
-    if let Some(refused) = check_shape(axes, level) {
-        return Some(refused);
-    }
-    if levels.len() != axes as usize || indices.len() != axes as usize {
+/// A point by value, places past the last axis zero.
+#[derive(Clone, Copy, Debug, PartialEq)]
+pub struct Point {
+    pub marks: Levels,
+    pub levels: Levels,
+    pub indices: Levels,
+}
+
+/// Refusal 1 or 2 of the shape, 7 or 9 of a point that was handed in as three lists; all marks must be 0.
+fn check_point(axes: u32, level: u32, marks: &[u32], levels: &[u32], indices: &[u32]) -> Option<u32> {
+    check_shape(axes, level).or_else(|| check_lists(axes, level, marks, levels, indices))
+}
+
+fn check_lists(axes: u32, level: u32, marks: &[u32], levels: &[u32], indices: &[u32]) -> Option<u32> {
+    let d = axes as usize;
+    if marks.len() != d || levels.len() != d || indices.len() != d {
         return Some(7);
     }
     let mut left = level;
-    for (&l, &i) in levels.iter().zip(indices) {
-        if l > left || i % 2 == 0 || i >= 1 << (l + 1) {
+    for ((&m, &l), &i) in marks.iter().zip(levels).zip(indices) {
+        if m != 0 || l > left || i % 2 == 0 || i >= 1 << (l + 1) {
             return Some(9);
         }
         left -= l;
@@ -20,15 +30,15 @@ fn check_point(axes: u32, level: u32, levels: &[u32], indices: &[u32]) -> Option
     None
 }
 
-fn array(list: &[u32]) -> Levels {
+pub(super) fn array(list: &[u32]) -> Levels {
     let mut out = [0; 8];
     out[..list.len()].copy_from_slice(list);
     out
 }
 
 /// The number of a point.
-pub fn number_of(axes: u32, level: u32, levels: &[u32], indices: &[u32]) -> Result<u64, u32> {
-    if let Some(refused) = check_point(axes, level, levels, indices) {
+pub fn number_of(axes: u32, level: u32, marks: &[u32], levels: &[u32], indices: &[u32]) -> Result<u64, u32> {
+    if let Some(refused) = check_point(axes, level, marks, levels, indices) {
         return Err(refused);
     }
     Ok(number(axes as usize, &array(levels), &array(indices)))
@@ -46,14 +56,15 @@ pub fn number(axes: usize, levels: &Levels, indices: &Levels) -> u64 {
 }
 
 /// The point of a number.
-pub fn point_of(axes: u32, level: u32, number: u64) -> Result<(Levels, Levels), u32> {
+pub fn point_of(axes: u32, level: u32, number: u64) -> Result<Point, u32> {
     if let Some(refused) = check_shape(axes, level) {
         return Err(refused);
     }
     if number >= count(axes as usize, level) {
         return Err(6);
     }
-    Ok(point(axes as usize, number))
+    let (levels, indices) = point(axes as usize, number);
+    Ok(Point { marks: [0; 8], levels, indices })
 }
 
 /// The point of a number that is known to have one.
@@ -90,8 +101,8 @@ fn vector_of(axes: usize, sum: u32, index: u64) -> Levels {
 }
 
 /// The point numbered one higher, or none after the last.
-pub fn successor(axes: u32, level: u32, levels: &[u32], indices: &[u32]) -> Result<Option<(Levels, Levels)>, u32> {
-    if let Some(refused) = check_point(axes, level, levels, indices) {
+pub fn successor(axes: u32, level: u32, marks: &[u32], levels: &[u32], indices: &[u32]) -> Result<Option<Point>, u32> {
+    if let Some(refused) = check_point(axes, level, marks, levels, indices) {
         return Err(refused);
     }
     let axes = axes as usize;
@@ -99,7 +110,7 @@ pub fn successor(axes: u32, level: u32, levels: &[u32], indices: &[u32]) -> Resu
     for t in 0..axes {
         if indices[t] + 2 < 1 << (levels[t] + 1) {
             indices[t] += 2;
-            return Ok(Some((levels, indices)));
+            return Ok(Some(Point { marks: [0; 8], levels, indices }));
         }
         indices[t] = 1;
     }
@@ -110,5 +121,35 @@ pub fn successor(axes: u32, level: u32, levels: &[u32], indices: &[u32]) -> Resu
         }
         levels = first(sum + 1);
     }
-    Ok(Some((levels, indices)))
+    Ok(Some(Point { marks: [0; 8], levels, indices }))
+}
+
+/// The point beside a point on an axis, or none where that is the border.
+pub fn parent(
+    axes: u32,
+    level: u32,
+    marks: &[u32],
+    levels: &[u32],
+    indices: &[u32],
+    axis: u32,
+    right: bool,
+) -> Result<Option<Point>, u32> {
+    if let Some(refused) = check_shape(axes, level) {
+        return Err(refused);
+    }
+    if axis == 0 || axis > axes {
+        return Err(5);
+    }
+    if let Some(refused) = check_lists(axes, level, marks, levels, indices) {
+        return Err(refused);
+    }
+    let t = axis as usize - 1;
+    let numerator = if right { indices[t] + 1 } else { indices[t] - 1 };
+    if numerator == 0 || numerator == 1 << (levels[t] + 1) {
+        return Ok(None);
+    }
+    let mut point = Point { marks: [0; 8], levels: array(levels), indices: array(indices) };
+    let twos = numerator.trailing_zeros();
+    (point.levels[t], point.indices[t]) = (levels[t] - twos, numerator >> twos);
+    Ok(Some(point))
 }
