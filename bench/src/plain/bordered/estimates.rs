@@ -24,15 +24,22 @@ fn tabulated(coordinates: &[u32], level: u32) -> Hats {
 /// The sum over the faces and their level vectors; and where it is asked for, the sum of the absolute coefficients of points
 /// with a weight above zero on each axis.
 fn summed<const REACHED: bool>(axes: usize, level: u32, table: &[i64], coordinates: &[u32]) -> (i64, u64) {
+    // the loop over the axes is unrolled
+    match axes {
+        1 => summed_over::<REACHED, 1>(level, table, coordinates),
+        2 => summed_over::<REACHED, 2>(level, table, coordinates),
+        3 => summed_over::<REACHED, 3>(level, table, coordinates),
+        _ => summed_over::<REACHED, AXES>(level, table, coordinates),
+    }
+}
+
+fn summed_over<const REACHED: bool, const D: usize>(level: u32, table: &[i64], coordinates: &[u32]) -> (i64, u64) {
     let hats = tabulated(coordinates, level);
     let mut total: i128 = 0;
     let mut reached: u64 = 0;
     let mut start = 0;
-    for face in &ORDER[axes][..POWERS[axes]] {
-        let mut rows = [&hats[0][0]; AXES];
-        for t in 0..axes {
-            rows[t] = &hats[face.marks[t] as usize][t];
-        }
+    for face in &ORDER[D][..POWERS[D]] {
+        let rows: [&[(u64, u64); 9]; D] = std::array::from_fn(|t| &hats[face.marks[t] as usize][t]);
         let inner = &face.inner[..face.count];
         // without inner axes there is one point, of level sum 0
         for sum in 0..=if inner.is_empty() { 0 } else { level } {
@@ -42,7 +49,7 @@ fn summed<const REACHED: bool>(axes: usize, level: u32, table: &[i64], coordinat
             }
             loop {
                 let (mut joint, mut position, mut shift, mut above) = (UNIT, 0, 0, REACHED);
-                for (row, &l) in rows[..axes].iter().zip(&levels) {
+                for (row, &l) in rows.iter().zip(&levels) {
                     let (place, weight) = row[l.min(8) as usize];
                     joint = (joint * weight) >> BITS;
                     position += place << shift;

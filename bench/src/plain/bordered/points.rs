@@ -4,52 +4,50 @@ use super::super::grid::{Levels, BINOMIAL};
 use super::super::points::{array, Point};
 use super::{check_shape, count, points_on, start, BEFORE, FACE_OF, LAYERS, ORDER, POWERS};
 
-/// What the test of a point that was handed in as three lists finds on its way.
-struct Found {
-    /// Its face's code, and how many axes are inside.
-    code: usize,
-    inner: usize,
-    /// Its level sum, which level vector of that sum it has inside, and where in that it lies.
-    sum: u32,
-    vector: u32,
-    position: u32,
-}
-
-/// The point that the lists name, if they name one: else refusal 7 or 9.
-fn find(d: usize, level: u32, marks: &[u32], levels: &[u32], indices: &[u32]) -> Result<Found, u32> {
+/// Refusal 7 or 9 of a point that was handed in as three lists.
+fn check(d: usize, level: u32, marks: &[u32], levels: &[u32], indices: &[u32]) -> Option<u32> {
     if marks.len() != d || levels.len() != d || indices.len() != d {
-        return Err(7);
+        return Some(7);
     }
-    let mut found = Found { code: 0, inner: 0, sum: 0, vector: 0, position: 0 };
-    for (t, ((&m, &l), &i)) in marks.iter().zip(levels).zip(indices).enumerate() {
-        if m == 0 {
-            if l > level - found.sum || i % 2 == 0 || i >= 1 << (l + 1) {
-                return Err(9);
-            }
-            found.position += (i >> 1) << found.sum;
-            // document 001, equation 4, an axis at a time
-            let k = found.inner & 3;
-            let choose = |sum: u32| BINOMIAL[(k + sum as usize) & 15][k] as u32;
-            found.vector += choose(found.sum + l) - choose(found.sum);
-            found.sum += l;
-            found.inner += 1;
-        } else if m > 2 || l != 0 || i != 1 {
-            return Err(9);
+    let mut left = level;
+    for ((&m, &l), &i) in marks.iter().zip(levels).zip(indices) {
+        // on level 0 there is index 1 alone
+        if l > left || i % 2 == 0 || i >= 1 << (l + 1) || m > 2 || (m != 0) & (l != 0) {
+            return Some(9);
         }
-        found.code += m as usize * POWERS[t & 3];
+        left -= l;
     }
-    Ok(found)
+    None
 }
 
-/// The number of a point.
+/// The number of a point: its place inside its face is found while it is tested.
 pub fn number_of(axes: u32, level: u32, marks: &[u32], levels: &[u32], indices: &[u32]) -> Result<u64, u32> {
     if let Some(refused) = check_shape(axes, level) {
         return Err(refused);
     }
     let d = axes as usize;
-    let found = find(d, level, marks, levels, indices)?;
-    let face = &ORDER[d][usize::from(FACE_OF[d][found.code])];
-    let inside = BEFORE[found.inner][found.sum as usize] + (found.vector << found.sum) + found.position;
+    if marks.len() != d || levels.len() != d || indices.len() != d {
+        return Err(7);
+    }
+    let (mut code, mut k, mut sum, mut vector, mut position) = (0, 0, 0, 0, 0);
+    for (t, ((&m, &l), &i)) in marks.iter().zip(levels).zip(indices).enumerate() {
+        if m == 0 {
+            if l > level - sum || i % 2 == 0 || i >= 1 << (l + 1) {
+                return Err(9);
+            }
+            position += (i >> 1) << sum;
+            // document 001, equation 4, an axis at a time
+            let choose = |sum: u32| BINOMIAL[(k + sum as usize) & 15][k & 3] as u32;
+            vector += choose(sum + l) - choose(sum);
+            sum += l;
+            k += 1;
+        } else if m > 2 || l != 0 || i != 1 {
+            return Err(9);
+        }
+        code += m as usize * POWERS[t & 3];
+    }
+    let face = &ORDER[d][usize::from(FACE_OF[d][code])];
+    let inside = BEFORE[k][sum as usize] + (vector << sum) + position;
     Ok(u64::from(start(d, level, face) + inside))
 }
 
@@ -120,7 +118,9 @@ pub fn successor(axes: u32, level: u32, marks: &[u32], levels: &[u32], indices: 
         return Err(refused);
     }
     let d = axes as usize;
-    let found = find(d, level, marks, levels, indices)?;
+    if let Some(refused) = check(d, level, marks, levels, indices) {
+        return Err(refused);
+    }
     let mut point = Point { marks: array(marks), levels: array(levels), indices: array(indices) };
     for t in 0..d {
         // the one index of a border axis is its last
@@ -130,15 +130,17 @@ pub fn successor(axes: u32, level: u32, marks: &[u32], levels: &[u32], indices: 
         }
         point.indices[t] = 1;
     }
-    let f = usize::from(FACE_OF[d][found.code]);
+    let code = marks.iter().zip(POWERS).map(|(&m, power)| m as usize * power).sum::<usize>();
+    let sum = levels.iter().sum::<u32>();
+    let f = usize::from(FACE_OF[d][code]);
     let face = &ORDER[d][f];
     let inner = &face.inner[..face.count];
     if next(inner, &mut point.levels) {
         return Ok(Some(point));
     }
     point.levels = [0; 8];
-    if found.sum < level && !inner.is_empty() {
-        point.levels[usize::from(inner[0])] = found.sum + 1;
+    if sum < level && !inner.is_empty() {
+        point.levels[usize::from(inner[0])] = sum + 1;
     } else if f + 1 < POWERS[d] {
         point.marks = ORDER[d][f + 1].marks;
     } else {
@@ -163,7 +165,9 @@ pub fn parent(
     if axis == 0 || axis > axes {
         return Err(5);
     }
-    find(axes as usize, level, marks, levels, indices)?;
+    if let Some(refused) = check(axes as usize, level, marks, levels, indices) {
+        return Err(refused);
+    }
     let t = axis as usize - 1;
     if marks[t] != 0 {
         return Ok(None);
