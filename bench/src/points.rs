@@ -81,6 +81,7 @@ pub fn rows<P: Plain>(shape: Shape, seconds: f64) {
         })
         .collect();
     same_answers::<P>(shape, &numbers, &given);
+    same_refusals::<P>(shape, &given[..1_000]);
     let print = |what, times: &[f64], unit| {
         first_and_row(&format!("({}, {})", shape.axes, shape.level), what, times, unit);
     };
@@ -105,6 +106,34 @@ fn same_answers<P: Plain>(shape: Shape, numbers: &[u64], given: &[Beside]) {
         let parent = shape.parent(m, l, i, beside.axis, beside.side).expect("a point");
         assert_eq!(P::parent(shape, lists, beside.axis, beside.side == Side::Right), Ok(parent.map(plainly)));
     }
+}
+
+/// Each list of each point with another item on an axis, or with an item too many.
+fn same_refusals<P: Plain>(shape: Shape, given: &[Beside]) {
+    for beside in given {
+        let t = beside.axis as usize - 1;
+        for which in 0..3 {
+            for other in [0, 1, 2, 3, 4, 9, 511, 513, u32::MAX] {
+                let mut lists = beside.lists().map(<[u32]>::to_vec);
+                lists[which][t] = other;
+                same_refusal::<P>(shape, [&lists[0], &lists[1], &lists[2]], beside.axis, beside.side);
+            }
+            let mut lists = beside.lists().map(<[u32]>::to_vec);
+            lists[which].push(0);
+            same_refusal::<P>(shape, [&lists[0], &lists[1], &lists[2]], beside.axis, beside.side);
+        }
+        same_refusal::<P>(shape, beside.lists(), 0, beside.side);
+        same_refusal::<P>(shape, beside.lists(), shape.axes + 1, beside.side);
+    }
+}
+
+fn same_refusal<P: Plain>(shape: Shape, lists: Lists, axis: u32, side: Side) {
+    let [m, l, i] = lists;
+    assert_eq!(P::number_of(shape, lists), shape.number_of(m, l, i).map_err(|r| r.number()));
+    let next = shape.successor(m, l, i).map(|next| next.map(plainly)).map_err(|r| r.number());
+    assert_eq!(P::successor(shape, lists), next);
+    let parent = shape.parent(m, l, i, axis, side).map(|parent| parent.map(plainly)).map_err(|r| r.number());
+    assert_eq!(P::parent(shape, lists, axis, side == Side::Right), parent);
 }
 
 fn number_of<P: Plain>(shape: Shape, given: &[Beside], seconds: f64) -> Vec<f64> {
