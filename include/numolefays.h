@@ -10,11 +10,11 @@
  * where the call succeeded. Where a call is refused, every output but `*place` and every buffer hold what they
  * held.
  *
- * Values. A shape is a number of axes, a top level, 0 to 8, and whether its tables have values on the border [1]:
- * `border` 0 says no, with 1 to 8 axes; every other number says yes, with 1 to 4 axes. Its table has N numbers [3].
- * A state is the shape and a byte of forward axes, bit t - 1 for axis t [8]. The caller keeps them and hands them
- * in. There are no preconditions on values: any number, list and contents may be handed in, and what is bad is
- * refused.
+ * Values. A shape is a number of axes, a top level, 0 to 8, and whether its tables have values on the border [1].
+ * `border` 0 says no: the surface is 0 there, and there are 1 to 8 axes; every other number says yes, and there are
+ * 1 to 4. Its table has N numbers [3]. A state is the shape and a byte of forward axes, bit t - 1 for axis t [8]. The
+ * caller keeps them and hands them in. There are no preconditions on values: any number, list and contents may be
+ * handed in, and what is bad is refused.
  *
  * Points. A point has a mark, a level and an index on each axis [2]. The mark is 0 inside; with border values it can
  * also be 1, on the lower border of the axis, or 2, on the upper one, and the level is 0 and the index 1 there. A
@@ -116,8 +116,8 @@ uint32_t numolefays_successor(uint32_t axes, uint32_t level, uint8_t border, con
 /*
  * The parent of a point on an axis [6]. Side 0 is left, toward 0; every other number is right, toward 1. The
  * parent goes to the arrays, and `*none` gets 0. Where there is none, `*none` gets 1 and the arrays hold what they
- * held; this is no refusal. Where the neighbour is the border, the parent is the point there with border values, and
- * there is none without. A point on the border of this axis has none either.
+ * held; this is no refusal. Where the neighbour is the border, the parent is the point there if there are border
+ * values, else there is none. A point on the border of this axis has none.
  * Refused: 1, 2, 5 (the axis given), 7 (any of the lists), 9.
  */
 uint32_t numolefays_parent(uint32_t axes, uint32_t level, uint8_t border, const uint32_t *marks, size_t marks_length,
