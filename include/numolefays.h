@@ -12,9 +12,9 @@
  *
  * Values. A shape is a number of axes, a top level, 0 to 8, and whether its tables have values on the border [1].
  * `border` 0 says no: the surface is 0 there, and there are 1 to 8 axes; every other number says yes, and there are
- * 1 to 4. Its table has N numbers [3]. A state is the shape and a byte of forward axes, bit t - 1 for axis t [8]. The
- * caller keeps them and hands them in. There are no preconditions on values: any number, list and contents may be
- * handed in, and what is bad is refused.
+ * 1 to 4. Its table has N numbers [3]. A state is the shape and a byte of forward axes, bit t - 1 for axis t [8].
+ * The caller keeps them and hands them in. There are no preconditions on values: any number, list and contents may
+ * be handed in, and what is bad is refused.
  *
  * Points. A point has a mark, a level and an index on each axis [2]. The mark is 0 inside; with border values it can
  * also be 1, on the lower border of the axis, or 2, on the upper one, and the level is 0 and the index 1 there. A
@@ -147,8 +147,8 @@ uint32_t numolefays_adopt(uint32_t axes, uint32_t level, uint8_t border, const i
 
 /*
  * Forward on an axis [8]: each value becomes itself minus half the sum of its two parents' values, read as they
- * were before the turn; where there is no parent, 0 is read. With border values those of points on the border of this
- * axis stay. `*forward` gets the bit of the axis.
+ * were before the turn; where there is no parent, 0 is read. With border values those of points on the border of
+ * this axis stay. `*forward` gets the bit of the axis.
  * Refused: 1, 2, 14, 3, 5 (the axis given), 15 (the axis), 10 (an odd sum, or a value past 2^47 before or
  * after).
  */
