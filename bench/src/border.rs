@@ -112,8 +112,9 @@ fn turn_rows<P: Turns>(shape: Shape, seconds: f64) {
 
     // each call by itself, on a table that is filled anew for each
     type Call<'a> = Box<dyn Fn(&mut [i64]) + 'a>;
+    type Row<'a> = (&'static str, &'a [i64], &'a [i64], Call<'a>, Call<'a>);
     let plain = || P::new(d, shape.level);
-    let calls: [(&str, &[i64], &[i64], Call, Call); 4] = [
+    let calls: [Row; 4] = [
         (
             "forward",
             &loaded,
