@@ -1,5 +1,4 @@
-//! Tables with values on the border: their points, turns and estimates, turns and estimates beside those of tables of like size with
-//! a zero border.
+//! Tables with values on the border: points, turns and estimates; the last two beside tables of like size with a zero border.
 
 use crate::input;
 use crate::plain::bordered::{estimates as bordered_estimates, turns::Faces};
