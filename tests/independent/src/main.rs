@@ -5,12 +5,14 @@
 //! and turns list by list to fewer shapes, and a line to fewer coordinates. The last line has the counts; the exit code
 //! is 1 where anything differs, and where an answer was not met or a wrong reading would not be seen.
 
+mod boundary;
 mod checks;
 mod draw;
 mod inputs;
 mod lent;
 mod model;
 mod report;
+mod wrapper;
 
 use checks::{
     border, components, edges, estimates, exhaustive, faults, files, finer, lists, margin_misreadings, margins,

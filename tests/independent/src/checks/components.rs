@@ -3,6 +3,7 @@
 use super::edges::{LEAST, MOST, NO_RATES};
 use super::rates::in_place;
 use super::short;
+use crate::boundary;
 use crate::draw::Draw;
 use crate::inputs;
 use crate::lent::Lent;
@@ -10,7 +11,7 @@ use crate::model::component as model;
 use crate::model::component::{count, Grid};
 use crate::model::grid::{count as sparse_count, grid as sparse_grid};
 use crate::report::Report;
-use numolefays::{boundary, component_coefficients, Shape};
+use numolefays::{component_coefficients, Shape};
 
 const CALL: &str = "component";
 

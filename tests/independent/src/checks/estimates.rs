@@ -1,6 +1,7 @@
 //! Estimates, and the same with their margin.
 
 use super::{answer, margins, misreadings, refusal, short};
+use crate::boundary;
 use crate::draw::Draw;
 use crate::inputs::{self, END};
 use crate::model::estimates as model;
@@ -9,7 +10,7 @@ use crate::model::margin::{Estimated, Reached};
 use crate::model::rates::coefficients;
 use crate::model::Refused;
 use crate::report::Report;
-use numolefays::{boundary, Shape, State};
+use numolefays::{Shape, State};
 
 const CALL: &str = "estimate";
 

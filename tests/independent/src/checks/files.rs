@@ -1,13 +1,14 @@
 //! House files: good ones, with needless zero groups, and damaged in every way.
 
 use super::{answer, refusal, short};
+use crate::boundary;
 use crate::draw::Draw;
 use crate::inputs;
 use crate::lent;
 use crate::model::files as model;
 use crate::model::grid::count;
 use crate::report::Report;
-use numolefays::{boundary, read_house_file, Shape};
+use numolefays::{read_house_file, Shape};
 
 const CALL: &str = "read";
 

@@ -2,6 +2,7 @@
 
 use super::estimates::estimate;
 use super::{answer, margin_misreadings, refusal, short};
+use crate::boundary;
 use crate::draw::Draw;
 use crate::inputs::{self, END, LIMIT};
 use crate::model::grid::count;
@@ -9,7 +10,7 @@ use crate::model::margin::{Estimated, Reached};
 use crate::model::natural::Natural;
 use crate::model::Refused;
 use crate::report::Report;
-use numolefays::{boundary, Shape, State};
+use numolefays::{Shape, State};
 
 const CALL: &str = "margin";
 

@@ -1,12 +1,14 @@
 //! Count, number of a point, point of a number, successor, parent.
 
 use super::{answer, refusal};
+use crate::boundary;
 use crate::draw::Draw;
 use crate::inputs;
 use crate::model::grid::{count, grid};
 use crate::model::points as model;
 use crate::report::Report;
-use numolefays::{boundary, Point, Shape, Side};
+use crate::wrapper;
+use numolefays::Shape;
 
 pub fn count_of(draw: &mut Draw, report: &mut Report, axes: u32, level: u32) {
     const CALL: &str = "count";
@@ -33,7 +35,7 @@ pub fn number_of(draw: &mut Draw, report: &mut Report, axes: u32, level: u32, le
     let got = boundary::number_of_point(axes, level, levels, indices, &mut found, &mut at);
     report.same(CALL, "answer and place", &(number, place), &(got, at), &say);
     report.same(CALL, "number", &want.unwrap_or(junk), &found, &say);
-    report.same(CALL, "wrapper", &want.map_err(refusal), &Shape::new(axes, level).number_of(levels, indices), &say);
+    report.same(CALL, "wrapper", &want.map_err(refusal), &wrapper::number_of(axes, level, levels, indices), &say);
 }
 
 pub fn point_of(draw: &mut Draw, report: &mut Report, axes: u32, level: u32, number: u64) {
@@ -47,8 +49,7 @@ pub fn point_of(draw: &mut Draw, report: &mut Report, axes: u32, level: u32, num
     let got = boundary::point_of_number(axes, level, number, &mut levels, &mut indices, &mut at);
     report.same(CALL, "answer and place", &(refused, place), &(got, at), &say);
     report.same(CALL, "levels and indices", &want.unwrap_or((junk[0], junk[1])), &(levels, indices), &say);
-    let want = want.map(|(l, i)| Point { axes, all_levels: l, all_indices: i });
-    report.same(CALL, "wrapper", &want.map_err(refusal), &Shape::new(axes, level).point(number), &say);
+    report.same(CALL, "wrapper", &want.map_err(refusal), &wrapper::point(axes, level, number), &say);
 }
 
 pub fn successor(draw: &mut Draw, report: &mut Report, axes: u32, level: u32, levels: &[u32], indices: &[u32]) {
@@ -70,8 +71,7 @@ pub fn successor(draw: &mut Draw, report: &mut Report, axes: u32, level: u32, le
     report.same(CALL, "end", &want_end, &end, &say);
     let want_next = want.ok().flatten().unwrap_or((junk[0], junk[1]));
     report.same(CALL, "levels and indices", &want_next, &(next_levels, next_indices), &say);
-    let want = want.map(|next| next.map(|(l, i)| Point { axes, all_levels: l, all_indices: i }));
-    report.same(CALL, "wrapper", &want.map_err(refusal), &Shape::new(axes, level).successor(levels, indices), &say);
+    report.same(CALL, "wrapper", &want.map_err(refusal), &wrapper::successor(axes, level, levels, indices), &say);
 }
 
 #[allow(clippy::too_many_arguments)]
@@ -102,9 +102,8 @@ pub fn parent(
     };
     report.same(CALL, "border", &want_border, &border, &say);
     report.same(CALL, "levels and indices", &want.ok().flatten().unwrap_or((junk[0], junk[1])), &(l, i), &say);
-    let want = want.map(|up| up.map(|(l, i)| Point { axes, all_levels: l, all_indices: i }));
-    let to = if side == 0 { Side::Left } else { Side::Right };
-    report.same(CALL, "wrapper", &want.map_err(refusal), &Shape::new(axes, level).parent(levels, indices, axis, to), &say);
+    let wrapped = wrapper::parent(axes, level, levels, indices, axis, side != 0);
+    report.same(CALL, "wrapper", &want.map_err(refusal), &wrapped, &say);
 }
 
 /// One random case of each.

@@ -1,6 +1,7 @@
 //! Load, adopt, unload, and the whole calls.
 
 use super::{answer, refusal, short};
+use crate::boundary;
 use crate::draw::Draw;
 use crate::inputs;
 use crate::lent;
@@ -8,7 +9,7 @@ use crate::model::grid::count;
 use crate::model::rates as model;
 use crate::model::Refused;
 use crate::report::Report;
-use numolefays::{boundary, Refusal, Shape, State};
+use numolefays::{Refusal, Shape, State};
 
 pub fn load(draw: &mut Draw, report: &mut Report, axes: u32, level: u32, table: &[i64]) {
     const CALL: &str = "load";

@@ -1,12 +1,13 @@
 //! Runs of turns, against turns one by one, and against demand 3's model.
 
 use super::{answer, refusal, short};
+use crate::boundary;
 use crate::draw::Draw;
 use crate::inputs;
 use crate::lent::{self, Lent};
 use crate::model::runs as model;
 use crate::report::Report;
-use numolefays::{boundary, Shape, State, Turn};
+use numolefays::{Shape, State, Turn};
 
 const CALL: &str = "run";
 

@@ -1,6 +1,7 @@
 //! Several tables at once, by several threads: each call on its own table is as if it were alone.
 
 use super::{components, estimates, files, margins, rates, runs, turns, writes};
+use crate::boundary;
 use crate::draw::Draw;
 use crate::inputs;
 use crate::model::{
@@ -8,7 +9,7 @@ use crate::model::{
     turns as model_turns,
 };
 use crate::report::Report;
-use numolefays::{boundary, Estimated, Shape, State};
+use numolefays::{Estimated, Shape, State};
 use std::thread;
 
 const THREADS: u64 = 4;

@@ -1,13 +1,14 @@
 //! Forward and back on one axis.
 
 use super::{answer, refusal, short};
+use crate::boundary;
 use crate::draw::Draw;
 use crate::inputs;
 use crate::lent;
 use crate::model::turns as model;
 use crate::model::Refused;
 use crate::report::Report;
-use numolefays::{boundary, Shape, State};
+use numolefays::{Shape, State};
 
 #[allow(clippy::too_many_arguments)]
 pub fn turn(

@@ -1,9 +1,11 @@
 //! Whole tables, point by point: number, point, successor and parents of every point of a shape.
 
+use crate::boundary;
 use crate::model::grid::grid;
 use crate::model::points as model;
 use crate::report::Report;
-use numolefays::{boundary, Shape};
+use crate::wrapper;
+use numolefays::Shape;
 
 pub fn walk(report: &mut Report, axes: u32, level: u32) {
     let shape = Shape::new(axes, level);
@@ -17,10 +19,10 @@ pub fn walk(report: &mut Report, axes: u32, level: u32) {
         let (levels, indices) = (levels.map(u32::from), indices.map(u32::from));
         let (l, i) = (&levels[..axes as usize], &indices[..axes as usize]);
         let say = || format!("axes {axes} level {level} number {number} levels {l:?} indices {i:?}");
-        report.same("number", "walk", &Ok(number as u64), &shape.number_of(l, i), &say);
-        let point = shape.point(number as u64).map(|p| (p.all_levels, p.all_indices));
+        report.same("number", "walk", &Ok(number as u64), &wrapper::number_of(axes, level, l, i), &say);
+        let point = wrapper::point(axes, level, number as u64);
         report.same("point", "walk", &Ok((levels, indices)), &point, &say);
-        let next = shape.successor(l, i).map(|end| end.map(|p| (p.all_levels, p.all_indices)));
+        let next = wrapper::successor(axes, level, l, i);
         let want = if number == last {
             None
         } else {
@@ -43,7 +45,7 @@ pub fn walk(report: &mut Report, axes: u32, level: u32) {
             report.same("parent", "walk, the point", &want.unwrap_or(nowhere), &(found[0], found[1]), &say);
             if let Some((pl, pi)) = want {
                 let n = axes as usize;
-                let earlier = shape.number_of(&pl[..n], &pi[..n]).is_ok_and(|p| p < number as u64);
+                let earlier = wrapper::number_of(axes, level, &pl[..n], &pi[..n]).is_ok_and(|p| p < number as u64);
                 report.walked("number");
                 report.same("number", "a parent's is smaller", &true, &earlier, &say);
             }

@@ -3,12 +3,14 @@
 
 use super::margins::wrapped;
 use super::writes::{library_rewrites, library_writes};
+use crate::boundary;
 use crate::inputs;
 use crate::model;
 use crate::model::estimates::OLD_UNIT;
 use crate::model::margin::{estimate_with_margin, Estimated, Reached};
 use crate::report::Report;
-use numolefays::{boundary, component_coefficients, read_house_file, Refusal, Shape, State};
+use crate::wrapper;
+use numolefays::{component_coefficients, read_house_file, Refusal, Shape, State};
 
 pub fn worked(report: &mut Report) {
     let mut paper = |kind: &'static str, want: Vec<i64>, separate: Vec<i64>, library: Vec<i64>| {
@@ -23,7 +25,7 @@ pub fn worked(report: &mut Report) {
         paper("count", vec![n], vec![model::grid::count(axes, level) as i64], vec![library]);
     }
     let separate = model::points::number_of(2, 3, &[1, 2], &[3, 1]).map_or(-1, |n| n as i64);
-    let library = Shape::new(2, 3).number_of(&[1, 2], &[3, 1]).map_or(-1, |n| n as i64);
+    let library = wrapper::number_of(2, 3, &[1, 2], &[3, 1]).map_or(-1, |n| n as i64);
     paper("number", vec![34], vec![separate], vec![library]);
 
     let tables: [(u32, u32, &[i64], &[i64]); 4] = [

@@ -2,6 +2,7 @@
 
 use super::files::{any_file, file};
 use super::{answer, short};
+use crate::boundary;
 use crate::draw::Draw;
 use crate::inputs;
 use crate::lent;
@@ -9,7 +10,6 @@ use crate::model::files as model;
 use crate::model::grid::count;
 use crate::model::Refused;
 use crate::report::Report;
-use numolefays::boundary;
 
 const WRITE: &str = "write";
 const REWRITE: &str = "rewrite";
