@@ -4,6 +4,10 @@
 //! call. `NUMOLEFAYS_LARGE=0` leaves out the large tables, as for a run under valgrind, and keeps turns with a fault
 //! and turns list by list to fewer shapes, and a line to fewer coordinates. The last line has the counts; the exit code
 //! is 1 where anything differs, and where an answer was not met or a wrong reading would not be seen.
+//!
+//! `--border` runs what is about tables with border values alone, and `--model` the same without the library: the separate
+//! code against itself, against the request's examples, and against wrong readings of the request. The library takes part
+//! in them where its boundary has the flag, with the feature `border`.
 
 mod boundary;
 mod checks;
@@ -15,7 +19,7 @@ mod report;
 mod wrapper;
 
 use checks::{
-    border, components, edges, estimates, exhaustive, faults, files, finer, lists, margin_misreadings, margins,
+    border, bordered, components, edges, estimates, exhaustive, faults, files, finer, lists, margin_misreadings, margins,
     misreadings, orders, points, rates, rounding, runs, threads, turns, walks, worked, writes,
 };
 use draw::Draw;
@@ -24,6 +28,9 @@ use std::time::Instant;
 
 const SEED: u64 = 20_261_113;
 const COUNT: u64 = 10_000;
+
+/// Whether the library's boundary has the flag for border values: src/boundary.rs.
+const LIBRARY_HAS_BORDER: bool = cfg!(feature = "border");
 
 fn setting(name: &str, usual: u64) -> u64 {
     match std::env::var(name) {
@@ -61,6 +68,22 @@ fn main() {
     println!("seed {seed}, {count} rounds");
     let clock = Instant::now();
     let mut report = Report::default();
+    let with_large = setting("NUMOLEFAYS_LARGE", 1) != 0;
+    let with_border = |report: &mut Report, library| {
+        bordered::all(seed, count, with_large, library, report, &|what| step(&clock, what));
+    };
+    match std::env::args().nth(1).as_deref() {
+        None => (),
+        Some("--model") => {
+            with_border(&mut report, false);
+            std::process::exit(of_border_values(&report, count));
+        }
+        Some("--border") => {
+            with_border(&mut report, LIBRARY_HAS_BORDER);
+            std::process::exit(of_border_values(&report, count));
+        }
+        Some(other) => panic!("{other:?} is not known; --model and --border are"),
+    }
     let mut draw = Draw::new(seed);
 
     worked::worked(&mut report);
@@ -84,7 +107,6 @@ fn main() {
     edges::of_file_shapes(&mut draw, &mut report);
     step(&clock, "each call at its edges");
 
-    let with_large = setting("NUMOLEFAYS_LARGE", 1) != 0;
     faults::all(&mut Draw::new(seed ^ 0x6661_756c_7473), &mut report, with_large);
     step(&clock, "turns with a fault at one place, at every place of every small shape");
     let listed = lists::all(&mut Draw::new(seed ^ 0x6c_6973_7473), &mut report, with_large);
@@ -149,22 +171,43 @@ fn main() {
     threads::neighbouring_files(seed, count / 40, &mut report);
     step(&clock, "threads");
 
+    if LIBRARY_HAS_BORDER {
+        with_border(&mut report, true);
+    }
+
     report.print();
     let mut met = misreadings_shown(&report, "an estimate", misreadings::names())
         & misreadings_shown(&report, "a margin", margin_misreadings::names())
         & orders::print(&shown)
         & lists::print(&listed);
+    met &= !LIBRARY_HAS_BORDER || misreadings_shown(&report, "the request for border values", bordered::readings());
     if count >= COUNT {
-        for (call, numbers) in ANSWERS {
-            let missing = report.never_met(call, numbers);
-            if !missing.is_empty() {
-                met = false;
-                println!("{call}: no input was answered with {missing:?}");
-            }
-        }
+        met &= all_met(&report, &ANSWERS) & (!LIBRARY_HAS_BORDER || all_met(&report, &bordered::ANSWERS));
     }
     println!("{}", report.last_line());
     std::process::exit(if report.differences == 0 && met { 0 } else { 1 });
+}
+
+/// What was seen of tables with border values alone: the exit code.
+fn of_border_values(report: &Report, count: u64) -> i32 {
+    report.print();
+    let shown = misreadings_shown(report, "the request for border values", bordered::readings());
+    let met = count < COUNT || all_met(report, &bordered::ANSWERS);
+    println!("{}", report.last_line());
+    i32::from(report.differences != 0 || !shown || !met)
+}
+
+/// Whether each of these calls was answered with each of these numbers.
+fn all_met(report: &Report, answers: &[(&str, &[u32])]) -> bool {
+    let mut all = true;
+    for (call, numbers) in answers {
+        let missing = report.never_met(call, numbers);
+        if !missing.is_empty() {
+            all = false;
+            println!("{call}: no input was answered with {missing:?}");
+        }
+    }
+    all
 }
 
 fn step(clock: &Instant, what: &str) {
@@ -174,10 +217,10 @@ fn step(clock: &Instant, what: &str) {
 /// How many calls show each of these wrong readings of an estimate or of a margin; false where none shows one of them.
 fn misreadings_shown(report: &Report, of: &str, names: impl Iterator<Item = &'static str>) -> bool {
     let mut all = true;
-    println!("{:14}{:>9}  wrong reading of {of}", "shown by", "calls");
+    println!("{:22}{:>9}  wrong reading of {of}", "shown by", "calls");
     for reading in names {
         let times = report.times_shown(reading);
-        println!("{:14}{times:9}  {reading}", "");
+        println!("{:22}{times:9}  {reading}", "");
         if times == 0 {
             all = false;
             println!("estimate: no call shows the reading {reading:?} of {of}");

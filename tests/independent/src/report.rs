@@ -4,7 +4,7 @@ use std::collections::BTreeMap;
 use std::fmt::Debug;
 
 /// The calls of the boundary.
-pub const KINDS: [&str; 20] = [
+pub const KINDS: [&str; 35] = [
     "count",
     "number",
     "point",
@@ -25,6 +25,22 @@ pub const KINDS: [&str; 20] = [
     "write",
     "rewrite",
     "file shape",
+    // on shapes with border values
+    "bordered count",
+    "bordered number",
+    "bordered point",
+    "bordered successor",
+    "bordered parent",
+    "bordered load",
+    "bordered adopt",
+    "bordered unload",
+    "bordered forward",
+    "bordered back",
+    "bordered run",
+    "bordered whole forward",
+    "bordered whole back",
+    "bordered estimate",
+    "bordered margin",
 ];
 
 #[derive(Default)]
@@ -124,7 +140,7 @@ impl Report {
 
     /// The calls by kind, what they were answered with, and the calls of walks.
     pub fn print(&self) {
-        println!("{:14}{:>9}{:>11}  answered with", "calls", "", "in walks");
+        println!("{:22}{:>9}{:>11}  answered with", "calls", "", "in walks");
         for kind in KINDS {
             let Some(tally) = self.kinds.get(kind) else { continue };
             let answers: Vec<String> = tally
@@ -132,7 +148,7 @@ impl Report {
                 .iter()
                 .map(|(n, times)| format!("{}: {times}", if *n == 0 { "done".into() } else { n.to_string() }))
                 .collect();
-            println!("{kind:14}{:9}{:11}  {}", tally.calls, tally.walked, answers.join(", "));
+            println!("{kind:22}{:9}{:11}  {}", tally.calls, tally.walked, answers.join(", "));
         }
     }
 

@@ -2,6 +2,7 @@
 //! in `writes` through the boundary alone.
 
 pub mod border;
+pub mod bordered;
 pub mod components;
 pub mod edges;
 pub mod estimates;

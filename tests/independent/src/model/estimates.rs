@@ -53,7 +53,7 @@ pub fn sum(table: &[i64], joint_weights: &[i128]) -> i128 {
 
 /// The whole number nearest to sum / unit, and of two as near the one further from zero: found among three by
 /// their distances.
-fn nearest(unit: i128, sum: i128) -> i128 {
+pub fn nearest(unit: i128, sum: i128) -> i128 {
     let about = sum / unit;
     (about - 1..=about + 1)
         .min_by_key(|whole| ((whole * unit - sum).abs(), Reverse(whole.abs())))

@@ -50,6 +50,11 @@ impl Reached {
         Reached { axes, points: points.collect() }
     }
 
+    /// These points, of a shape with so many axes.
+    pub fn of_points(axes: u32, points: Vec<(i64, [u32; 8])>) -> Reached {
+        Reached { axes, points }
+    }
+
     /// S.
     pub fn sum(&self) -> u64 {
         self.points.iter().map(|(c, _)| c.unsigned_abs()).sum()

@@ -3,6 +3,7 @@
 //!
 //! Nothing here is fast, and nothing here is taken from the library or its papers' algorithms.
 
+pub mod bordered;
 pub mod component;
 pub mod estimates;
 pub mod files;

@@ -1,0 +1,130 @@
+//! Tables with border values, change request g: calls on shapes of either sort, each looked at by the separate code alone and,
+//! where the library's boundary has the flag (feature `border`), compared with the library.
+
+pub mod edges;
+pub mod inputs;
+pub mod itself;
+pub mod journeys;
+#[cfg(feature = "border")]
+pub mod library;
+pub mod random;
+pub mod walks;
+pub mod worked;
+
+use super::{answer, short};
+use crate::draw::Draw;
+use crate::model::bordered::calls::{Answer, Call};
+use crate::model::bordered::readings::WRONG;
+use crate::model::bordered::Shape;
+use crate::report::Report;
+
+/// Where calls are made: what they are drawn from, and what is written down of them.
+pub struct Desk<'a> {
+    pub draw: Draw,
+    pub report: &'a mut Report,
+    /// Whether the library is asked as well.
+    pub library: bool,
+}
+
+/// Shapes of more points show no wrong reading that others do not.
+const SMALL: usize = 1_200;
+
+impl Desk<'_> {
+    /// One call.
+    pub fn call(&mut self, shape: Shape, call: &Call) {
+        let _ = self.answered(shape, call);
+    }
+
+    /// The same; answers what it has to answer.
+    pub fn answered(&mut self, shape: Shape, call: &Call) -> Answer {
+        let want = call.answer(shape);
+        self.report.case(call.kind(shape), answer(&want).0);
+        // what is refused for another reason than contents is refused by every reading
+        if shape.flagged() && matches!(want, Ok(_) | Err((10, _))) && shape.count() <= SMALL {
+            wrong_readings(self.report, shape, call, &want);
+        }
+        itself::looked_at(self.report, shape, call, &want);
+        self.against(shape, call, &want);
+        want
+    }
+
+    /// One call of a walk over the points of a shape, which no reading but the right one looks at.
+    pub fn walked(&mut self, shape: Shape, call: &Call) {
+        let want = call.answer(shape);
+        self.report.walked(call.kind(shape));
+        self.against(shape, call, &want);
+    }
+
+    #[cfg(feature = "border")]
+    fn against(&mut self, shape: Shape, call: &Call, want: &Answer) {
+        if self.library {
+            library::compare(&mut self.draw, self.report, shape, call, want);
+        }
+    }
+
+    #[cfg(not(feature = "border"))]
+    fn against(&mut self, _: Shape, _: &Call, _: &Answer) {
+        assert!(!self.library, "the library's boundary has the flag only with the feature `border`");
+    }
+}
+
+/// The wrong readings that answer otherwise.
+fn wrong_readings(report: &mut Report, shape: Shape, call: &Call, want: &Answer) {
+    for reading in WRONG.iter().filter(|reading| call.concerned(reading)) {
+        if call.answer_by(shape, reading).is_some_and(|other| other != *want) {
+            report.shown(reading.name);
+        }
+    }
+}
+
+/// A call as it is printed.
+pub fn said(shape: Shape, call: &Call) -> String {
+    crate::report::cut(format!("{shape:?} {call:?}"))
+}
+
+/// What there is of all this, in the order in which it is run.
+pub fn all(seed: u64, rounds: u64, with_large: bool, library: bool, report: &mut Report, step: &dyn Fn(&str)) {
+    let mut desk = Desk { draw: Draw::new(seed ^ 0x626f_7264_6572_6564), report, library };
+    worked::worked(&mut desk);
+    itself::itself(&mut desk);
+    step("border values: worked tables, and the separate code with itself");
+    edges::all(&mut desk);
+    step("border values: each call at its edges");
+    walks::all(&mut desk, with_large);
+    step("border values: every point of every shape with up to 7,000 points");
+    journeys::all(&mut desk, with_large);
+    step("border values: loads, turns in any order with stops between, estimates and back, of every shape of the same");
+    for round in 0..rounds / 4 {
+        random::round(&mut desk, round);
+    }
+    step("border values: random inputs");
+}
+
+/// What each call can answer on shapes with border values.
+pub const ANSWERS: [(&str, &[u32]); 15] = [
+    ("bordered count", &[0, 1, 2]),
+    ("bordered number", &[0, 1, 2, 7, 9]),
+    ("bordered successor", &[0, 1, 2, 7, 9]),
+    ("bordered point", &[0, 1, 2, 6]),
+    ("bordered parent", &[0, 1, 2, 5, 7, 9]),
+    ("bordered load", &[0, 1, 2, 3, 4]),
+    ("bordered adopt", &[0, 1, 2, 3, 10]),
+    ("bordered forward", &[0, 1, 2, 14, 3, 5, 15, 10]),
+    ("bordered back", &[0, 1, 2, 14, 3, 5, 16, 10]),
+    ("bordered unload", &[0, 1, 2, 14, 3, 18, 10]),
+    ("bordered whole forward", &[0, 1, 2, 3, 4]),
+    ("bordered whole back", &[0, 1, 2, 3, 10]),
+    ("bordered run", &[0, 1, 2, 14, 3, 7]),
+    ("bordered estimate", &[0, 1, 2, 14, 3, 17, 7, 8, 10]),
+    ("bordered margin", &[0, 1, 2, 14, 3, 17, 7, 8, 10]),
+];
+
+/// The names of the wrong readings.
+pub fn readings() -> impl Iterator<Item = &'static str> {
+    WRONG.iter().map(|reading| reading.name)
+}
+
+/// A list for a message.
+fn listed(list: &[i64]) -> String {
+    short(list)
+}

@@ -1,0 +1,73 @@
+//! Change request g once more: tables with border values beside those without, by one rule. A point is its coordinates, on
+//! each axis one of the grid, or with the flag 0 or 1; points are found by searching coordinates, numbered by sorting, and
+//! have for neighbours what stands at the coordinates beside. What a face is, only the order of the points asks.
+
+pub mod calls;
+pub mod estimates;
+pub mod grid;
+pub mod readings;
+pub mod turns;
+
+use super::Refused;
+
+/// A shape of either sort: the flag is any number, and every one but 0 says yes.
+#[derive(Clone, Copy, Debug, PartialEq, Eq)]
+pub struct Shape {
+    pub axes: u32,
+    pub level: u32,
+    pub border: u8,
+}
+
+impl Shape {
+    pub fn new(axes: u32, level: u32, border: u8) -> Shape {
+        Shape { axes, level, border }
+    }
+
+    pub fn flagged(self) -> bool {
+        self.border != 0
+    }
+
+    /// Refusals 1 and 2.
+    pub fn check(self) -> Result<(), Refused> {
+        let most = if self.flagged() { 4 } else { 8 };
+        if self.axes < 1 || self.axes > most {
+            return Err((1, 0));
+        }
+        if self.level > 8 {
+            return Err((2, 0));
+        }
+        Ok(())
+    }
+
+    /// N of a shape that is not refused.
+    pub fn count(self) -> usize {
+        calls::count(self, &readings::RIGHT) as usize
+    }
+
+    pub fn all_bits(self) -> u8 {
+        (1..=self.axes.min(8)).map(|t| 2u8.pow(t - 1)).sum()
+    }
+}
+
+/// The marks, levels and indices that name a point, as a call is handed them.
+#[derive(Clone, Debug, PartialEq, Eq)]
+pub struct Lists {
+    pub marks: Vec<u32>,
+    pub levels: Vec<u32>,
+    pub indices: Vec<u32>,
+}
+
+/// The same as a call answers them, 0 past the last axis.
+#[derive(Clone, Copy, Debug, PartialEq, Eq)]
+pub struct Eights {
+    pub marks: [u32; 8],
+    pub levels: [u32; 8],
+    pub indices: [u32; 8],
+}
+
+impl Eights {
+    pub fn lists(&self, axes: u32) -> Lists {
+        let of = |all: &[u32; 8]| all[..axes as usize].to_vec();
+        Lists { marks: of(&self.marks), levels: of(&self.levels), indices: of(&self.indices) }
+    }
+}
