@@ -1,14 +1,22 @@
 #!/usr/bin/env python3
 """The calls that crates/sample_calls is handed (its stdin) and what it has to print (its stdout), made without its code by the rules of documents 01 and 02
-and request e (grid.py): the worked values, the edges of the types, then pseudo-random calls. `sample_calls.py FOLDER` writes both files."""
+and request e (grid.py): the worked values, the edges of the types, then pseudo-random calls. `sample_calls.py FOLDER` writes both files.
+
+With BORDER, as the program reads the flag and marks of request g, and with calls on tables with border values: the flag stands after the level where a state
+is read and printed, the marks before the levels, in a list m and its length."""
 import os
 import sys
 from bisect import bisect_right
 from fractions import Fraction
 from functools import lru_cache
+from itertools import product
 from math import ceil
 
-from grid import LEAST, LIMIT, MOST, OLD_UNIT, UNIT, back, estimate, forward, joint, key, margin, points, position, rates_of, size, table_of_set, vectors
+from grid import (LEAST, LIMIT, MOST, OLD_UNIT, UNIT, back, estimate, forward, joint, key, level, margin, mark, points, position, rates_of, size, table_of_set,
+                  vectors)
+
+# whether the program knows tables with border values
+BORDER = False
 
 PAST = LIMIT + 1
 # what a division leaves: nothing, a half, and one to either side of both
@@ -31,46 +39,59 @@ def first_numbers(d, n):
     return order, starts, dict(zip(order, starts))
 
 
-def number_of(d, n, levels, indices):
+@lru_cache(None)
+def numbered(d, n):
+    """The points of a table with border values, by what names them, and the other way."""
+    named = [([mark(c) for c in at], [0 if mark(c) else level(c) for c in at], [1 if mark(c) else c.numerator for c in at]) for at in points(d, n, True)]
+    return named, {tuple(map(tuple, lists)): k for k, lists in enumerate(named)}
+
+
+def number_of(d, n, border, marks, levels, indices):
+    if border:
+        return numbered(d, n)[1][tuple(marks), tuple(levels), tuple(indices)]
     return first_numbers(d, n)[2][tuple(levels)] + position(levels, indices)
 
 
-def point_of(d, n, number):
+def point_of(d, n, border, number):
+    """Marks, levels and indices."""
+    if border:
+        return [list(v) for v in numbered(d, n)[0][number]]
     order, starts, _ = first_numbers(d, n)
     k = bisect_right(starts, number) - 1
     rest, indices = number - starts[k], []
     for l in order[k]:
         indices.append(2 * (rest % 2 ** l) + 1)
         rest //= 2 ** l
-    return list(order[k]), indices
+    return [0] * d, list(order[k]), indices
 
 
 for shape in [(1, 4), (2, 3), (3, 3), (8, 1)]:
     for k, at in enumerate(points(*shape)):
-        levels, indices = point_of(*shape, k)
-        assert at == tuple(Fraction(i, 2 ** (l + 1)) for l, i in zip(levels, indices)) and number_of(*shape, levels, indices) == k
+        marks, levels, indices = point_of(*shape, False, k)
+        assert at == tuple(Fraction(i, 2 ** (l + 1)) for l, i in zip(levels, indices)) and number_of(*shape, False, marks, levels, indices) == k
 
 
 # ---- answers: text, or (number, place) of a refusal
 
-def no_shape(d, n):
-    return (1, 0) if not 1 <= d <= 8 else (2, 0) if n > 8 else None
+def no_shape(d, n, border):
+    return (1, 0) if not 1 <= d <= (4 if border else 8) else (2, 0) if n > 8 else None
 
 
-def no_state(d, n, bits, table):
-    return no_shape(d, n) or ((14, 0) if bits >> d else None) or ((3, 0) if len(table) != size(d, n) else None)
+def no_state(d, n, border, bits, table):
+    return no_shape(d, n, border) or ((14, 0) if bits >> d else None) or ((3, 0) if len(table) != size(d, n, border) else None)
 
 
-def no_table(d, n, table):
-    return no_shape(d, n) or ((3, 0) if len(table) != size(d, n) else None)
+def no_table(d, n, border, table):
+    return no_shape(d, n, border) or ((3, 0) if len(table) != size(d, n, border) else None)
 
 
-def no_point(d, n, levels, indices):
-    if len(levels) != d or len(indices) != d:
+def no_point(d, n, border, marks, levels, indices):
+    if len(marks) != d or len(levels) != d or len(indices) != d:
         return 7, 0
-    if sum(levels) > n or any(i % 2 == 0 or not 1 <= i < 2 ** (l + 1) for l, i in zip(levels, indices)):
-        return 9, 0
-    return None
+    for m, l, i in zip(marks, levels, indices):
+        if m > 2 or m and not border or m and (l, i) != (0, 1) or i % 2 == 0 or not 1 <= i < 2 ** (min(l, 9) + 1):
+            return 9, 0
+    return (9, 0) if sum(levels) > n else None
 
 
 def no_rate(table):
@@ -85,20 +106,20 @@ def said(answer):
     return "refused %d %d" % answer if isinstance(answer, tuple) else str(answer)
 
 
-def located(answer, levels=(), indices=()):
+def located(answer, marks=(), levels=(), indices=()):
     """A point by value, zeros past the last axis, and all zeros where there is none."""
-    eight = [*levels, *[0] * (8 - len(levels)), *indices, *[0] * (8 - len(indices))]
-    return " ".join([said(answer), *map(str, eight)])
+    lists = (marks, levels, indices) if BORDER else (levels, indices)
+    return " ".join([said(answer), *[str(v) for numbers in lists for v in [*numbers, *[0] * (8 - len(numbers))]]])
 
 
-def turned(is_back, d, n, bits, table, axis):
+def turned(is_back, d, n, border, bits, table, axis):
     """A refusal or the new set, and the table."""
-    bad = no_state(d, n, bits, table) or no_axis(d, axis)
+    bad = no_state(d, n, border, bits, table) or no_axis(d, axis)
     if bad:
         return bad, table
     if is_back != bool(bits >> axis - 1 & 1):
         return (16 if is_back else 15, axis), table
-    after = (back if is_back else forward)(d, n, table, axis - 1)
+    after = (back if is_back else forward)(d, n, table, axis - 1, bool(border))
     return ((10, 0), table) if after is None else (bits ^ 1 << axis - 1, after)
 
 
@@ -109,8 +130,8 @@ class Sheet:
 
     def __init__(self):
         self.asked, self.printed = [], []
-        self.d = self.n = self.bits = 0
-        self.l, self.i, self.table = [], [], []
+        self.d = self.n = self.border = self.bits = 0
+        self.m, self.l, self.i, self.table = [], [], [], []
 
     def say(self, text):
         self.asked.append(text)
@@ -121,16 +142,29 @@ class Sheet:
         self.printed.append(" " + answer)
         self.say("\n")
 
-    def state(self, d, n, bits=0, l=(), i=(), table=None):
+    def state(self, d, n, bits=0, l=(), i=(), table=None, border=0, m=()):
         """All that the next calls are handed; the table stays where none is given."""
-        self.d, self.n, self.bits, self.l, self.i = d, n, bits, list(l), list(i)
-        self.say("s%d,%d,%d," % (d, n, bits))
+        self.d, self.n, self.border, self.bits, self.m, self.l, self.i = d, n, border, bits, list(m), list(l), list(i)
+        assert BORDER or not border
+        self.say("s" + "".join("%d," % v for v in ([d, n, border, bits] if BORDER else [d, n, bits])))
         if table is not None:
             self.table = list(table)
-        self.say("%d,%d,%d, " % (len(l), len(i), len(self.table)))
-        for name, numbers in [("l", l), ("i", i), ("t", () if table is None else table)]:
+        self.say("".join("%d," % len(v) for v in ([m, l, i, self.table] if BORDER else [l, i, self.table])) + " ")
+        for name, numbers in [("m", m if BORDER else ()), ("l", l), ("i", i), ("t", () if table is None else table)]:
             if numbers:
                 self.say(name + "".join("%d," % v if v >= 0 else "%d-" % -v for v in numbers) + " ")
+
+    def named(self, d, n, levels, indices, marks=None, border=0):
+        """Lists that may name a point; without marks given no axis is a border axis."""
+        self.state(d, n, 0, levels, indices, None, border, [0] * len(levels) if marks is None else marks)
+
+    @property
+    def shape(self):
+        return self.d, self.n, self.border
+
+    @property
+    def at(self):
+        return self.m, self.l, self.i
 
     def show(self):
         """Every place of the table."""
@@ -143,33 +177,36 @@ class Sheet:
     # points
 
     def count(self):
-        self.call("C", said(no_shape(self.d, self.n) or size(self.d, self.n)))
+        self.call("C", said(no_shape(*self.shape) or size(*self.shape)))
 
     def number(self):
-        bad = no_shape(self.d, self.n) or no_point(self.d, self.n, self.l, self.i)
-        self.call("N", said(bad or number_of(self.d, self.n, self.l, self.i)))
+        bad = no_shape(*self.shape) or no_point(*self.shape, *self.at)
+        self.call("N", said(bad or number_of(*self.shape, *self.at)))
 
     def point(self, number):
-        bad = no_shape(self.d, self.n) or ((6, 0) if number >= size(self.d, self.n) else None)
-        self.call("%dP" % number, located(bad) if bad else located("f", *point_of(self.d, self.n, number)))
+        bad = no_shape(*self.shape) or ((6, 0) if number >= size(*self.shape) else None)
+        self.call("%dP" % number, located(bad) if bad else located("f", *point_of(*self.shape, number)))
 
     def successor(self):
-        bad = no_shape(self.d, self.n) or no_point(self.d, self.n, self.l, self.i)
+        bad = no_shape(*self.shape) or no_point(*self.shape, *self.at)
         if bad:
             return self.call("S", located(bad))
-        k = number_of(self.d, self.n, self.l, self.i) + 1
-        self.call("S", located("e") if k == size(self.d, self.n) else located("f", *point_of(self.d, self.n, k)))
+        k = number_of(*self.shape, *self.at) + 1
+        self.call("S", located("e") if k == size(*self.shape) else located("f", *point_of(*self.shape, k)))
 
     def parents(self, axis):
         for letter, step in ("L", -1), ("R", 1):
-            bad = no_shape(self.d, self.n) or no_axis(self.d, axis) or no_point(self.d, self.n, self.l, self.i)
+            bad = no_shape(*self.shape) or no_axis(self.d, axis) or no_point(*self.shape, *self.at)
             answer = located(bad)
             if not bad:
                 t = axis - 1
                 at = Fraction(self.i[t] + step, 2 ** (self.l[t] + 1))
-                levels, indices = self.l[:], self.i[:]
-                levels[t], indices[t] = at.denominator.bit_length() - 2, at.numerator
-                answer = located("b") if at in (0, 1) else located("f", levels, indices)
+                marks, levels, indices = self.m[:], self.l[:], self.i[:]
+                if marks[t] or mark(at) and not self.border:
+                    answer = located("b")
+                else:
+                    marks[t], levels[t], indices[t] = mark(at), 0 if mark(at) else level(at), 1 if mark(at) else at.numerator
+                    answer = located("f", marks, levels, indices)
             self.call("%d%s" % (axis, letter), answer)
 
     def order(self, a, b):
@@ -187,19 +224,19 @@ class Sheet:
         self.call(text, said(answer))
 
     def answered(self):
-        return "%d %d %d" % (self.bits, self.d, self.n)
+        return " ".join(map(str, [self.bits, *(self.shape if BORDER else self.shape[:2])]))
 
     def load(self):
-        bad = no_table(self.d, self.n, self.table) or no_rate(self.table)
+        bad = no_table(*self.shape, self.table) or no_rate(self.table)
         self.table = self.table if bad else [r * 2 ** self.d for r in self.table]
         self.done("A", bad or 0)
 
     def adopt(self):
-        bad = no_table(self.d, self.n, self.table) or ((10, 0) if any(abs(v) > LIMIT for v in self.table) else None)
+        bad = no_table(*self.shape, self.table) or ((10, 0) if any(abs(v) > LIMIT for v in self.table) else None)
         self.done("B", bad or 2 ** self.d - 1)
 
     def unload(self):
-        bad = no_state(self.d, self.n, self.bits, self.table)
+        bad = no_state(*self.shape, self.bits, self.table)
         bad = bad or next(((18, t) for t in range(1, self.d + 1) if self.bits >> t - 1 & 1), None)
         rates = [Fraction(v, 2 ** self.d) for v in self.table] if not bad else []
         if not all(r.denominator == 1 and LEAST <= r <= MOST for r in rates):
@@ -208,44 +245,44 @@ class Sheet:
         self.done("U", bad or "d")
 
     def to_coefficients(self):
-        bad = no_table(self.d, self.n, self.table) or no_rate(self.table)
-        self.table = self.table if bad else table_of_set(self.d, self.n, self.table, range(1, self.d + 1))
+        bad = no_table(*self.shape, self.table) or no_rate(self.table)
+        self.table = self.table if bad else table_of_set(self.d, self.n, self.table, range(1, self.d + 1), bool(self.border))
         self.done("V", bad or "d")
 
     def to_rates(self):
-        bad = no_table(self.d, self.n, self.table)
-        found = None if bad else rates_of(self.d, self.n, self.table)
+        bad = no_table(*self.shape, self.table)
+        found = None if bad else rates_of(self.d, self.n, self.table, bool(self.border))
         self.table = found or self.table
         self.done("W", bad or ((10, 0) if found is None else "d"))
 
     def forward(self, axis):
-        answer, self.table = turned(False, self.d, self.n, self.bits, self.table, axis)
+        answer, self.table = turned(False, *self.shape, self.bits, self.table, axis)
         self.done("%dF" % axis, answer)
 
     def back(self, axis):
-        answer, self.table = turned(True, self.d, self.n, self.bits, self.table, axis)
+        answer, self.table = turned(True, *self.shape, self.bits, self.table, axis)
         self.done("%dG" % axis, answer)
 
     def run(self, directions, axes):
         """The four directions of the list and the axes, which are refused where they are not four; state and table are looked at first."""
-        self.state(self.d, self.n, self.bits, directions, axes)
+        self.state(self.d, self.n, self.bits, directions, axes, border=self.border)
         assert len(directions) == 4
-        reported, answer = [(77, 77)] * 4, no_state(self.d, self.n, self.bits, self.table) or (7, 0)
+        reported, answer = [(77, 77)] * 4, no_state(*self.shape, self.bits, self.table) or (7, 0)
         if answer == (7, 0) and len(axes) == 4:
             for k in range(4):
-                answer, self.table = turned(directions[k] != 0, self.d, self.n, self.bits, self.table, axes[k])
+                answer, self.table = turned(directions[k] != 0, *self.shape, self.bits, self.table, axes[k])
                 reported[k] = answer if isinstance(answer, tuple) else (0, 0)
                 self.bits = self.bits if isinstance(answer, tuple) else answer
             answer = self.answered()
         self.call("T", " ".join("%d %d" % r for r in reported) + " " + said(answer))
 
     def estimate_alone(self):
-        bad = no_state(self.d, self.n, self.bits, self.table)
+        bad = no_state(*self.shape, self.bits, self.table)
         bad = bad or next(((17, t) for t in range(1, self.d + 1) if not self.bits >> t - 1 & 1), None)
         bad = bad or ((7, 0) if len(self.l) != self.d else None)
         bad = bad or next(((8, t) for t, x in enumerate(self.l, 1) if x > UNIT), None)
         bad = bad or ((10, 0) if any(abs(v) > LIMIT for v in self.table) else None)
-        answer = bad or estimate(self.d, self.n, self.table, self.l)
+        answer = bad or estimate(self.d, self.n, self.table, self.l, border=bool(self.border))
         self.call("E", said(answer))
         return answer
 
@@ -253,7 +290,7 @@ class Sheet:
         """Alone, and with its margin."""
         answer = self.estimate_alone()
         if not isinstance(answer, tuple):
-            exact, total, off = margin(self.d, self.n, self.table, self.l)
+            exact, total, off = margin(self.d, self.n, self.table, self.l, bool(self.border))
             assert abs(answer - exact) <= off
             answer = "%d %d %d" % (answer, total, ceil(off))
         self.call("M", said(answer))
@@ -269,7 +306,7 @@ def worked(sheet):
         sheet.state(d, n)
         sheet.count()
         printed(str(count))
-    sheet.state(2, 3, 0, [1, 2], [3, 1])
+    sheet.named(2, 3, [1, 2], [3, 1])
     sheet.number()
     printed("34")
     for d, n, rates, coefficients in [(1, 1, [3, 5, 7], [6, 7, 11]), (1, 0, [-1], [-2]), (2, 1, [4, 3, 5, 2, 6], [16, 4, 12, 0, 16]),
@@ -311,7 +348,7 @@ def worked(sheet):
         sheet.to_rates()
         printed(answer)
     assert sheet.table == [2]
-    for d, n, answer in [(8, 0, "0 8 0"), (9, 0, "refused 1 0"), (1, 9, "refused 2 0")]:
+    for d, n, answer in [(8, 0, "0 8 0 0" if BORDER else "0 8 0"), (9, 0, "refused 1 0"), (1, 9, "refused 2 0")]:
         sheet.state(d, n, 0, (), (), [1])
         sheet.load()
         printed(answer)
@@ -332,12 +369,12 @@ def edges_of_points(sheet):
             (2, 3, [2, 2], [1, 1]), (2, 3, [200, 0], [1, 1]), (2, 3, [TOP, 4], [1, 1]), (2, 3, [2 ** 31, 2 ** 31], [1, 1]), (1, 8, [9], [1]), (1, 8, [32], [1]),
             (2, 3, [1, 2], [2, 1]), (2, 3, [1, 2], [3, 0]), (2, 3, [1, 2], [5, 1]), (2, 3, [1, 2], [3, TOP]), (1, 8, [8], [513]), (2, 3, [0, 0], [3, 1]),
             (0, 3, [], []), (9, 9, [200], [0]), (2, 9, [200], [0])]:
-        sheet.state(d, n, 0, levels, indices)
+        sheet.named(d, n, levels, indices)
         sheet.number()
         sheet.successor()
         for axis in (1, 2, 8):
             sheet.parents(axis)
-    sheet.state(2, 3, 0, [200], [0, 0, 0])
+    sheet.named(2, 3, [200], [0, 0, 0])
     for axis in (0, 3, TOP):
         sheet.parents(axis)
     for d, n, number in [(2, 3, 0), (2, 3, 48), (2, 3, 49), (2, 3, 2 ** 32 + 34), (1, 0, 0), (1, 0, 1), (8, 8, 2228224), (8, 8, 2228225), (8, 8, 2 ** 32)]:
@@ -442,17 +479,17 @@ def random_points(draw, sheet, d, n):
     for _ in range(10):
         sheet.state(d, n)
         sheet.point(draw.below(size(d, n)))
-        levels, indices = point_of(d, n, draw.below(size(d, n)))
+        _, levels, indices = point_of(d, n, 0, draw.below(size(d, n)))
         t, which = draw.below(d), draw.below(8)
         if which == 0:
             levels[t] += draw.of(1, 2, 256)
         elif which == 1:
             indices[t] += draw.of(1, 2 ** (levels[t] + 1), 2 ** 16)
-        sheet.state(d, n, 0, levels, indices)
+        sheet.named(d, n, levels, indices)
         sheet.number()
         sheet.successor()
         sheet.parents(draw.of(0, d + 1, TOP) if draw.below(12) == 0 else draw.between(1, d))
-        other = point_of(d, n, draw.below(size(d, n)))[0]
+        other = point_of(d, n, 0, draw.below(size(d, n)))[1]
         sheet.order(*(v + [0] * (8 - d) for v in (levels, other)))
 
 
@@ -470,7 +507,7 @@ def estimates(draw, sheet, count):
     """Each at coordinates of the unit before, times 16, and at others."""
     for _ in range(count):
         for at in [[16 * old_coordinate(draw) for _ in range(sheet.d)], [coordinate(FINER) for _ in range(sheet.d)]]:
-            sheet.state(sheet.d, sheet.n, sheet.bits, at)
+            sheet.state(sheet.d, sheet.n, sheet.bits, at, border=sheet.border)
             sheet.estimate()
 
 
@@ -534,6 +571,154 @@ def about_halves(draw, sheet, d, n):
             sheet.estimate()
 
 
+# ---- tables with border values
+
+def bordered_points(sheet):
+    for d, n, count in [(1, 0, 3), (1, 1, 5), (2, 1, 21), (3, 3, 593), (4, 5, 20481)]:
+        sheet.state(d, n, border=1)
+        sheet.count()
+        assert sheet.printed[-2] == " %d" % count
+    for d, n, border in [(0, 8, 1), (5, 8, 1), (4, 9, 1), (5, 9, 255), (8, 0, 128), (9, 0, 1), (TOP, TOP, 2), (5, 0, 0), (4, 3, 255)]:
+        sheet.state(d, n, border=border)
+        sheet.count()
+        sheet.point(WIDE)
+    # the faces of two axes: by how many border axes, then by marks from the last axis
+    faces = [(0, 0), (1, 0), (2, 0), (0, 1), (0, 2), (1, 1), (2, 1), (1, 2), (2, 2)]
+    for k, marks in enumerate(faces):
+        sheet.named(2, 0, [0, 0], [1, 1], marks, 1)
+        sheet.number()
+        assert sheet.printed[-2] == " %d" % k
+        sheet.point(k)
+        sheet.successor()
+        sheet.parents(1)
+        sheet.parents(2)
+    sheet.point(len(faces))
+    # what names no point, and lists of other lengths; marks without the flag
+    for border in 1, 0:
+        for marks, levels, indices in product([[1, 0], [2, 1], [0, 3], [0, TOP], [257, 0]], [[0, 0], [0, 1], [1, 0]], [[1, 1], [1, 3], [3, 1], [0, 1]]):
+            sheet.named(2, 1, levels, indices, marks, border)
+            sheet.number()
+        for marks, levels, indices in [([], [0, 0], [1, 1]), ([0], [0, 0], [1, 1]), ([0, 0, 0], [0, 0], [1, 1]), ([0, 0], [0], [1, 1]), ([0, 0], [0, 0], [1]),
+                                       ([3, 0, 0], [0, 0], [1, 1]), ([1, 1], [0, 0], [1, 1, 1]), ([0, 0], [0, 1], [1, 3]), ([0, 2], [0, 2], [1, 1])]:
+            sheet.named(2, 1, levels, indices, marks, border)
+            sheet.number()
+            sheet.successor()
+            for axis in 0, 1, 2, 3:
+                sheet.parents(axis)
+
+
+def bordered_tables(sheet):
+    rates, coefficients = [3, 5, 7, 1, 9], [-4, 6, 2, 2, 18]
+    for flag in 1, 255:
+        sheet.state(1, 1, 0, (), (), rates, flag)
+        sheet.to_coefficients()
+        sheet.show()
+        assert sheet.table == coefficients
+        sheet.to_rates()
+        sheet.show()
+        assert sheet.table == rates
+        sheet.load()
+        sheet.forward(1)
+        sheet.show()
+        sheet.back(1)
+        sheet.unload()
+        sheet.show()
+    # the borders, the points, beside them and between
+    for x in 0, 1, UNIT // 8, UNIT // 4, UNIT // 2, UNIT // 4 * 3, UNIT - 1, UNIT, UNIT + 1:
+        sheet.state(1, 1, 1, [x], (), coefficients, 1)
+        sheet.estimate()
+    # a border value at the end of the limit and past it, odd sums with it, a value past the limit after the turn
+    for table in [[0, 0, 0, LIMIT, -LIMIT], [0, 0, 0, PAST, 0], [0, 0, 0, 1, 0], [0, 0, 0, 1, 1], [0, 0, 0, 2, 1], [0, LIMIT, 0, -2, 2], [0, LIMIT - 1, 0, -2, 2],
+                  [LIMIT, 0, 0, LIMIT, LIMIT], [-LIMIT, 0, 0, LIMIT, LIMIT], [0, 0, 0, MIN, MAX]]:
+        for call, bits in (Sheet.forward, 0), (Sheet.back, 1):
+            sheet.state(1, 1, bits, (), (), table, 1)
+            call(sheet, 1)
+            sheet.show()
+        for call in Sheet.adopt, Sheet.to_rates, Sheet.load:
+            sheet.state(1, 1, 0, (), (), table, 1)
+            call(sheet)
+        sheet.state(1, 1, 1, [UNIT // 3], (), table, 1)
+        sheet.estimate()
+    # refusals with later ones matching too
+    for d, n, border, bits, table, axis, at in [
+            (5, 9, 1, 255, [PAST], 0, [UNIT + 1]), (4, 9, 1, 255, [PAST], 0, []), (1, 1, 1, 2, [PAST], 0, []), (2, 1, 1, 3, [PAST] * 5, 0, []),
+            (2, 1, 0, 3, [PAST] * 21, 0, []), (1, 1, 1, 1, [PAST] * 5, 2, []), (1, 1, 1, 0, [PAST] * 5, 1, [0]), (1, 1, 1, 1, [PAST] * 5, 1, []),
+            (1, 1, 1, 1, [PAST] * 5, 1, [UNIT + 1]), (2, 0, 1, 1, [PAST] * 9, 1, [UNIT + 1]), (2, 0, 1, 3, [PAST] * 9, 1, [UNIT, UNIT + 1])]:
+        sheet.state(d, n, bits, at, (), table, border)
+        for call in Sheet.forward, Sheet.back:
+            call(sheet, axis)
+        sheet.estimate()
+        sheet.unload()
+        sheet.load()
+        sheet.state(d, n, bits, at, (), table, border)
+        sheet.adopt()
+    # every place of a face that holds no rate
+    for p in 0, 4, 5, 7, 8, 16, 17, 20:
+        sheet.state(2, 1, 0, (), (), [MOST] * p + [MOST + 1] + [LEAST - 1] * (20 - p), 1)
+        sheet.load()
+        sheet.to_coefficients()
+
+
+def bordered_random(draw, sheet, d, n):
+    named = numbered(d, n)[0]
+    for _ in range(6):
+        sheet.state(d, n, border=1)
+        sheet.point(draw.below(len(named)))
+        marks, levels, indices = (list(v) for v in named[draw.below(len(named))])
+        t, which = draw.below(d), draw.below(8)
+        if which == 0:
+            marks[t] = draw.below(4)
+        elif which == 1:
+            levels[t] += draw.of(1, 2, 256)
+        elif which == 2:
+            indices[t] += draw.of(1, 2 ** (levels[t] + 1), 2 ** 16)
+        sheet.named(d, n, levels, indices, marks, draw.of(1, 1, 2, 255))
+        sheet.number()
+        sheet.successor()
+        sheet.parents(draw.between(1, d))
+    # from rates and back, with estimates
+    kind = draw.below(3)
+    rates = [(draw.between(-9, 9), draw.between(LEAST, MOST), draw.of(LEAST, MOST))[kind] for _ in named]
+    sheet.state(d, n, 0, (), (), rates, 1)
+    sheet.load()
+    runs(draw, sheet, 3)
+    sheet.show()
+    sheet.run([1] * 4, [1, 2, 3, 4])
+    sheet.unload()
+    assert sheet.table == rates
+    sheet.to_coefficients()
+    sheet.show()
+    sheet.adopt()
+    for k in range(6):
+        at = [coordinate(draw) for _ in range(d)]
+        if k < 3:
+            point = points(d, n, True)[draw.below(len(named))]
+            at = [int(c * UNIT) for c in point]
+            assert estimate(d, n, sheet.table, at, border=True) == rates[points(d, n, True).index(point)] * 2 ** d
+        sheet.state(d, n, sheet.bits, at, border=1)
+        sheet.estimate()
+    for off in 0, draw.of(1, 2 ** d, -1):
+        p = draw.below(len(named))
+        sheet.state(d, n, 0, (), (), sheet.table[:p] + [sheet.table[p] + off] + sheet.table[p + 1:], 1)
+        sheet.to_rates()
+        if sheet.table == rates:
+            sheet.to_coefficients()
+    # anything
+    sheet.state(d, n, 2 ** d - 1, (), (), [draw.of(LIMIT, -LIMIT, draw.between(-LIMIT, LIMIT)) for _ in named], 1)
+    for _ in range(3):
+        sheet.state(d, n, sheet.bits, [coordinate(draw) for _ in range(d)], border=1)
+        sheet.estimate()
+    runs(draw, sheet, 2)
+    sheet.show()
+
+
+def bordered(sheet, draw):
+    bordered_points(sheet)
+    bordered_tables(sheet)
+    for d, n in [(1, 0), (1, 3), (2, 0), (2, 1), (2, 2), (3, 1), (4, 0)]:
+        bordered_random(draw, sheet, d, n)
+
+
 if __name__ == "__main__":
     sheet, draw = Sheet(), Drawn(88172645463325252)
     worked(sheet)
@@ -549,6 +734,8 @@ if __name__ == "__main__":
     random_points(draw, sheet, 8, 8)
     for d, n in [(2, 0), (2, 1), (2, 2), (3, 1), (5, 1), (8, 1)]:
         about_halves(draw, sheet, d, n)
+    if BORDER:
+        bordered(sheet, Drawn(6364136223846793005))
     for name, text in ("stdin", sheet.asked), ("stdout", sheet.printed):
         with open(os.path.join(sys.argv[1], name), "w") as out:
             out.write("".join(text))
