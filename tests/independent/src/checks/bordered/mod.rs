@@ -39,8 +39,7 @@ impl Desk<'_> {
     pub fn answered(&mut self, shape: Shape, call: &Call) -> Answer {
         let want = call.answer(shape);
         self.report.case(call.kind(shape), answer(&want).0);
-        // what is refused for another reason than contents is refused by every reading
-        if shape.flagged() && matches!(want, Ok(_) | Err((10, _))) && shape.count() <= SMALL {
+        if shape.check().is_err() || shape.count() <= SMALL {
             wrong_readings(self.report, shape, call, &want);
         }
         itself::looked_at(self.report, shape, call, &want);
@@ -70,7 +69,7 @@ impl Desk<'_> {
 
 /// The wrong readings that answer otherwise.
 fn wrong_readings(report: &mut Report, shape: Shape, call: &Call, want: &Answer) {
-    for reading in WRONG.iter().filter(|reading| call.concerned(reading)) {
+    for reading in WRONG.iter().filter(|reading| call.concerned(shape, want, reading)) {
         if call.answer_by(shape, reading).is_some_and(|other| other != *want) {
             report.shown(reading.name);
         }
@@ -97,7 +96,9 @@ pub fn all(seed: u64, rounds: u64, with_large: bool, library: bool, report: &mut
     for round in 0..rounds / 4 {
         random::round(&mut desk, round);
     }
-    step("border values: random inputs");
+    let threads: Vec<Report> = random::in_threads(seed, rounds / 80, library);
+    threads.into_iter().for_each(|of_thread| desk.report.merge(of_thread));
+    step("border values: random inputs, and in four threads");
 }
 
 /// What each call can answer on shapes with border values.

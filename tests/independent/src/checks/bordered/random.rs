@@ -2,8 +2,10 @@
 
 use super::inputs;
 use super::Desk;
+use crate::draw::Draw;
 use crate::model::bordered::calls::Call;
 use crate::model::bordered::Shape;
+use crate::report::Report;
 
 /// One round; now and then with a larger table.
 pub fn round(desk: &mut Desk, round: u64) {
@@ -17,6 +19,20 @@ pub fn round(desk: &mut Desk, round: u64) {
     turns(desk, most);
     run(desk, most);
     estimates(desk, most);
+}
+
+/// Rounds in four threads at once, each with tables of its own.
+pub fn in_threads(seed: u64, rounds: u64, library: bool) -> Vec<Report> {
+    let of_thread = |k: u64| {
+        let mut report = Report::default();
+        let mut desk = Desk { draw: Draw::new(seed ^ (k << 32)), report: &mut report, library };
+        (0..rounds).for_each(|round_of_thread| round(&mut desk, round_of_thread));
+        report
+    };
+    std::thread::scope(|scope| {
+        let threads: Vec<_> = (1..=4).map(|k| scope.spawn(move || of_thread(k))).collect();
+        threads.into_iter().map(|thread| thread.join().expect("a thread ends")).collect()
+    })
 }
 
 fn points(desk: &mut Desk, most: u64) {

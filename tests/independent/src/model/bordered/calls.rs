@@ -2,7 +2,7 @@
 
 use super::estimates::Seen;
 use super::grid::grid;
-use super::readings::{Reading, RIGHT};
+use super::readings::{Names, Reading, RIGHT};
 use super::turns::{as_rates, back_of, forward_of, loaded, narrow, rates_of, table_of_set, wide};
 use super::{Eights, Lists, Shape};
 use crate::model::estimates::UNIT;
@@ -80,19 +80,33 @@ impl Call {
         }
     }
 
-    /// Whether a reading that is wrong in one thing can answer otherwise.
-    pub fn concerned(&self, reading: &Reading) -> bool {
-        let order = reading.order != RIGHT.order;
+    /// Whether a reading that is wrong in one thing can answer otherwise than this; of the flag and the number of axes small
+    /// cases.
+    pub fn concerned(&self, shape: Shape, answer: &Answer, reading: &Reading) -> bool {
+        if reading.flag != RIGHT.flag {
+            return reading.of(shape) != RIGHT.of(shape) && self.places() <= 30;
+        }
+        if reading.most_axes != RIGHT.most_axes {
+            return matches!(self, Call::Count) && shape.flagged() && shape.level <= 2;
+        }
+        let named = matches!(self, Call::Number(_) | Call::Successor(_) | Call::Parent { .. });
+        if reading.names != RIGHT.names {
+            return named && matches!(answer, Ok(_) | Err((7 | 9, _)));
+        }
+        // what is refused for another reason than contents is refused by the others too
+        if !shape.flagged() || !matches!(answer, Ok(_) | Err((10, _))) {
+            return false;
+        }
+        let (order, beside) = (reading.order != RIGHT.order, reading.beside != RIGHT.beside);
+        let (weight, unit) = (reading.weight != RIGHT.weight, reading.unit != RIGHT.unit);
         match self {
             Call::Count | Call::Number(_) | Call::Point(_) | Call::Successor(_) => order,
-            Call::Parent { .. } | Call::Turn { .. } | Call::Run { .. } => order || reading.beside != RIGHT.beside,
-            Call::ToCoefficients(_) | Call::ToRates(_) => {
-                order || reading.beside != RIGHT.beside || reading.unit != RIGHT.unit
-            }
-            Call::Load(_) => reading.unit != RIGHT.unit,
+            Call::Parent { .. } | Call::Turn { .. } | Call::Run { .. } => order || beside,
+            Call::ToCoefficients(_) | Call::ToRates(_) => order || beside || unit,
+            Call::Load(_) => unit,
             Call::Adopt(_) | Call::Unload { .. } => false,
-            Call::Estimate { .. } => order || reading.weight != RIGHT.weight,
-            Call::Margin { .. } => order || reading.weight != RIGHT.weight || reading.counted != RIGHT.counted,
+            Call::Estimate { .. } => order || weight,
+            Call::Margin { .. } => order || weight || reading.counted != RIGHT.counted,
         }
     }
 
@@ -115,6 +129,7 @@ impl Call {
         if reading.circles() && matches!(self, Call::Turn { back: true, .. } | Call::ToRates(_) | Call::Run { .. }) {
             return None;
         }
+        let shape = reading.of(shape);
         if let Err(why) = self.refused_before_contents(shape, reading) {
             return Some(Err(why));
         }
@@ -165,7 +180,7 @@ impl Call {
 
     /// Every refusal but 10 of turns, of unload and of coefficients to rates, the first that holds in the papers' order.
     fn refused_before_contents(&self, shape: Shape, reading: &Reading) -> Result<(), Refused> {
-        shape.check()?;
+        reading.check(shape)?;
         if let Call::Turn { bits, .. }
         | Call::Unload { bits, .. }
         | Call::Run { bits, .. }
@@ -237,19 +252,40 @@ fn past_limit(table: &[i64]) -> Result<(), Refused> {
 /// The number of the point that these lists name, of a shape that is not refused: refusals 7 and 9. The coordinates that they
 /// say are looked for among the points.
 fn number_of(shape: Shape, lists: &Lists, reading: &Reading) -> Result<usize, Refused> {
-    let axes = shape.axes as usize;
-    if [&lists.marks, &lists.levels, &lists.indices].iter().any(|list| list.len() != axes) {
+    let (axes, read) = (shape.axes as usize, reading.names);
+    if lists.levels.len() != axes || lists.indices.len() != axes {
         return Err((7, 0));
     }
-    let mut at = [0; 8];
+    let unlooked = !shape.flagged() && matches!(read, Names::NotLookedAt | Names::LengthWithTheFlag);
+    if lists.marks.len() != axes && !unlooked {
+        return Err((if read == Names::LengthIsNine { 9 } else { 7 }, 0));
+    }
+    let (mut at, mut borders) = ([0; 8], 0);
     for t in 0..axes {
-        at[t] = match (lists.marks[t], lists.levels[t], lists.indices[t]) {
+        let mark = match (lists.marks.get(t), read) {
+            (None, _) => 0,
+            (Some(_), Names::NotLookedAt) if !shape.flagged() => 0,
+            (Some(&mark), Names::LargeForUpper) => mark.min(2),
+            (Some(&mark), Names::InEightBits) => mark % 256,
+            (Some(&mark), _) => mark,
+        };
+        at[t] = match (mark, lists.levels[t], lists.indices[t]) {
             (0, level @ 0..=8, index) if index % 2 == 1 && index < 2u32.pow(level + 1) => {
                 (index * (512 / 2u32.pow(level + 1))) as u16
             }
-            (mark @ 1..=2, 0, 1) if shape.flagged() => [0, 512][mark as usize - 1],
+            (1..=2, level, index) if shape.flagged() => {
+                if level != 0 && read != Names::AnyLevel || index != 1 && read != Names::AnyIndex {
+                    return Err((9, 0));
+                }
+                borders += 1;
+                [0, 512][mark as usize - 1]
+            }
             _ => return Err((9, 0)),
         };
+    }
+    let sum = (0..axes).filter(|&t| at[t] != 0 && at[t] != 512).map(|t| lists.levels[t]).sum::<u32>();
+    if read == Names::LevelsLessBorders && borders > 0 && sum + borders > shape.level {
+        return Err((9, 0));
     }
     grid(shape, reading).number.get(&at).copied().ok_or((9, 0))
 }

@@ -12,9 +12,9 @@ use std::sync::Arc;
 pub struct Seen {
     shape: Shape,
     grid: Arc<Grid>,
-    counted: Counted,
+    reading: Reading,
     /// For each axis the weight of every multiple of a step, in 512ths, by the multiple; the points are at such multiples.
-    weights: Vec<Vec<i128>>,
+    weights: Vec<Vec<i64>>,
     step: u16,
 }
 
@@ -23,15 +23,32 @@ impl Seen {
         let step = 512 / 2u16.pow(shape.level + 1);
         let of_axis = |&x: &u32| (0..=512).step_by(step.into()).map(|c| weight(x, c, reading.weight)).collect();
         let weights = coordinates.iter().map(of_axis).collect();
-        Seen { shape, grid: grid(shape, reading), counted: reading.counted, weights, step }
+        Seen { shape, grid: grid(shape, reading), reading: *reading, weights, step }
     }
 
-    fn of(&self, at: &At) -> Vec<i128> {
-        (0..self.shape.axes as usize).map(|t| self.weights[t][usize::from(at[t] / self.step)]).collect()
+    /// The weight of a point on axis t, from 0.
+    fn of(&self, at: &At, t: usize) -> i64 {
+        self.weights[t][usize::from(at[t] / self.step)]
+    }
+
+    fn axes(&self) -> std::ops::Range<usize> {
+        0..self.shape.axes as usize
+    }
+
+    /// The joint weight: for axes 1 to d in turn multiplied and rounded down. All numbers are at most 2^40.
+    fn joint(&self, at: &At) -> i64 {
+        let times = |joint, t| joint * self.of(at, t) / UNIT as i64;
+        let border = |t: &usize| on_border(at[*t]);
+        let (inner, borders) = (self.axes().filter(|t| !border(t)), self.axes().filter(border));
+        match self.reading.weight {
+            Weight::BordersFirst => borders.chain(inner).fold(UNIT as i64, times),
+            Weight::BordersLast => inner.chain(borders).fold(UNIT as i64, times),
+            _ => self.axes().fold(UNIT as i64, times),
+        }
     }
 
     pub fn estimate(&self, table: &[i64]) -> i64 {
-        let joint = |at| self.of(at).into_iter().fold(UNIT, |joint, weight| (joint * weight).div_euclid(UNIT));
+        let joint = |at| i128::from(self.joint(at));
         let sum = self.grid.order.iter().zip(table).map(|(at, &c)| i128::from(c) * joint(at)).sum();
         i64::try_from(nearest(UNIT, sum)).expect("an estimate fits 64 bits")
     }
@@ -39,14 +56,14 @@ impl Seen {
     /// The points that S counts, each with its weights.
     pub fn reached(&self, table: &[i64]) -> Reached {
         let counts = |at: &At| {
-            let axes = &at[..self.shape.axes as usize];
-            let above_zero = |(&c, w): (&u16, i128)| w > 0 || self.counted == Counted::ByInnerAxes && on_border(c);
-            let all_inner = !axes.iter().any(|&c| on_border(c));
-            axes.iter().zip(self.of(at)).all(above_zero) && (all_inner || self.counted != Counted::InnerPoints)
+            let by_weight = |t| !(self.reading.counted == Counted::ByInnerAxes && on_border(at[t]));
+            let all_inner = !self.axes().any(|t| on_border(at[t]));
+            self.axes().all(|t| !by_weight(t) || self.of(at, t) > 0)
+                && (all_inner || self.reading.counted != Counted::InnerPoints)
         };
         let with_weights = |(at, &c): (&At, &i64)| {
             let mut all = [0; 8];
-            self.of(at).into_iter().enumerate().for_each(|(t, w)| all[t] = w as u32);
+            self.axes().for_each(|t| all[t] = self.of(at, t) as u32);
             (c, all)
         };
         let counted = self.grid.order.iter().zip(table).filter(|(at, _)| counts(at));
@@ -56,19 +73,20 @@ impl Seen {
 
 /// Of an inner point unit − |X × 2^(l+1) − i × unit|, or 0 where that is negative; of the lower border unit − X, of the
 /// upper X.
-fn weight(x: u32, coordinate: u16, reading: Weight) -> i128 {
-    let x = i128::from(x);
+fn weight(x: u32, coordinate: u16, reading: Weight) -> i64 {
+    let (x, unit) = (i64::from(x), UNIT as i64);
     if on_border(coordinate) {
         return match reading {
-            Weight::Right if coordinate == LOWER => UNIT - x,
-            Weight::Exchanged if coordinate != LOWER => UNIT - x,
-            Weight::Right | Weight::Exchanged => x,
-            Weight::AsInner => UNIT - (2 * x - UNIT).abs(),
-            Weight::Whole => UNIT,
+            Weight::Exchanged if coordinate == LOWER => x,
+            Weight::Exchanged => unit - x,
+            Weight::Right | Weight::BordersFirst | Weight::BordersLast if coordinate == LOWER => unit - x,
+            Weight::Right | Weight::BordersFirst | Weight::BordersLast => x,
+            Weight::AsInner => unit - (2 * x - unit).abs(),
+            Weight::Whole => unit,
             Weight::Nothing => 0,
         };
     }
     let (l, i) = term(coordinate);
-    let apart = (x * 2i128.pow(l + 1) - i128::from(i) * UNIT).abs();
-    (UNIT - apart).max(0)
+    let apart = (x * 2i64.pow(l + 1) - i64::from(i) * unit).abs();
+    (unit - apart).max(0)
 }

@@ -151,7 +151,8 @@ fn search(shape: Shape, at: At, t: usize, left: u32, found: &mut Vec<At>) {
         found.push(at);
         return;
     }
-    for c in LOWER..=UPPER {
+    // coordinates between these have a larger level
+    for c in (LOWER..=UPPER).step_by(512 >> (left + 1)) {
         let mut longer = at;
         longer[t] = c;
         if on_border(c) {

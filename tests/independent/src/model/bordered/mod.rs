@@ -29,14 +29,7 @@ impl Shape {
 
     /// Refusals 1 and 2.
     pub fn check(self) -> Result<(), Refused> {
-        let most = if self.flagged() { 4 } else { 8 };
-        if self.axes < 1 || self.axes > most {
-            return Err((1, 0));
-        }
-        if self.level > 8 {
-            return Err((2, 0));
-        }
-        Ok(())
+        readings::RIGHT.check(self)
     }
 
     /// N of a shape that is not refused.

@@ -1,5 +1,8 @@
 //! The request as it is to be read, and wrong readings of it, which the same code can follow.
 
+use super::Shape;
+use crate::model::Refused;
+
 /// In what order the points stand.
 #[derive(Clone, Copy, PartialEq, Eq, Hash)]
 pub enum Order {
@@ -53,6 +56,10 @@ pub enum Weight {
     /// The whole unit.
     Whole,
     Nothing,
+    /// The joint weight takes the border axes before the inner ones.
+    BordersFirst,
+    /// The same after them.
+    BordersLast,
 }
 
 /// Which points S counts.
@@ -73,6 +80,34 @@ pub enum Unit {
     InnerAxes,
 }
 
+/// What marks, levels and indices name, and when they are of the wrong length.
+#[derive(Clone, Copy, PartialEq, Eq)]
+pub enum Names {
+    Right,
+    /// A border axis has any level, or any index.
+    AnyLevel,
+    AnyIndex,
+    /// A mark above 2 is taken for the upper border, or in 8 bits.
+    LargeForUpper,
+    InEightBits,
+    /// Without the flag marks are not looked at.
+    NotLookedAt,
+    /// Marks of the wrong length are refused with 9, or not looked at without the flag.
+    LengthIsNine,
+    LengthWithTheFlag,
+    /// With border axes the levels sum to as many less.
+    LevelsLessBorders,
+}
+
+/// Which flags say yes.
+#[derive(Clone, Copy, PartialEq, Eq)]
+pub enum Flag {
+    Right,
+    OneAlone,
+    LowestBit,
+    HighestBitIsNo,
+}
+
 #[derive(Clone, Copy)]
 pub struct Reading {
     pub name: &'static str,
@@ -81,9 +116,36 @@ pub struct Reading {
     pub weight: Weight,
     pub counted: Counted,
     pub unit: Unit,
+    pub names: Names,
+    pub flag: Flag,
+    /// The most axes with the flag.
+    pub most_axes: u32,
 }
 
 impl Reading {
+    /// A shape as it is read: with 1 or 0 for the flag.
+    pub fn of(&self, shape: Shape) -> Shape {
+        let yes = match self.flag {
+            Flag::Right => shape.border != 0,
+            Flag::OneAlone => shape.border == 1,
+            Flag::LowestBit => shape.border % 2 == 1,
+            Flag::HighestBitIsNo => shape.border != 0 && shape.border < 128,
+        };
+        Shape { border: u8::from(yes), ..shape }
+    }
+
+    /// Refusals 1 and 2 of a shape as it is read.
+    pub fn check(&self, shape: Shape) -> Result<(), Refused> {
+        let most = if shape.flagged() { self.most_axes } else { 8 };
+        if shape.axes < 1 || shape.axes > most {
+            return Err((1, 0));
+        }
+        if shape.level > 8 {
+            return Err((2, 0));
+        }
+        Ok(())
+    }
+
     /// Whether a border point has something beside it that has the border point beside it.
     pub fn circles(&self) -> bool {
         matches!(self.beside, Beside::BordersAtBorder | Beside::MiddleAtBorder)
@@ -97,6 +159,9 @@ pub const RIGHT: Reading = Reading {
     weight: Weight::Right,
     counted: Counted::Right,
     unit: Unit::Right,
+    names: Names::Right,
+    flag: Flag::Right,
+    most_axes: 4,
 };
 
 const fn order(name: &'static str, order: Order) -> Reading {
@@ -115,7 +180,11 @@ const fn counted(name: &'static str, counted: Counted) -> Reading {
     Reading { name, counted, ..RIGHT }
 }
 
-pub const WRONG: [Reading; 24] = [
+const fn names(name: &'static str, names: Names) -> Reading {
+    Reading { name, names, ..RIGHT }
+}
+
+pub const WRONG: [Reading; 39] = [
     order("faces by marks compared from the first axis", Order::MarksFromFirst),
     order("upper border before lower", Order::UpperFirst),
     order("faces by marks alone", Order::MarksAlone),
@@ -137,7 +206,22 @@ pub const WRONG: [Reading; 24] = [
     weight("border points weighed as inner points of level 0", Weight::AsInner),
     weight("border points of the whole weight on their axis", Weight::Whole),
     weight("border points of no weight", Weight::Nothing),
+    weight("joint weights over the border axes first", Weight::BordersFirst),
+    weight("joint weights over the inner axes first", Weight::BordersLast),
     counted("S over inner points alone", Counted::InnerPoints),
     counted("S over points with a weight above zero on each inner axis", Counted::ByInnerAxes),
     Reading { name: "rates of a face times 2 to its inner axes", unit: Unit::InnerAxes, ..RIGHT },
+    names("a border axis of any level", Names::AnyLevel),
+    names("a border axis of any index", Names::AnyIndex),
+    names("marks above 2 for the upper border", Names::LargeForUpper),
+    names("marks in 8 bits", Names::InEightBits),
+    names("marks not looked at without the flag", Names::NotLookedAt),
+    names("marks of the wrong length refused with 9", Names::LengthIsNine),
+    names("the length of marks not looked at without the flag", Names::LengthWithTheFlag),
+    names("levels of a face summing to one less for each border axis", Names::LevelsLessBorders),
+    Reading { name: "no flag but 1", flag: Flag::OneAlone, ..RIGHT },
+    Reading { name: "flags by their lowest bit", flag: Flag::LowestBit, ..RIGHT },
+    Reading { name: "flags above 127 for no", flag: Flag::HighestBitIsNo, ..RIGHT },
+    Reading { name: "five axes with the flag", most_axes: 5, ..RIGHT },
+    Reading { name: "three axes at most with the flag", most_axes: 3, ..RIGHT },
 ];
