@@ -1,9 +1,9 @@
 //! The boundary as the checks call it, in one place.
 //!
-//! Without the feature `border` the library's functions take no flag and no marks: they are as the wrapper declares them.
-//! With it they are declared here, as change request g has them: `uint8_t border` right after `level`, a point in as three
-//! lists and out as three arrays of eight, but for house files and component grids. What [`bordered`] calls is the whole of
-//! that; the functions beside it are the same without border values, for the checks of such tables.
+//! Without the feature `border` the library's functions take no flag and no marks. With it they are as change request g has
+//! them, and so the wrapper declares them: the flag right after the level, a point in as three lists and out as three arrays
+//! of eight, but for house files and component grids. [`bordered`] calls these for shapes of either sort; the functions
+//! beside it are the same without border values, for the checks of such tables.
 
 #[cfg(not(feature = "border"))]
 pub use numolefays::boundary::*;
@@ -166,240 +166,32 @@ mod without_border {
     }
 }
 
-/// Each function passes its arguments on and nothing else. The `unsafe` is sound as in the wrapper's `boundary`: slices and
-/// `&mut` references are what the library asks of its pointers.
+/// The calls with a shape and a point as the separate code has them. Each function passes its arguments on and nothing else.
 #[cfg(feature = "border")]
 #[allow(clippy::too_many_arguments)]
 pub mod bordered {
     use crate::model::bordered::{Eights, Lists, Shape};
-
-    mod raw {
-        type Out = *mut [u32; 8];
-
-        extern "C" {
-            pub fn numolefays_count(axes: u32, level: u32, border: u8, points: *mut u64, place: *mut u64) -> u32;
-            pub fn numolefays_number_of_point(
-                axes: u32,
-                level: u32,
-                border: u8,
-                marks: *const u32,
-                marks_length: usize,
-                levels: *const u32,
-                levels_length: usize,
-                indices: *const u32,
-                indices_length: usize,
-                number: *mut u64,
-                place: *mut u64,
-            ) -> u32;
-            pub fn numolefays_point_of_number(
-                axes: u32,
-                level: u32,
-                border: u8,
-                number: u64,
-                marks: Out,
-                levels: Out,
-                indices: Out,
-                place: *mut u64,
-            ) -> u32;
-            pub fn numolefays_successor(
-                axes: u32,
-                level: u32,
-                border: u8,
-                marks: *const u32,
-                marks_length: usize,
-                levels: *const u32,
-                levels_length: usize,
-                indices: *const u32,
-                indices_length: usize,
-                next_marks: Out,
-                next_levels: Out,
-                next_indices: Out,
-                end: *mut u32,
-                place: *mut u64,
-            ) -> u32;
-            pub fn numolefays_parent(
-                axes: u32,
-                level: u32,
-                border: u8,
-                marks: *const u32,
-                marks_length: usize,
-                levels: *const u32,
-                levels_length: usize,
-                indices: *const u32,
-                indices_length: usize,
-                axis: u32,
-                side: u32,
-                parent_marks: Out,
-                parent_levels: Out,
-                parent_indices: Out,
-                is_border: *mut u32,
-                place: *mut u64,
-            ) -> u32;
-            pub fn numolefays_load(
-                axes: u32,
-                level: u32,
-                border: u8,
-                table: *mut i64,
-                table_length: usize,
-                forward: *mut u8,
-                place: *mut u64,
-            ) -> u32;
-            pub fn numolefays_adopt(
-                axes: u32,
-                level: u32,
-                border: u8,
-                table: *const i64,
-                table_length: usize,
-                forward: *mut u8,
-                place: *mut u64,
-            ) -> u32;
-            pub fn numolefays_forward(
-                axes: u32,
-                level: u32,
-                border: u8,
-                forward: *mut u8,
-                table: *mut i64,
-                table_length: usize,
-                axis: u32,
-                place: *mut u64,
-            ) -> u32;
-            pub fn numolefays_back(
-                axes: u32,
-                level: u32,
-                border: u8,
-                forward: *mut u8,
-                table: *mut i64,
-                table_length: usize,
-                axis: u32,
-                place: *mut u64,
-            ) -> u32;
-            pub fn numolefays_unload(
-                axes: u32,
-                level: u32,
-                border: u8,
-                forward: u8,
-                table: *mut i64,
-                table_length: usize,
-                place: *mut u64,
-            ) -> u32;
-            pub fn numolefays_rates_to_coefficients(
-                axes: u32,
-                level: u32,
-                border: u8,
-                table: *mut i64,
-                table_length: usize,
-                place: *mut u64,
-            ) -> u32;
-            pub fn numolefays_coefficients_to_rates(
-                axes: u32,
-                level: u32,
-                border: u8,
-                table: *mut i64,
-                table_length: usize,
-                place: *mut u64,
-            ) -> u32;
-            pub fn numolefays_run(
-                axes: u32,
-                level: u32,
-                border: u8,
-                forward: *mut u8,
-                table: *mut i64,
-                table_length: usize,
-                directions: *const u8,
-                directions_length: usize,
-                turned: *const u32,
-                turned_length: usize,
-                numbers: *mut u32,
-                numbers_length: usize,
-                places: *mut u64,
-                places_length: usize,
-                place: *mut u64,
-            ) -> u32;
-            pub fn numolefays_estimate(
-                axes: u32,
-                level: u32,
-                border: u8,
-                forward: u8,
-                table: *const i64,
-                table_length: usize,
-                coordinates: *const u32,
-                coordinates_length: usize,
-                estimate: *mut i64,
-                place: *mut u64,
-            ) -> u32;
-            pub fn numolefays_estimate_with_margin(
-                axes: u32,
-                level: u32,
-                border: u8,
-                forward: u8,
-                table: *const i64,
-                table_length: usize,
-                coordinates: *const u32,
-                coordinates_length: usize,
-                estimate: *mut i64,
-                absolute_sum: *mut u64,
-                margin: *mut u64,
-                place: *mut u64,
-            ) -> u32;
-        }
-    }
+    use numolefays::boundary;
 
     pub fn count(shape: Shape, points: &mut u64, place: &mut u64) -> u32 {
-        unsafe { raw::numolefays_count(shape.axes, shape.level, shape.border, points, place) }
+        boundary::count(shape.axes, shape.level, shape.border, points, place)
     }
 
     pub fn number_of_point(shape: Shape, of: &Lists, number: &mut u64, place: &mut u64) -> u32 {
-        unsafe {
-            raw::numolefays_number_of_point(
-                shape.axes,
-                shape.level,
-                shape.border,
-                of.marks.as_ptr(),
-                of.marks.len(),
-                of.levels.as_ptr(),
-                of.levels.len(),
-                of.indices.as_ptr(),
-                of.indices.len(),
-                number,
-                place,
-            )
-        }
+        let Shape { axes, level, border } = shape;
+        boundary::number_of_point(axes, level, border, &of.marks, &of.levels, &of.indices, number, place)
     }
 
     pub fn point_of_number(shape: Shape, number: u64, out: &mut Eights, place: &mut u64) -> u32 {
-        unsafe {
-            raw::numolefays_point_of_number(
-                shape.axes,
-                shape.level,
-                shape.border,
-                number,
-                &mut out.marks,
-                &mut out.levels,
-                &mut out.indices,
-                place,
-            )
-        }
+        let Shape { axes, level, border } = shape;
+        let Eights { marks, levels, indices } = out;
+        boundary::point_of_number(axes, level, border, number, marks, levels, indices, place)
     }
 
     pub fn successor(shape: Shape, of: &Lists, out: &mut Eights, end: &mut u32, place: &mut u64) -> u32 {
-        unsafe {
-            raw::numolefays_successor(
-                shape.axes,
-                shape.level,
-                shape.border,
-                of.marks.as_ptr(),
-                of.marks.len(),
-                of.levels.as_ptr(),
-                of.levels.len(),
-                of.indices.as_ptr(),
-                of.indices.len(),
-                &mut out.marks,
-                &mut out.levels,
-                &mut out.indices,
-                end,
-                place,
-            )
-        }
+        let Shape { axes, level, border } = shape;
+        let Eights { marks, levels, indices } = out;
+        boundary::successor(axes, level, border, &of.marks, &of.levels, &of.indices, marks, levels, indices, end, place)
     }
 
     pub fn parent(
@@ -408,64 +200,54 @@ pub mod bordered {
         axis: u32,
         side: u32,
         out: &mut Eights,
-        is_border: &mut u32,
+        none: &mut u32,
         place: &mut u64,
     ) -> u32 {
-        unsafe {
-            raw::numolefays_parent(
-                shape.axes,
-                shape.level,
-                shape.border,
-                of.marks.as_ptr(),
-                of.marks.len(),
-                of.levels.as_ptr(),
-                of.levels.len(),
-                of.indices.as_ptr(),
-                of.indices.len(),
-                axis,
-                side,
-                &mut out.marks,
-                &mut out.levels,
-                &mut out.indices,
-                is_border,
-                place,
-            )
-        }
+        let Shape { axes, level, border } = shape;
+        let Eights { marks, levels, indices } = out;
+        boundary::parent(
+            axes,
+            level,
+            border,
+            &of.marks,
+            &of.levels,
+            &of.indices,
+            axis,
+            side,
+            marks,
+            levels,
+            indices,
+            none,
+            place,
+        )
     }
 
     pub fn load(shape: Shape, table: &mut [i64], forward: &mut u8, place: &mut u64) -> u32 {
-        let Shape { axes, level, border } = shape;
-        unsafe { raw::numolefays_load(axes, level, border, table.as_mut_ptr(), table.len(), forward, place) }
+        boundary::load(shape.axes, shape.level, shape.border, table, forward, place)
     }
 
     pub fn adopt(shape: Shape, table: &[i64], forward: &mut u8, place: &mut u64) -> u32 {
-        let Shape { axes, level, border } = shape;
-        unsafe { raw::numolefays_adopt(axes, level, border, table.as_ptr(), table.len(), forward, place) }
+        boundary::adopt(shape.axes, shape.level, shape.border, table, forward, place)
     }
 
     pub fn forward(shape: Shape, forward: &mut u8, table: &mut [i64], axis: u32, place: &mut u64) -> u32 {
-        let Shape { axes, level, border } = shape;
-        unsafe { raw::numolefays_forward(axes, level, border, forward, table.as_mut_ptr(), table.len(), axis, place) }
+        boundary::forward(shape.axes, shape.level, shape.border, forward, table, axis, place)
     }
 
     pub fn back(shape: Shape, forward: &mut u8, table: &mut [i64], axis: u32, place: &mut u64) -> u32 {
-        let Shape { axes, level, border } = shape;
-        unsafe { raw::numolefays_back(axes, level, border, forward, table.as_mut_ptr(), table.len(), axis, place) }
+        boundary::back(shape.axes, shape.level, shape.border, forward, table, axis, place)
     }
 
     pub fn unload(shape: Shape, forward: u8, table: &mut [i64], place: &mut u64) -> u32 {
-        let Shape { axes, level, border } = shape;
-        unsafe { raw::numolefays_unload(axes, level, border, forward, table.as_mut_ptr(), table.len(), place) }
+        boundary::unload(shape.axes, shape.level, shape.border, forward, table, place)
     }
 
     pub fn rates_to_coefficients(shape: Shape, table: &mut [i64], place: &mut u64) -> u32 {
-        let Shape { axes, level, border } = shape;
-        unsafe { raw::numolefays_rates_to_coefficients(axes, level, border, table.as_mut_ptr(), table.len(), place) }
+        boundary::rates_to_coefficients(shape.axes, shape.level, shape.border, table, place)
     }
 
     pub fn coefficients_to_rates(shape: Shape, table: &mut [i64], place: &mut u64) -> u32 {
-        let Shape { axes, level, border } = shape;
-        unsafe { raw::numolefays_coefficients_to_rates(axes, level, border, table.as_mut_ptr(), table.len(), place) }
+        boundary::coefficients_to_rates(shape.axes, shape.level, shape.border, table, place)
     }
 
     pub fn run(
@@ -478,25 +260,8 @@ pub mod bordered {
         places: &mut [u64],
         place: &mut u64,
     ) -> u32 {
-        unsafe {
-            raw::numolefays_run(
-                shape.axes,
-                shape.level,
-                shape.border,
-                forward,
-                table.as_mut_ptr(),
-                table.len(),
-                directions.as_ptr(),
-                directions.len(),
-                turned.as_ptr(),
-                turned.len(),
-                numbers.as_mut_ptr(),
-                numbers.len(),
-                places.as_mut_ptr(),
-                places.len(),
-                place,
-            )
-        }
+        let Shape { axes, level, border } = shape;
+        boundary::run(axes, level, border, forward, table, directions, turned, numbers, places, place)
     }
 
     pub fn estimate(
@@ -507,20 +272,7 @@ pub mod bordered {
         estimate: &mut i64,
         place: &mut u64,
     ) -> u32 {
-        unsafe {
-            raw::numolefays_estimate(
-                shape.axes,
-                shape.level,
-                shape.border,
-                forward,
-                table.as_ptr(),
-                table.len(),
-                coordinates.as_ptr(),
-                coordinates.len(),
-                estimate,
-                place,
-            )
-        }
+        boundary::estimate(shape.axes, shape.level, shape.border, forward, table, coordinates, estimate, place)
     }
 
     pub fn estimate_with_margin(
@@ -533,21 +285,17 @@ pub mod bordered {
         margin: &mut u64,
         place: &mut u64,
     ) -> u32 {
-        unsafe {
-            raw::numolefays_estimate_with_margin(
-                shape.axes,
-                shape.level,
-                shape.border,
-                forward,
-                table.as_ptr(),
-                table.len(),
-                coordinates.as_ptr(),
-                coordinates.len(),
-                estimate,
-                absolute_sum,
-                margin,
-                place,
-            )
-        }
+        boundary::estimate_with_margin(
+            shape.axes,
+            shape.level,
+            shape.border,
+            forward,
+            table,
+            coordinates,
+            estimate,
+            absolute_sum,
+            margin,
+            place,
+        )
     }
 }

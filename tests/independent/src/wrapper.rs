@@ -1,15 +1,32 @@
-//! The calls of the safe wrapper that take or answer a point of a table without border values, in one place.
+//! The calls of the safe wrapper that take or answer a point of a table without border values, in one place; with the feature
+//! `border` its points have marks.
 
 use crate::model::points::Lists;
 use numolefays::{Point, Refusal, Shape, Side};
 
 fn lists(axes: u32, point: Point) -> Lists {
     assert_eq!(point.axes, axes, "the wrapper's point has the axes of its shape");
+    #[cfg(feature = "border")]
+    assert_eq!(point.all_marks, [0; 8], "a point of a table without border values");
     (point.all_levels, point.all_indices)
 }
 
+#[cfg(not(feature = "border"))]
+macro_rules! on_shape {
+    ($axes:expr, $level:expr, $call:ident, $levels:expr, $indices:expr $(, $more:expr)*) => {
+        Shape::new($axes, $level).$call($levels, $indices $(, $more)*)
+    };
+}
+
+#[cfg(feature = "border")]
+macro_rules! on_shape {
+    ($axes:expr, $level:expr, $call:ident, $levels:expr, $indices:expr $(, $more:expr)*) => {
+        Shape::new($axes, $level).$call(&vec![0; $levels.len()], $levels, $indices $(, $more)*)
+    };
+}
+
 pub fn number_of(axes: u32, level: u32, levels: &[u32], indices: &[u32]) -> Result<u64, Refusal> {
-    Shape::new(axes, level).number_of(levels, indices)
+    on_shape!(axes, level, number_of, levels, indices)
 }
 
 pub fn point(axes: u32, level: u32, number: u64) -> Result<Lists, Refusal> {
@@ -17,7 +34,8 @@ pub fn point(axes: u32, level: u32, number: u64) -> Result<Lists, Refusal> {
 }
 
 pub fn successor(axes: u32, level: u32, levels: &[u32], indices: &[u32]) -> Result<Option<Lists>, Refusal> {
-    Shape::new(axes, level).successor(levels, indices).map(|next| next.map(|point| lists(axes, point)))
+    let next = on_shape!(axes, level, successor, levels, indices);
+    next.map(|next| next.map(|point| lists(axes, point)))
 }
 
 pub fn parent(
@@ -29,5 +47,6 @@ pub fn parent(
     right: bool,
 ) -> Result<Option<Lists>, Refusal> {
     let side = if right { Side::Right } else { Side::Left };
-    Shape::new(axes, level).parent(levels, indices, axis, side).map(|parent| parent.map(|point| lists(axes, point)))
+    let parent = on_shape!(axes, level, parent, levels, indices, axis, side);
+    parent.map(|parent| parent.map(|point| lists(axes, point)))
 }

@@ -154,8 +154,7 @@ fn surface_at_points(shape: Shape, table: &[i64]) -> Option<Vec<i64>> {
     grid.order.iter().map(value).collect()
 }
 
-/// The points that were found against a sum over faces; the axes of a turn in another order; each value of a set of axes by
-/// the run that demand 3 tells.
+/// The points that were found against a sum over faces, and the axes of whole turns in the other order.
 pub fn itself(desk: &mut Desk) {
     for axes in 1..=4 {
         for level in 0..=8 {

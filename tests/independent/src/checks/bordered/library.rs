@@ -1,13 +1,15 @@
 //! One call through the boundary: answer, place, every output, every buffer, what lies beside each, and what it may only
 //! read.
 
-use super::{answer, said};
+use super::said;
 use crate::boundary::bordered as boundary;
+use crate::checks::{answer, refusal};
 use crate::draw::Draw;
 use crate::lent::{self, Lent};
 use crate::model::bordered::calls::{Answer, Call, Written};
 use crate::model::bordered::{Eights, Shape};
 use crate::report::Report;
+use numolefays::{Point, Refusal, Side, State, Turn};
 
 /// What the caller holds: outputs with anything in them, and buffers.
 struct Held {
@@ -33,6 +35,7 @@ pub fn compare(draw: &mut Draw, report: &mut Report, shape: Shape, call: &Call, 
     let kind = call.kind(shape);
     let say = || said(shape, call);
     let junk = Held::new(draw, call);
+    let junk_table = junk.table.clone();
     let handed = call.clone();
     let got = made(draw, shape, &handed, &junk);
     report.same(kind, "answer and place", &answer(want), &(got.answer, got.place), &say);
@@ -47,6 +50,82 @@ pub fn compare(draw: &mut Draw, report: &mut Report, shape: Shape, call: &Call, 
     report.same(kind, "answers of the run", &answers.unwrap_or(junk.answers), &got.answers, &say);
     report.same(kind, "outside the buffers", &true, &got.guarded, &say);
     report.same(kind, "what is only read", call, &handed, &say);
+
+    if let Some((got, left)) = by_wrapper(shape, call) {
+        report.same(kind, "wrapper", &want.clone().map_err(refusal), &got, &say);
+        if want.is_err() {
+            report.same(kind, "wrapper's table", &junk_table, &left, &say);
+        }
+    }
+}
+
+/// The same call through the safe wrapper, and the table that it leaves; none of lists of different lengths, which the
+/// wrapper cannot hand in.
+fn by_wrapper(shape: Shape, call: &Call) -> Option<(Result<Written, Refusal>, Vec<i64>)> {
+    let of = numolefays::Shape { axes: shape.axes, level: shape.level, border: shape.flagged() };
+    let one = |n: i64| Written { numbers: vec![n], ..Written::default() };
+    let eights = |p: Point| Eights { marks: p.all_marks, levels: p.all_levels, indices: p.all_indices };
+    let or_none = |found: Option<Point>| Written {
+        numbers: vec![i64::from(found.is_none())],
+        point: found.map(eights),
+        ..Written::default()
+    };
+    let mut table = match call {
+        Call::Load(t) | Call::ToCoefficients(t) | Call::ToRates(t) => t.clone(),
+        Call::Turn { table, .. } | Call::Unload { table, .. } | Call::Run { table, .. } => table.clone(),
+        _ => vec![],
+    };
+    let t = &mut table;
+    let written = match call {
+        Call::Count => of.points().map(|n| one(n as i64)),
+        Call::Number(at) => of.number_of(&at.marks, &at.levels, &at.indices).map(|n| one(n as i64)),
+        Call::Point(n) => of.point(*n).map(|p| Written { point: Some(eights(p)), ..Written::default() }),
+        Call::Successor(at) => of.successor(&at.marks, &at.levels, &at.indices).map(or_none),
+        Call::Parent { of: at, axis, side } => {
+            let side = if *side == 0 { Side::Left } else { Side::Right };
+            of.parent(&at.marks, &at.levels, &at.indices, *axis, side).map(or_none)
+        }
+        Call::Load(_) => of.load(t).map(|state| with_bits(state, t)),
+        Call::Adopt(table) => of.adopt(table).map(|state| Written { table: None, ..with_bits(state, &[]) }),
+        Call::Turn { back, bits, axis, .. } => {
+            let mut state = State::saved(of, *bits);
+            let done = if *back { state.back(t, *axis) } else { state.forward(t, *axis) };
+            done.map(|()| with_bits(state, t))
+        }
+        Call::Unload { bits, .. } => State::saved(of, *bits).unload(t).map(|()| left(t)),
+        Call::ToCoefficients(_) => of.rates_to_coefficients(t).map(|()| left(t)),
+        Call::ToRates(_) => of.coefficients_to_rates(t).map(|()| left(t)),
+        Call::Run { bits, directions, axes, numbers, places, .. } => {
+            let count = directions.len();
+            if [axes.len(), numbers.len(), places.len()] != [count; 3] {
+                return None;
+            }
+            let turn = |(&d, &axis): (&u8, &u32)| if d == 0 { Turn::Forward(axis) } else { Turn::Back(axis) };
+            let turns: Vec<Turn> = directions.iter().zip(axes).map(turn).collect();
+            let mut state = State::saved(of, *bits);
+            state.run(t, &turns).map(|answers| {
+                let answer = |a: Result<(), Refusal>| a.map_or_else(|why| (why.number(), why.place()), |()| (0, 0));
+                let answers = answers.into_iter().map(answer).unzip();
+                Written { answers: Some(answers), ..with_bits(state, t) }
+            })
+        }
+        Call::Estimate { bits, table, coordinates } => State::saved(of, *bits).estimate(table, coordinates).map(one),
+        Call::Margin { bits, table, coordinates } => {
+            State::saved(of, *bits).estimate_with_margin(table, coordinates).map(|found| Written {
+                numbers: vec![found.estimate, found.absolute_sum as i64, found.margin as i64],
+                ..Written::default()
+            })
+        }
+    };
+    Some((written, table))
+}
+
+fn left(table: &[i64]) -> Written {
+    Written { table: Some(table.to_vec()), ..Written::default() }
+}
+
+fn with_bits(state: State, table: &[i64]) -> Written {
+    Written { bits: Some(state.bits), ..left(table) }
 }
 
 impl Held {
