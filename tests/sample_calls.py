@@ -2,8 +2,9 @@
 """The calls that crates/sample_calls is handed (its stdin) and what it has to print (its stdout), made without its code by the rules of documents 01 and 02
 and request e (grid.py): the worked values, the edges of the types, then pseudo-random calls. `sample_calls.py FOLDER` writes both files.
 
-With BORDER, as the program reads the flag and marks of request g, and with calls on tables with border values: the flag stands after the level where a state
-is read and printed, the marks before the levels, in a list m and its length."""
+With BORDER, for a program that knows the flag and marks of request g, and with calls on tables with border values. The flag stands after the level: a state is
+read as s and d, n, the flag, the set and the lengths of four lists, and printed as the set, d, n and the flag. Marks stand before levels: they are the first
+of the four lists, m, and a point is printed as eight marks, eight levels and eight indices."""
 import os
 import sys
 from bisect import bisect_right
