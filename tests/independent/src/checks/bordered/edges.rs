@@ -35,10 +35,7 @@ fn counts(desk: &mut Desk) {
             for &level in &many {
                 let shape = Shape::new(axes, level, border);
                 desk.call(shape, &Call::Count);
-                let no_table = shape.check().is_err() || shape.count() > 0;
-                if no_table && (axes > 4 || level > 8) {
-                    desk.call(shape, &Call::Load(vec![]));
-                }
+                desk.call(shape, &Call::Load(vec![]));
             }
         }
     }
@@ -46,14 +43,14 @@ fn counts(desk: &mut Desk) {
 
 /// All lists of small numbers on one and on two axes, with and without the flag; on four, one axis after the other.
 fn names(desk: &mut Desk) {
-    let mut ask = |shape: Shape, marks: &[u32], levels: &[u32], indices: &[u32], axis: u32| {
+    // the successor of some, and the parent on one axis and side after the other
+    let mut ask = |shape: Shape, marks: &[u32], levels: &[u32], indices: &[u32], k: u32| {
         let of = Lists { marks: marks.to_vec(), levels: levels.to_vec(), indices: indices.to_vec() };
         desk.call(shape, &Call::Number(of.clone()));
-        if axis % 3 == 0 {
+        if k % 3 == 0 {
             desk.call(shape, &Call::Successor(of.clone()));
         }
-        let side = axis / 5 % 2;
-        desk.call(shape, &Call::Parent { of, axis: axis % (shape.axes + 2), side });
+        desk.call(shape, &Call::Parent { of, axis: k % (shape.axes + 2), side: k / 5 % 2 });
     };
     let mut k = 0;
     for border in [0, 1, 255] {
