@@ -8,7 +8,7 @@
 #include <stdio.h>
 #include <stdlib.h>
 
-enum { AXES = 2, TOP = 4, POINTS = 129, STEPS = 64 };
+enum { AXES = 2, TOP = 4, ZERO_BORDER = 0, POINTS = 129, STEPS = 64 };
 
 /* Every call here is meant to succeed. */
 static void must(uint32_t number)
@@ -25,7 +25,7 @@ static void counts(void)
     for (uint32_t d = 1; d <= 8; d++)
         for (uint32_t n = 0; n <= 8; n++) {
             uint64_t points, place;
-            must(numolefays_count(d, n, &points, &place));
+            must(numolefays_count(d, n, ZERO_BORDER, &points, &place));
             printf("count %u %u %" PRIu64 "\n", (unsigned)d, (unsigned)n, points);
         }
 }
@@ -40,10 +40,10 @@ static uint32_t part(uint32_t top, uint32_t level, uint32_t index)
 static void grid(void)
 {
     uint64_t points, place;
-    must(numolefays_count(2, 3, &points, &place));
+    must(numolefays_count(2, 3, ZERO_BORDER, &points, &place));
     for (uint64_t p = 0; p < points; p++) {
-        uint32_t l[8], i[8];
-        must(numolefays_point_of_number(2, 3, p, l, i, &place));
+        uint32_t m[8], l[8], i[8];
+        must(numolefays_point_of_number(2, 3, ZERO_BORDER, p, m, l, i, &place));
         printf("point %" PRIu64 " %u %u\n", p, (unsigned)part(3, l[0], i[0]), (unsigned)part(3, l[1], i[1]));
     }
 }
@@ -66,27 +66,27 @@ static void cut(void)
     uint8_t forward;
 
     for (uint64_t p = 0; p < POINTS; p++) {
-        uint32_t l[8], i[8];
-        must(numolefays_point_of_number(AXES, TOP, p, l, i, &place));
+        uint32_t m[8], l[8], i[8];
+        must(numolefays_point_of_number(AXES, TOP, ZERO_BORDER, p, m, l, i, &place));
         full[p] = half[p] = rate(part(TOP, l[0], i[0]), part(TOP, l[1], i[1]));
         if (part(TOP, l[1], i[1]) == 8)
             printf("sample %u %" PRId64 "\n", (unsigned)part(TOP, l[0], i[0]), full[p]);
     }
-    must(numolefays_rates_to_coefficients(AXES, TOP, full, POINTS, &place));
-    must(numolefays_load(AXES, TOP, half, POINTS, &forward, &place));
-    must(numolefays_forward(AXES, TOP, &forward, half, POINTS, 1, &place));
+    must(numolefays_rates_to_coefficients(AXES, TOP, ZERO_BORDER, full, POINTS, &place));
+    must(numolefays_load(AXES, TOP, ZERO_BORDER, half, POINTS, &forward, &place));
+    must(numolefays_forward(AXES, TOP, ZERO_BORDER, &forward, half, POINTS, 1, &place));
     /* here an estimate is refused with 17, place 2 */
     const uint32_t middle[AXES] = {NUMOLEFAYS_UNIT / 2, NUMOLEFAYS_UNIT / 2};
-    uint32_t number = numolefays_estimate(AXES, TOP, forward, half, POINTS, middle, AXES, &estimate, &place);
+    uint32_t number = numolefays_estimate(AXES, TOP, ZERO_BORDER, forward, half, POINTS, middle, AXES, &estimate, &place);
     printf("half %u %" PRIu64 "\n", (unsigned)number, place);
 
     for (uint32_t k = 0; k <= STEPS; k++) {
         const uint32_t at[AXES] = {k * (NUMOLEFAYS_UNIT / STEPS), NUMOLEFAYS_UNIT / 4};
         int64_t right, wrong;
-        must(numolefays_adopt(AXES, TOP, full, POINTS, &forward, &place));
-        must(numolefays_estimate(AXES, TOP, forward, full, POINTS, at, AXES, &right, &place));
-        must(numolefays_adopt(AXES, TOP, half, POINTS, &forward, &place));
-        must(numolefays_estimate(AXES, TOP, forward, half, POINTS, at, AXES, &wrong, &place));
+        must(numolefays_adopt(AXES, TOP, ZERO_BORDER, full, POINTS, &forward, &place));
+        must(numolefays_estimate(AXES, TOP, ZERO_BORDER, forward, full, POINTS, at, AXES, &right, &place));
+        must(numolefays_adopt(AXES, TOP, ZERO_BORDER, half, POINTS, &forward, &place));
+        must(numolefays_estimate(AXES, TOP, ZERO_BORDER, forward, half, POINTS, at, AXES, &wrong, &place));
         printf("cut %u %" PRId64 " %" PRId64 "\n", (unsigned)k, right, wrong);
     }
 }
