@@ -12,6 +12,10 @@ use Rattle.shapes.specs.declared.Shape.{Shape}
 abbrev pub sparse : ℕ → ℕ → Shape
 sparse d n = record { axes = d; level = n; border = false }
 
+-- The same with values on the border (document 02, g): a sparse table on each face.
+abbrev pub with_border : ℕ → ℕ → Shape
+with_border d n = record { axes = d; level = n; border = true }
+
 -- The most axes of a shape: 8 with a zero border, 4 with values on the border (document 02, g).
 abbrev pub most_axes : Bool → ℕ
 most_axes true = 4

@@ -1,9 +1,9 @@
--- The starred lines of document 01, "Worked tables", with the cases of document 02, b), at the coordinates of e): a sort of example for each sort of line,
--- what it says, and the list of them.
+-- The starred lines of document 01, "Worked tables", with the cases of document 02, b), at the coordinates of e), and of g): a sort of example for each sort of
+-- line, what it says, and the list of them.
 -- Assumes nothing.
 use Rattle.std.specs.Prelude.{◌≡◌, List, [], ◌∷◌, map, ℕ, ℤ, pos, negsuc, replicate, Ok}
 use Rattle.shapes.specs.declared.Shape.{Shape}
-use Rattle.shapes.specs.Shapes.{sparse, counted}
+use Rattle.shapes.specs.Shapes.{sparse, with_border, counted}
 use Rattle.numbers.specs.Numbers.{number_of_point}
 use Rattle.states.specs.After.{left}
 use Rattle.tables.specs.Tables.{adopted, adopt}
@@ -13,8 +13,8 @@ use Rattle.estimates.specs.Estimates.{estimate as estimate_of}
 pub data Example : Type 0 where
   -- a shape has this many points
   count : Shape → ℕ → Example
-  -- in a shape, the point of these levels and indices has this number
-  number : Shape → List ℕ → List ℕ → ℕ → Example
+  -- in a shape, the point of these marks, levels and indices has this number
+  number : Shape → List ℕ → List ℕ → List ℕ → ℕ → Example
   -- rates of a shape have these coefficients
   coefficients : Shape → List ℤ → List ℤ → Example
   -- coefficients of a shape, adopted, have this estimate at these coordinates
@@ -23,7 +23,7 @@ pub data Example : Type 0 where
 -- What an example says: the call's definition gives the value.
 abbrev pub Holds : Example → Type 0
 Holds (count s n) = counted s ≡ Ok n
-Holds (number s ls is k) = number_of_point s ls is ≡ Ok k
+Holds (number s ms ls is k) = number_of_point s ms ls is ≡ Ok k
 Holds (coefficients s rates xs) = rates_to_coefficients s rates ≡ left (Ok tt) xs
 Holds (estimate s xs x v) = (adopt s xs ≡ Ok (adopted s)) × (estimate_of (adopted s) xs x ≡ Ok v)
 
@@ -37,7 +37,7 @@ examples =
     count (sparse 1 0) 1
     ∷ count (sparse 2 2) 17
     ∷ count (sparse 3 2) 31
-    ∷ number (sparse 2 3) (1 ∷ 2 ∷ []) (3 ∷ 1 ∷ []) 34
+    ∷ number (sparse 2 3) (0 ∷ 0 ∷ []) (1 ∷ 2 ∷ []) (3 ∷ 1 ∷ []) 34
     ∷ coefficients (sparse 1 1) (pos 3 ∷ pos 5 ∷ pos 7 ∷ []) (pos 6 ∷ pos 7 ∷ pos 11 ∷ [])
     ∷ coefficients (sparse 1 0) (negsuc 0 ∷ []) (negsuc 1 ∷ [])
     ∷ coefficients (sparse 2 1) (pos 4 ∷ pos 3 ∷ pos 5 ∷ pos 2 ∷ pos 6 ∷ []) (pos 16 ∷ pos 4 ∷ pos 12 ∷ pos 0 ∷ pos 16 ∷ [])
@@ -50,4 +50,13 @@ examples =
     ∷ estimate (sparse 1 1) (negsuc 5 ∷ negsuc 6 ∷ negsuc 10 ∷ []) (1 ∷ []) (pos 0)
     ∷ estimate (sparse 1 0) (pos 1 ∷ []) (262144 ∷ []) (pos 1)
     ∷ estimate (sparse 1 0) (negsuc 0 ∷ []) (262144 ∷ []) (negsuc 0)
+    ∷ count (with_border 1 1) 5
+    ∷ count (with_border 3 3) 593
+    ∷ number (with_border 2 0) (1 ∷ 0 ∷ []) (0 ∷ 0 ∷ []) (1 ∷ 1 ∷ []) 1
+    ∷ number (with_border 2 0) (0 ∷ 1 ∷ []) (0 ∷ 0 ∷ []) (1 ∷ 1 ∷ []) 3
+    ∷ number (with_border 2 0) (2 ∷ 2 ∷ []) (0 ∷ 0 ∷ []) (1 ∷ 1 ∷ []) 8
+    ∷ coefficients (with_border 1 1) (pos 3 ∷ pos 5 ∷ pos 7 ∷ pos 1 ∷ pos 9 ∷ []) (negsuc 3 ∷ pos 6 ∷ pos 2 ∷ pos 2 ∷ pos 18 ∷ [])
+    ∷ estimate (with_border 1 1) (negsuc 3 ∷ pos 6 ∷ pos 2 ∷ pos 2 ∷ pos 18 ∷ []) (0 ∷ []) (pos 2)
+    ∷ estimate (with_border 1 1) (negsuc 3 ∷ pos 6 ∷ pos 2 ∷ pos 2 ∷ pos 18 ∷ []) (131072 ∷ []) (pos 6)
+    ∷ estimate (with_border 1 1) (negsuc 3 ∷ pos 6 ∷ pos 2 ∷ pos 2 ∷ pos 18 ∷ []) (1048576 ∷ []) (pos 18)
     ∷ []
