@@ -98,25 +98,23 @@ fn block<D: Direction>(
     odd + edge_run::<D>(table, x, Side::Right, rims, near, width)
 }
 
-// A block with its runs as wide as they are, and its own points across the border. At level 0 on the axis it is one run, with the border on both sides. That the
-// runs are single points is known to `block` when it is compiled, where nothing lies across the border: without that, turns at (2, 8) take 37 instructions for
-// each point and axis in place of 21.
+// A block with its own points across the border. At level 0 on the axis it is one run, with the border on both sides.
 #[inline(always)]
-fn sized_block<D: Direction>(
+fn edged_block<D: Direction>(
     v: Subspace,
     starts: &[u64; 9],
     rims: Option<Rims>,
     table: &mut [i64],
     first: u64,
     beyond: u64,
+    width: usize,
 ) -> u64
-    requires { Workable v starts.now first table.old × BlockAt v first beyond × (rims ≡ rims_of v) × (rims ≡ None → 1 ≤ v.own) }
+    requires { Workable v starts.now first table.old × BlockAt v first beyond × (width ≡ 2 ^ v.low) × (rims ≡ rims_of v) × (rims ≡ None → 1 ≤ v.own) }
     ensures { Stepped D.ahead v.facet.line.shape v.facet.line.place first (first + 2 ^ (v.low + v.own)) table.old result table.new }
 {
     match rims {
         Some(rims) => {
             let rims = rims.further(beyond << v.low);
-            let width = 1 << v.low;
             if v.own == 0 {
                 return run_between::<D>(
                     table,
@@ -128,12 +126,7 @@ fn sized_block<D: Direction>(
             }
             block::<D>(v, starts, Some(rims), table, first, beyond, width)
         }
-        None => {
-            if v.low == 0 {
-                return block::<D>(v, starts, None, table, first, beyond, 1);
-            }
-            block::<D>(v, starts, None, table, first, beyond, 1 << v.low)
-        }
+        None => block::<D>(v, starts, None, table, first, beyond, width),
     }
 }
 
@@ -146,22 +139,24 @@ fn all_blocks<D: Direction>(
     starts: &[u64; 9],
     rims: Option<Rims>,
     table: &mut [i64],
+    width: usize,
 ) -> u64
-    requires { Below v starts.now × TableOf v.facet.line.shape (2 ^ 61) table.old × (rims ≡ rims_of v) × (rims ≡ None → 1 ≤ v.own) }
+    requires { Below v starts.now × TableOf v.facet.line.shape (2 ^ 61) table.old × (width ≡ 2 ^ v.low) × (rims ≡ rims_of v) × (rims ≡ None → 1 ≤ v.own) }
     ensures { Stepped D.ahead v.facet.line.shape v.facet.line.place v.start v.end table.old result table.new }
 {
     let bits = v.low + v.own;
     let mut odd: u64 = 0;
     for beyond in 0..1u64 << (v.vector.sum - bits) {
         let first = v.start + (beyond << bits);
-        odd += sized_block::<D>(v, starts, rims, table, first, beyond);
+        odd += edged_block::<D>(v, starts, rims, table, first, beyond, width);
     }
     odd
 }
 
 // A step at each point of a level list, forward or back; answers how many of the sums are odd. Where the list has level 0 on the axis and nothing lies across the
 // border, nothing moves. In a turn that has come so far, the list's points then hold what the whole turn leaves them, and no other place changes. (What lies
-// across the border is asked once for a list: `all_blocks` is compiled for each of the two.)
+// across the border, and whether the runs are single points, is asked once for a list: `all_blocks` is compiled for each. Without that, turns at (2, 8) take 37
+// instructions for each point and axis in place of 21.)
 pub fn work<D: Direction>(v: Subspace, starts: &[u64; 9], table: &mut [i64]) -> u64
     requires { Below v starts.now × TableOf v.facet.line.shape (2 ^ 61) table.old }
     ensures worked { table.new ≡ list_worked D.ahead v.facet.line.shape v.facet.line.place v.facet.base v.facet.axes (at v.vector.levels) table.old }
@@ -169,12 +164,15 @@ pub fn work<D: Direction>(v: Subspace, starts: &[u64; 9], table: &mut [i64]) -> 
     ensures turned { (xs : List ℤ) → length xs ≡ length table.old → table.old ≡ came_to D.ahead v.facet.line.shape v.facet.line.place v.facet.base v.facet.axes (at v.vector.levels) xs → ListTurned D.ahead v.facet.line.shape v.facet.line.place v.facet.base v.facet.axes (at v.vector.levels) xs table.old table.new }
 {
     match v.rims {
-        Some(rims) => all_blocks::<D>(v, starts, Some(rims), table),
+        Some(rims) => all_blocks::<D>(v, starts, Some(rims), table, 1 << v.low),
         None => {
             if v.own == 0 {
                 return 0;
             }
-            all_blocks::<D>(v, starts, None, table)
+            if v.low == 0 {
+                return all_blocks::<D>(v, starts, None, table, 1);
+            }
+            all_blocks::<D>(v, starts, None, table, 1 << v.low)
         }
     }
 }

@@ -24,14 +24,15 @@ overflow_add-first g c =
 
 -- ---- a block
 
-pub sized_block-odd-requires : goal.sized_block-odd-requires
-sized_block-odd-requires g c =
+pub edged_block-odd-requires : goal.edged_block-odd-requires
+edged_block-odd-requires g c =
     let v = c.args.v in
     let more = c.loop-beyond-test.true in
-    let (below, (long, within), rims, moves) = c.requires in
+    let (below, (long, within), wide, rims, moves) = c.requires in
     rw (shift_exact v c.loop-beyond.beyond more) (
       workable v c.loop-beyond.beyond more (on_line v.facet.line long) c.loop-beyond.invariant below within,
       block_there v c.loop-beyond.beyond more,
+      wide,
       rims,
       moves,
     )
@@ -40,7 +41,7 @@ pub overflow_add-odd : goal.overflow_add-odd
 overflow_add-odd g c =
     let v = c.args.v in
     let more = c.loop-beyond-test.true in
-    let did = rw (shift_exact v c.loop-beyond.beyond more) at c.sized_block-odd.ensures in
+    let did = rw (shift_exact v c.loop-beyond.beyond more) at c.edged_block-odd.ensures in
     omega (arith, next_few v c.loop-beyond.beyond more (on_line v.facet.line c.requires.1.0) c.loop-beyond.invariant did)
 
 pub loop-beyond-preserved : goal.loop-beyond-preserved
@@ -48,7 +49,7 @@ loop-beyond-preserved g c =
     let v = c.args.v in
     let more = c.loop-beyond-test.true in
     next_done v c.loop-beyond.beyond more (on_line v.facet.line c.requires.1.0) c.loop-beyond.invariant
-    (rw (shift_exact v c.loop-beyond.beyond more) at c.sized_block-odd.ensures)
+    (rw (shift_exact v c.loop-beyond.beyond more) at c.edged_block-odd.ensures)
 
 -- ---- after the last
 
