@@ -17,7 +17,7 @@ from grid import (LEAST, LIMIT, MOST, OLD_UNIT, UNIT, back, estimate, forward, j
                   vectors)
 
 # whether the program knows tables with border values
-BORDER = False
+BORDER = True
 
 PAST = LIMIT + 1
 # what a division leaves: nothing, a half, and one to either side of both
