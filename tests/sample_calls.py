@@ -225,7 +225,7 @@ class Sheet:
         self.call(text, said(answer))
 
     def answered(self):
-        return " ".join(map(str, [self.bits, *(self.shape if BORDER else self.shape[:2])]))
+        return "%d %d %d %d" % (self.bits, self.d, self.n, self.border != 0) if BORDER else "%d %d %d" % (self.bits, self.d, self.n)
 
     def load(self):
         bad = no_table(*self.shape, self.table) or no_rate(self.table)
