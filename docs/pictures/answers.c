@@ -8,7 +8,7 @@
 #include <stdio.h>
 #include <stdlib.h>
 
-enum { AXES = 2, TOP = 4, ZERO_BORDER = 0, POINTS = 129, STEPS = 64 };
+enum { AXES = 2, TOP = 4, ZERO_BORDER = 0, WITH_BORDER = 1, POINTS = 129, STEPS = 64 };
 
 /* Every call here is meant to succeed. */
 static void must(uint32_t number)
@@ -19,14 +19,14 @@ static void must(uint32_t number)
     }
 }
 
-/* N of every shape. */
-static void counts(void)
+/* N of every shape of one sort, of 1 to `most` axes. */
+static void counts(const char *word, uint8_t border, uint32_t most)
 {
-    for (uint32_t d = 1; d <= 8; d++)
+    for (uint32_t d = 1; d <= most; d++)
         for (uint32_t n = 0; n <= 8; n++) {
             uint64_t points, place;
-            must(numolefays_count(d, n, ZERO_BORDER, &points, &place));
-            printf("count %u %u %" PRIu64 "\n", (unsigned)d, (unsigned)n, points);
+            must(numolefays_count(d, n, border, &points, &place));
+            printf("%s %u %u %" PRIu64 "\n", word, (unsigned)d, (unsigned)n, points);
         }
 }
 
@@ -93,7 +93,8 @@ static void cut(void)
 
 int main(void)
 {
-    counts();
+    counts("count", ZERO_BORDER, 8);
+    counts("bordered", WITH_BORDER, 4);
     grid();
     cut();
     return 0;
