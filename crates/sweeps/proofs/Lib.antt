@@ -5,6 +5,7 @@ pub mod Odds
 pub mod Walking
 pub mod Joined
 pub mod Coming
+pub mod OneFace
 pub mod Standing
 pub mod Meeting
 pub mod Faces
