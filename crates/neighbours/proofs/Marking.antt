@@ -1,4 +1,4 @@
--- Marks in a list: those with one of them set are the list with that place set; and the inner axes before a place, counted one by one.
+-- Marks in a list: those with one of them set are the list with that place set.
 -- Assumes nothing.
 use mathlib.Core.Path.{◌≡◌, sym, ◌∙◌, fun_ext}
 use mathlib.Core.List.{List}

@@ -1,6 +1,5 @@
--- A turn goes over the faces of a table one after the other: forward from the last face down, back from the first up. What it leaves on a face is what the whole
--- turn of the table leaves there. Forward, the points of the face and those their parents stand at hold what they held at the start, since behind the face only
--- what does not move is a parent. Back, a point goes by the face alone, and by what does not move. A face whose points do not move is passed over.
+-- With a zero border the table is one face: its work is the work of the turn, what is left on it is what the turn leaves, and its odd sums are all there are. And of a
+-- face that a back turn has done, the odd sums are those of the result: the parents of its points stand on it or do not move, and there both tables hold the same.
 -- Assumes nothing.
 use mathlib.Core.Path.{◌≡◌, refl, ap, ap₂, sym, ◌∙◌}
 use mathlib.Core.Bool.{Bool, true, false}
