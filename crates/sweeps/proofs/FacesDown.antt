@@ -90,7 +90,7 @@ module _ (line : Line) (xs : List ℤ) (long : length xs ≡ points_of line.shap
   down_ends {odd} {ys} d = (
     sym (down_none line.shape line.place ys) ∙ d.walked,
     all_parted (points_of line.shape) xs (whole_turn true line.shape line.place xs) ys (turn_long true line.shape line.place xs)
-    (rw (row_zero line.shape.axes line.shape.level) at d.parted),
+        (rw (row_zero line.shape.axes line.shape.level) at d.parted),
     omega (arith, d.odds, ap (odd_sums line.shape line.place xs) (row_zero line.shape.axes line.shape.level), odds_none line.shape line.place xs),
   )
 

@@ -95,8 +95,7 @@ module _ (line : Line) (xs : List ℤ) (long : length xs ≡ points_of line.shap
   up_ends {f} {odd} {ys} all u =
       let end : row line.shape.axes line.shape.level f ≡ points_of line.shape = ap (row line.shape.axes line.shape.level) all ∙ faces_end line.shape in
       let done : ys ≡ result =
-      all_parted (points_of line.shape) xs result ys (turn_long false line.shape line.place xs) (rw end at u.parted) in
-      (
+      all_parted (points_of line.shape) xs result ys (turn_long false line.shape line.place xs) (rw end at u.parted) in (
         sym (ap (λ (k : ℕ). faces_up line.shape line.place f k ys) (omega arith) ∙ up_none line.shape line.place f ys) ∙ u.walked,
         done,
         sym u.odds ∙ ap₂ (λ (zs : List ℤ) (m : ℕ). odd_sums line.shape line.place zs m) (sym done) end,

@@ -61,15 +61,15 @@ loop-f-preserved c =
       faces_bordered c.args.line.shape c.requires.0,
     ) in
     elim c.match-of_face.branch [
-    in-Some w ↦
-        rw (add-one, w.odd-is, w.table-is)
-        (up_face c.args.line c.args.table.now c.requires.1.0 c.requires.0 c.loop-f.f here c.loop-f.invariant w.in-Some.facet
-        (rw w.in-Some.is at c.of_face.ensures) w.raise_face-odd.result w.raise_face-odd.new.table
-        w.raise_face-odd.ensures.walked w.raise_face-odd.ensures.turned w.raise_face-odd.ensures.odds)
-    | in_default w ↦
-        rw (add-one, w.odd-is, w.table-is)
-        (up_passed c.args.line c.args.table.now c.requires.1.0 c.requires.0 c.loop-f.f here c.loop-f.invariant
-        (rw w.in_default.is at c.of_face.ensures))
+      | in-Some w ↦
+          rw (add-one, w.odd-is, w.table-is)
+          (up_face c.args.line c.args.table.now c.requires.1.0 c.requires.0 c.loop-f.f here c.loop-f.invariant w.in-Some.facet
+          (rw w.in-Some.is at c.of_face.ensures) w.raise_face-odd.result w.raise_face-odd.new.table
+          w.raise_face-odd.ensures.walked w.raise_face-odd.ensures.turned w.raise_face-odd.ensures.odds)
+      | in_default w ↦
+          rw (add-one, w.odd-is, w.table-is)
+          (up_passed c.args.line c.args.table.now c.requires.1.0 c.requires.0 c.loop-f.f here c.loop-f.invariant
+          (rw w.in_default.is at c.of_face.ensures))
     ]
 
 -- all faces are done
