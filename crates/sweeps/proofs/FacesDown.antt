@@ -1,43 +1,35 @@
 -- The forward way over a table with values on the border, from the last face down: the faces from number f on are turned. Each is worked from the table that the faces
 -- after it left, and leaves it as the turn has it one face further.
 -- Assumes nothing.
-use mathlib.Core.Path.{◌≡◌, refl, ap, ap₂, sym, ◌∙◌}
-use mathlib.Core.Bool.{Bool, true, false}
+use mathlib.Core.Path.{◌≡◌, refl, ap, sym, ◌∙◌}
+use mathlib.Core.Bool.{true}
 use mathlib.Core.List.{List}
-use mathlib.Core.Logic.{◌⊎◌, inl, inr}
-use Prim.Native.Nat.{ℕ, zero, suc, ◌+◌, ◌-◌, ◌*◌, ◌^◌, ◌≤◌, ◌<◌}
-use native.Mathlib.Nat.{sub-zero}
+use mathlib.Core.Logic.{inl}
+use Prim.Native.Nat.{ℕ, suc, ◌+◌, ◌^◌, ◌≤◌, ◌<◌}
 use native.Mathlib.Omega.{arith}
-use borrow.Author.Tests.{eq-eqb, ne_eqb}
 use lib.IntN.{ℤ}
 use lib.ListN.{length}
-use Rattle.std.specs.Prelude.{Option, Some, None}
-use Rattle.numbering.specs.declared.Side.{Side}
-use Rattle.numbering.specs.Count.{points}
-use Rattle.hierarchy.specs.Grid.{Still}
-use Rattle.faces.specs.Row.{all_faces, marks_of, inner_of, row}
-use Rattle.faces.proofs.Row.{row_zero, row_suc, row_mono}
+use Rattle.std.specs.Prelude.{Some, None}
+use Rattle.faces.specs.Row.{row}
+use Rattle.faces.proofs.Row.{row_zero}
 use Rattle.shapes.specs.declared.Shape.{Shape}
 use Rattle.shapes.specs.Shapes.{points_of}
-use Rattle.grids.specs.Grids.{neighbour, height}
 use Rattle.grids.specs.Faces.{faces_of}
-use Rattle.grids.proofs.Faces.{faces_end, faces_bordered}
-use Rattle.grids.proofs.Facets.{face_still}
+use Rattle.grids.proofs.Faces.{faces_end}
 use Rattle.neighbours.specs.Faced.{FacetOf}
 use Rattle.neighbours.specs.declared.facets.Line.{Line}
 use Rattle.neighbours.specs.declared.facets.Facet.{Facet}
 use Rattle.neighbours.proofs.Staying.{facet_end}
 use Rattle.lists.specs.Lists.{odd_sums, whole_turn, turned_between}
 use Rattle.lists.specs.Steps.{NoLarger}
-use Rattle.walks.specs.Walks.{walk_down, walk_up}
-use Rattle.lists.proofs.Turned.{still_turn}
-use Rattle.sweeps.specs.Sweeps.{lists_worked, walk, face_worked, faces_down, faces_up, table_worked}
+use Rattle.walks.specs.Walks.{walk_down}
+use Rattle.sweeps.specs.Sweeps.{lists_worked, face_worked, faces_down, table_worked}
 use Rattle.sweeps.proofs.Parted.{Parted, none_parted, all_parted, parted_within}
 use Rattle.sweeps.proofs.Odds.{odds_none, odds_few}
-use Rattle.sweeps.proofs.Room.{turned_within, former_within}
+use Rattle.sweeps.proofs.Room.{turned_within}
 use Rattle.sweeps.proofs.Faces.{turn_long}
-use Rattle.sweeps.proofs.Row.{StaysAs, still_same, not_yet, face_down, face_up, face_odds, passed_down, passed_up, passed_odds, StaysAs}
-use Rattle.sweeps.proofs.FaceByFace.{order, inside_table, nothing_moves, passed_over, starts_at, ends_at, worked_as}
+use Rattle.sweeps.proofs.Row.{StaysAs, not_yet, face_down, face_odds, passed_down, passed_odds, StaysAs}
+use Rattle.sweeps.proofs.FaceByFace.{order, inside_table, nothing_moves, passed_over, ends_at, worked_as}
 
 -- The faces from number f on are turned in the table ys, which holds the points from number k on so; and so many sums are odd there.
 pub record Down (line : Line) (xs : List ℤ) (f odd : ℕ) (ys : List ℤ) : Type 0 where

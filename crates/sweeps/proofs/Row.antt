@@ -3,9 +3,9 @@
 -- A face whose points do not move is passed over.
 -- Assumes nothing.
 use mathlib.Core.Path.{◌≡◌, refl, ap, ap₂, sym, ◌∙◌}
-use mathlib.Core.Bool.{Bool, true, false}
+use mathlib.Core.Bool.{Bool}
 use mathlib.Core.List.{List}
-use mathlib.Core.Logic.{◌⊎◌, inl, inr, ⊎_elim}
+use mathlib.Core.Logic.{◌⊎◌, inl, inr}
 use Prim.Native.Nat.{ℕ, zero, suc, ◌+◌, ◌≤◌, ◌<◌}
 use native.Mathlib.Omega.{arith}
 use lib.IntN.{ℤ, pos, ◌+ℤ◌}
@@ -27,7 +27,7 @@ use Rattle.lists.proofs.Turned.{still_turn}
 use Rattle.lists.proofs.Faces.{turn_agrees}
 use Rattle.sweeps.proofs.Parted.{Parted, list_parted, moved_down, moved_up}
 use Rattle.sweeps.proofs.Odds.{odds_suc, same_growth}
-use Rattle.sweeps.proofs.Faces.{turn_long, same_odd}
+use Rattle.sweeps.proofs.Faces.{same_odd}
 
 -- What does not move holds in every part of the turn what it held.
 pub still_same : (ahead : Bool) (s : Shape) (t : ℕ) {lo hi : ℕ} {xs ys : List ℤ} → length xs ≡ points_of s →

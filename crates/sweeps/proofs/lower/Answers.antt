@@ -1,6 +1,6 @@
 -- `sweeps::lower` meets its contract: with a zero border the table is one face, which ends with its last point.
 -- Assumes nothing.
-use mathlib.Core.Path.{ap, sym, ◌∙◌}
+use mathlib.Core.Path.{◌∙◌}
 use mathlib.Core.Bool.{true}
 use Rattle.lists.specs.Lists.{whole_turn}
 use Rattle.sweeps.proofs.Faces.{all_turned, all_odds, all_worked}

@@ -1,9 +1,8 @@
 -- `lower_faces` meets its contract: each face leaves the table as the turn has it one face further, until none is left.
 -- Assumes nothing.
 use mathlib.Core.Path.{◌≡◌, ap, sym, ◌∙◌}
-use mathlib.Core.Bool.{true}
-use Rattle.std.specs.Prelude.{Some, None}
-use Prim.Native.Nat.{ℕ, suc, ◌+◌, ◌-◌, ◌<◌}
+use Rattle.std.specs.Prelude.{Some}
+use Prim.Native.Nat.{suc, ◌-◌, ◌<◌}
 use native.Mathlib.Omega.{arith}
 use Rattle.faces.specs.Row.{all_faces}
 use Rattle.grids.specs.Faces.{faces_of}

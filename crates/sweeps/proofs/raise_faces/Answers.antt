@@ -1,9 +1,8 @@
 -- `raise_faces` meets its contract: each face leaves the table as the turn has it one face further, until all are done.
 -- Assumes nothing.
-use mathlib.Core.Path.{◌≡◌, ap, sym, ◌∙◌}
-use mathlib.Core.Bool.{true}
-use Rattle.std.specs.Prelude.{Some, None}
-use Prim.Native.Nat.{ℕ, suc, ◌+◌, ◌-◌, ◌≤◌, ◌<◌}
+use mathlib.Core.Path.{◌≡◌, ap}
+use Rattle.std.specs.Prelude.{Some}
+use Prim.Native.Nat.{◌<◌}
 use native.Mathlib.Omega.{arith}
 use native.Mathlib.Numerals.{add-one}
 use Rattle.faces.specs.Row.{all_faces}
@@ -11,7 +10,7 @@ use Rattle.grids.specs.Faces.{faces_of}
 use Rattle.grids.proofs.Faces.{faces_bordered}
 use Rattle.lists.specs.Lists.{whole_turn}
 use Rattle.neighbours.specs.Faced.{FacetOf}
-use Rattle.sweeps.proofs.FacesUp.{Up, up_starts, up_few, up_room, up_ends, up_passed, up_face}
+use Rattle.sweeps.proofs.FacesUp.{up_starts, up_few, up_room, up_ends, up_passed, up_face}
 use Rattle.sweeps.proofs.raise_faces.Goals.{In-Some, After-loop-f, in-Some, in_default}
 use Rattle.sweeps.proofs.raise_faces.Goals as goal
 
