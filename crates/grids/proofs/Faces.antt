@@ -2,25 +2,23 @@
 -- from the number of the list's first point on; they have the marks of the face, the levels of the list, and the indices that the digits of their place in the row say.
 -- True of the first face of a table with a zero border as well, so both sorts have one law.
 -- Assumes nothing.
-use mathlib.Core.Path.{◌≡◌, refl, ap, ap₂, sym, ◌∙◌, fun_ext}
+use mathlib.Core.Path.{◌≡◌, refl, ap, ap₂, sym, ◌∙◌}
 use mathlib.Core.Bool.{true, false, false≢true}
-use Prim.Native.Nat.{ℕ, suc, ◌+◌, ◌-◌, ◌%◌, ◌^◌, ◌≤◌, ◌<◌}
+use Prim.Native.Nat.{ℕ, suc, ◌+◌, ◌-◌, ◌^◌, ◌≤◌, ◌<◌}
 use native.Mathlib.Omega.{arith}
 use Rattle.naturals.specs.Sum.{sum_to}
-use Rattle.naturals.proofs.Cases.{true_or_false, eq_or_not}
-use Rattle.naturals.proofs.Sums.{sum_to_zero}
+use Rattle.naturals.proofs.Cases.{true_or_false}
 use Rattle.numbering.specs.Count.{points}
 use Rattle.numbering.specs.Number.{position, first_of, number}
-use Rattle.numbering.specs.Inverse.{index_of}
-use Rattle.numbering.proofs.Subspaces.{number_from_first, indices_to, indices_in, block_point, block_position}
+use Rattle.numbering.proofs.Subspaces.{number_from_first, indices_to, block_point, block_position}
 use Rattle.numbered.specs.Numbered.{unmarked}
 use Rattle.faces.specs.Faces.{borders}
 use Rattle.faces.specs.Packing.{packed, before}
-use Rattle.faces.specs.Marked.{Marked, face_start, in_face, border_number, border_points}
+use Rattle.faces.specs.Marked.{face_start, border_number}
 use Rattle.faces.specs.Row.{all_faces, marks_of, inner_of, row}
-use Rattle.faces.proofs.Numbering.{face_start_is, in_face_is, border_number_is}
+use Rattle.faces.proofs.Numbering.{in_face_is, border_number_is}
 use Rattle.faces.proofs.Packing.{inner_axes, packed_position}
-use Rattle.faces.proofs.Row.{no_borders, first_unmarked, unmarked_start, unmarked_number, mark_of_low, marks_of_past, row_zero, row_suc, row_mono, row_ends, row_start, inner_of_marks, row_of_face, face_number_lt, marks_are, first_inner}
+use Rattle.faces.proofs.Row.{no_borders, first_unmarked, unmarked_start, unmarked_number, mark_of_low, marks_of_past, row_zero, row_suc, row_ends, row_start, inner_of_marks, first_inner}
 use Rattle.shapes.specs.declared.Shape.{Shape}
 use Rattle.shapes.specs.Shapes.{points_of}
 use Rattle.shapes.proofs.Layers.{points_plain, points_bordered}

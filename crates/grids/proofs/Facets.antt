@@ -3,7 +3,7 @@
 -- inner axes are those of its number on the face, and its position is the same without its border axes.
 -- Assumes nothing.
 use mathlib.Core.Path.{◌≡◌, refl, ap, ap₂, sym, ◌∙◌}
-use mathlib.Core.Bool.{Bool, true, false}
+use mathlib.Core.Bool.{true, false}
 use Prim.Native.Nat.{ℕ, suc, ◌+◌, ◌-◌, ◌*◌, ◌/◌, ◌^◌, ◌≤◌, ◌<◌}
 use native.Mathlib.Omega.{arith}
 use borrow.Author.Tests.{eq-eqb, lt-ltb, le-ltb}
@@ -13,7 +13,7 @@ use Rattle.naturals.proofs.Sums.{sum_to_cong}
 use Rattle.numbering.specs.declared.Side.{Side}
 use Rattle.numbering.specs.declared.Side.TheVariants.{Left, Right}
 use Rattle.numbering.specs.Count.{points, start}
-use Rattle.numbering.specs.Number.{position, rank, first_of, number}
+use Rattle.numbering.specs.Number.{position, first_of, number}
 use Rattle.numbering.specs.Inverse.{level_at, index_at}
 use Rattle.numbering.specs.Parent.{numerator, is_border, parent_level, parent_index, update}
 use Rattle.numbering.proofs.Position.{position_cong}
@@ -25,17 +25,17 @@ use Rattle.numbered.proofs.Moves.{mark_pos}
 use Rattle.numbered.proofs.Instance.{across_still}
 use Rattle.faces.specs.Faces.{borders}
 use Rattle.faces.specs.Packing.{before, packed, skip}
-use Rattle.faces.specs.Marked.{Marked, face_start, in_face, border_number, mark_at, border_level_at, border_index_at}
+use Rattle.faces.specs.Marked.{Marked, face_start, in_face, border_number, mark_at}
 use Rattle.faces.specs.Row.{all_faces, marks_of, inner_of, row}
-use Rattle.faces.proofs.Packing.{inner_axes, place_lt, prefix_sum, prefix_position, packed_position, packed_sum, before_inner}
+use Rattle.faces.proofs.Packing.{inner_axes, place_lt, prefix_sum, prefix_position, packed_position, before_inner}
 use Rattle.faces.proofs.Numbering.{border_number_is, level_in_face, index_in_face}
 use Rattle.faces.proofs.InFace.{moved_number, one_less, packed_skip, across_in_face}
-use Rattle.faces.proofs.Row.{row_suc, row_mono, row_ends, row_start, inner_of_marks, row_marks, row_number, row_level, row_index, row_across}
+use Rattle.faces.proofs.Row.{row_suc, row_mono, row_ends, row_start, inner_of_marks, row_marks, row_level, row_index, row_across}
 use Rattle.shapes.specs.declared.Shape.{Shape}
 use Rattle.shapes.specs.Shapes.{points_of}
 use Rattle.shapes.proofs.Layers.{points_bordered}
-use Rattle.grids.specs.Grids.{number_of, mark_on, level_on, index_on, numbered, neighbour}
-use Rattle.grids.proofs.Points.{PointOf, point_at_lem, number_bordered, marks_bordered, levels_bordered, indices_bordered, numbering, number_of_point_lem}
+use Rattle.grids.specs.Grids.{number_of, mark_on, level_on, index_on, neighbour}
+use Rattle.grids.proofs.Points.{point_at_lem, number_bordered, marks_bordered, levels_bordered, indices_bordered, numbering, number_of_point_lem}
 use Rattle.grids.proofs.Beside.{numerator_on, still_there, to_parent, to_across}
 use Rattle.grids.proofs.Instance.{neighbours_of}
 

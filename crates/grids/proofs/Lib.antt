@@ -1,4 +1,3 @@
-pub mod Sparse
 pub mod Points
 pub mod Faces
 pub mod Beside

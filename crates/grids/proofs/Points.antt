@@ -2,17 +2,16 @@
 -- of its marks, levels and indices. So numbers of the same marks, levels and indices are one. With values on the border that is the numbering over the faces; with a
 -- zero border, document 01's. What lies beside a point is a point.
 -- Assumes nothing.
-use mathlib.Core.Path.{◌≡◌, refl, ap, ap₂, sym, ◌∙◌, fun_ext}
+use mathlib.Core.Path.{◌≡◌, refl, ap, sym, ◌∙◌}
 use mathlib.Core.Bool.{true, false, false≢true}
 use Prim.Native.Nat.{ℕ, suc, ◌-◌, ◌/◌, ◌%◌, ◌^◌, ◌≤◌, ◌<◌}
 use lib.Dec.{eqb, ltb}
 use native.Mathlib.Omega.{arith}
 use Rattle.naturals.specs.Sum.{sum_to}
 use Rattle.naturals.proofs.Cases.{true_or_false}
-use Rattle.naturals.proofs.Sums.{term_le}
 use Rattle.numbering.specs.declared.Side.{Side}
 use Rattle.numbering.specs.declared.Side.TheVariants.{Left, Right}
-use Rattle.numbering.specs.Count.{shell, points}
+use Rattle.numbering.specs.Count.{shell}
 use Rattle.numbering.specs.Number.{number}
 use Rattle.numbering.specs.Inverse.{sum_at, within, level_at, index_at}
 use Rattle.numbering.proofs.Block.{block_le}
