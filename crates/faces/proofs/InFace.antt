@@ -6,10 +6,8 @@ use mathlib.Core.Path.{◌≡◌, ap, sym, ◌∙◌}
 use Prim.Native.Nat.{ℕ, zero, suc, ◌+◌, ◌-◌, ◌*◌, ◌/◌, ◌^◌, ◌≤◌, ◌<◌}
 use native.Mathlib.Nat.{zero-mul, add-zero}
 use native.Mathlib.Omega.{arith}
-use lib.Dec.{ltb}
 use borrow.Author.Tests.{lt-ltb, le-ltb}
 use Rattle.naturals.specs.Sum.{sum_to}
-use Rattle.std.specs.Prelude.{if◌then◌else◌}
 use Rattle.naturals.proofs.Cases.{eq_or_not, le_or_lt}
 use Rattle.numbering.specs.Number.{position, first_of, number}
 use Rattle.numbering.specs.Inverse.{level_at, index_at}

@@ -272,10 +272,6 @@ module _ (d n f : ℕ) (lt : f < all_faces d) where
     row_across =
         omega (arith, row_in, face_start_is d n (update (marks_of d f) t a), ap (sum_to (layer d n)) one_border_more)
 
-    -- Those have one inner axis less.
-    pub across_inner : suc (d - borders (update (marks_of d f) t a) d) ≡ inner_of d f
-    across_inner = omega (arith, one_border_more, borders_le (update (marks_of d f) t a) d, inner_of_is d f)
-
   -- ---- the points of a face
 
   -- Number q within the face: its marks are those of the face, and its levels and indices on the inner axes those of document 01's number q.

@@ -19,10 +19,9 @@ use Rattle.numbering.proofs.Numbering.{points_is, start_is, start_suc}
 use Rattle.faces.specs.Faces.{faces}
 use Rattle.faces.specs.Marked.{layer, border_points}
 use Rattle.faces.proofs.Numbering.{layer_is}
-use Rattle.std.specs.Prelude.{Ok}
 use Rattle.shapes.specs.declared.Shape.{Shape}
-use Rattle.shapes.specs.Shapes.{most_axes, check_shape, points_of}
-use Rattle.shapes.proofs.Checked.{InRange, passed_in_range}
+use Rattle.shapes.specs.Shapes.{most_axes, points_of}
+use Rattle.shapes.proofs.Checked.{InRange}
 use Rattle.shapes.proofs.Totals.{start_small}
 use Rattle.naturals.proofs.Cases.{true_or_false}
 
@@ -129,6 +128,3 @@ points_in_range s r =
     true_or_false s.border
     (λ on. omega (arith, points_bordered s on, border_points_small s.axes s.level (most_bordered r on) r.top))
     (λ off. omega (arith, points_plain s off, points_is s.axes s.level, start_small s.axes r.low r.high (suc s.level) (omega (arith, r.top))))
-
-pub points_small : (s : Shape) → check_shape s ≡ Ok tt → points_of s < 4294967296
-points_small s passed = points_in_range s (passed_in_range s passed)

@@ -1,7 +1,6 @@
 -- The running total of the count of points: one more turn adds the points of one level sum, and neither that many nor the total comes near the
 -- width, since the largest total of each row of shapes is below 2^32, by one test that antt computes, and the totals grow with the level sum.
 -- Assumes nothing.
-use Rattle.std.specs.Prelude.{Ok}
 use mathlib.Core.Path.{◌≡◌, refl}
 use mathlib.Core.Bool.{Bool, true}
 use Prim.Native.Nat.{ℕ, suc, ◌+◌, ◌-◌, ◌*◌, ◌^◌, ◌%◌, ◌≤◌, ◌<◌}
@@ -15,10 +14,7 @@ use Rattle.naturals.specs.Test.{all}
 use Rattle.naturals.proofs.Sums.{sum_to_zero, sum_to_suc, sum_to_mono, term_le}
 use Rattle.naturals.proofs.Tests.{all_at}
 use Rattle.numbering.specs.Binomial.{choose}
-use Rattle.numbering.specs.Count.{vectors, shell, start, points}
-use Rattle.shapes.specs.declared.Shape.{Shape}
-use Rattle.shapes.specs.Shapes.{check_shape, points_of}
-use Rattle.shapes.proofs.Checked.{passed_in_range}
+use Rattle.numbering.specs.Count.{vectors, shell, start}
 
 pub start_zero : (d : ℕ) → start d 0 ≡ 0
 unfolding start

@@ -1,7 +1,6 @@
 -- `CheckedShape::points` meets its contract: N counts the points of all faces, or those with a level sum up to the top level.
 -- Assumes nothing.
 use mathlib.Core.Path.{ap, sym, ◌∙◌}
-use native.Mathlib.Omega.{arith}
 use native.Mathlib.Numerals.{add-one}
 use Rattle.numbering.specs.Count.{start}
 use Rattle.numbering.proofs.Numbering.{points_is}
