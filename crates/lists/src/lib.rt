@@ -155,8 +155,9 @@ fn all_blocks<D: Direction>(
 
 // A step at each point of a level list, forward or back; answers how many of the sums are odd. Where the list has level 0 on the axis and nothing lies across the
 // border, nothing moves. In a turn that has come so far, the list's points then hold what the whole turn leaves them, and no other place changes. (What lies
-// across the border, and whether the runs are single points, is asked once for a list: `all_blocks` is compiled for each. Without that, turns at (2, 8) take 37
-// instructions for each point and axis in place of 21.)
+// across the border, whether the runs are single points, and whether a block of them is a pair is asked once for a list: `all_blocks` is compiled for each.
+// Without that, turns at (2, 8) take 37 instructions for each point and axis in place of 21.)
+#[inline(always)]
 pub fn work<D: Direction>(v: Subspace, starts: &[u64; 9], table: &mut [i64]) -> u64
     requires { Below v starts.now × TableOf v.facet.line.shape (2 ^ 61) table.old }
     ensures worked { table.new ≡ list_worked D.ahead v.facet.line.shape v.facet.line.place v.facet.base v.facet.axes (at v.vector.levels) table.old }
@@ -170,6 +171,9 @@ pub fn work<D: Direction>(v: Subspace, starts: &[u64; 9], table: &mut [i64]) -> 
                 return 0;
             }
             if v.low == 0 {
+                if v.own == 1 {
+                    return all_blocks::<D>(v, starts, None, table, 1);
+                }
                 return all_blocks::<D>(v, starts, None, table, 1);
             }
             all_blocks::<D>(v, starts, None, table, 1 << v.low)

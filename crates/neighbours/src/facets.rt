@@ -96,6 +96,7 @@ impl Facet {
     ghost use Rattle.neighbours.specs.Faced.{FacetOf};
 
     // With a zero border the table is one face.
+    #[inline(always)]
     pub fn whole(line: Line) -> Facet
         requires { line.shape.border ≡ false }
         ensures { (result.line ≡ line) × (result.axes ≡ line.shape.axes) × (result.base ≡ 0) }

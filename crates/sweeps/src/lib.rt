@@ -20,6 +20,7 @@ use vectors::LevelVector;
 
 // The points of a face as the forward turn of the table leaves them, whether or not it is accepted: the level lists from the last down. Answers how many sums were
 // odd.
+#[inline(always)]
 pub fn lower_face(facet: Facet, table: &mut [i64]) -> u64
     requires { TableOf facet.line.shape (2 ^ 60) table.old }
     ensures walked { table.new ≡ lists_worked true facet.line.shape facet.line.place facet.base facet.axes (walk_down facet.axes facet.line.shape.level) table.old }
@@ -50,6 +51,7 @@ pub fn lower_face(facet: Facet, table: &mut [i64]) -> u64
 // The points of a face as they are in the table that a forward turn takes to this one, whether or not that turn is accepted: the level lists from the first up.
 // Answers how many sums were odd.
 // (A loop of its own: here the cursors step on after the work on a list, there they step back before it; shared would be the work and the count alone.)
+#[inline(always)]
 pub fn raise_face(facet: Facet, table: &mut [i64]) -> u64
     requires { TableOf facet.line.shape (2 ^ 57) table.old }
     ensures walked { table.new ≡ lists_worked false facet.line.shape facet.line.place facet.base facet.axes (walk_up facet.axes facet.line.shape.level) table.old }

@@ -44,6 +44,16 @@ returns-in-Some-clause-turned g c =
     λ old long came.
     work_turned (seen c.args.v) g.D.Direction.ahead c.all_blocks.result old c.args.table.now c.all_blocks.new.table c.all_blocks.ensures (long ∙ pre.1.0) came
 
+pub returns-then-v-eq1-clause-worked : goal.returns-then-v-eq1-clause-worked
+returns-then-v-eq1-clause-worked g c = list_worked_lem (seen c.args.v) (on_line c.args.v.facet.line c.requires.1.0) c.all_blocks-then-v-eq1.ensures
+
+pub returns-then-v-eq1-clause-turned : goal.returns-then-v-eq1-clause-turned
+returns-then-v-eq1-clause-turned g c =
+    let pre = c.requires in
+    λ old long came.
+    work_turned (seen c.args.v) g.D.Direction.ahead c.all_blocks-then-v-eq1.result old c.args.table.now c.all_blocks-then-v-eq1.new.table
+    c.all_blocks-then-v-eq1.ensures (long ∙ pre.1.0) came
+
 pub returns-then-v-eq0-2-clause-worked : goal.returns-then-v-eq0-2-clause-worked
 returns-then-v-eq0-2-clause-worked g c = list_worked_lem (seen c.args.v) (on_line c.args.v.facet.line c.requires.1.0) c.all_blocks-then-v-eq0-2.ensures
 
@@ -84,5 +94,10 @@ all_blocks-requires-in-None g c =
 
 pub all_blocks-requires-then-v-eq0-2 : goal.all_blocks-requires-then-v-eq0-2
 all_blocks-requires-then-v-eq0-2 g c =
+    let one : 1 ≡ 2 ^ c.args.v.low = ap (λ (a : ℕ). 2 ^ a) (sym c.if-v-eq0-2.true) in
+    (c.requires.0, c.requires.1, one, sym c.in-None.is ∙ c.args.v.across, λ none. omega (arith, c.if-v-eq0.false))
+
+pub all_blocks-requires-then-v-eq1 : goal.all_blocks-requires-then-v-eq1
+all_blocks-requires-then-v-eq1 g c =
     let one : 1 ≡ 2 ^ c.args.v.low = ap (λ (a : ℕ). 2 ^ a) (sym c.if-v-eq0-2.true) in
     (c.requires.0, c.requires.1, one, sym c.in-None.is ∙ c.args.v.across, λ none. omega (arith, c.if-v-eq0.false))
