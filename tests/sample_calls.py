@@ -1,10 +1,11 @@
 #!/usr/bin/env python3
 """The calls that crates/sample_calls is handed (its stdin) and what it has to print (its stdout), made without its code by the rules of documents 01 and 02
-and request e (grid.py): the worked values, the edges of the types, then pseudo-random calls. `sample_calls.py FOLDER` writes both files.
+and requests e and g (grid.py): the worked values, the edges of the types, then pseudo-random calls, and the same on tables with border values.
+`sample_calls.py FOLDER` writes both files.
 
-With BORDER, for a program that knows the flag and marks of request g, and with calls on tables with border values. The flag stands after the level: a state is
-read as s and d, n, the flag, the set and the lengths of four lists, and printed as the set, d, n and the flag. Marks stand before levels: they are the first
-of the four lists, m, and a point is printed as eight marks, eight levels and eight indices."""
+A state is read as s and d, n, the flag, the set and the lengths of four lists, and printed as the set, d, n and the flag. The four lists are marks m, levels
+l, indices i and the table t; l holds the coordinates of an estimate too, and l and i the directions and axes of a list of turns. A point is printed as eight
+marks, eight levels and eight indices."""
 import os
 import sys
 from bisect import bisect_right
@@ -15,9 +16,6 @@ from math import ceil
 
 from grid import (LEAST, LIMIT, MOST, OLD_UNIT, UNIT, back, estimate, forward, joint, key, level, margin, mark, points, position, rates_of, size, table_of_set,
                   vectors)
-
-# whether the program knows tables with border values
-BORDER = True
 
 PAST = LIMIT + 1
 # what a division leaves: nothing, a half, and one to either side of both
@@ -109,8 +107,7 @@ def said(answer):
 
 def located(answer, marks=(), levels=(), indices=()):
     """A point by value, zeros past the last axis, and all zeros where there is none."""
-    lists = (marks, levels, indices) if BORDER else (levels, indices)
-    return " ".join([said(answer), *[str(v) for numbers in lists for v in [*numbers, *[0] * (8 - len(numbers))]]])
+    return " ".join([said(answer), *[str(v) for numbers in (marks, levels, indices) for v in [*numbers, *[0] * (8 - len(numbers))]]])
 
 
 def turned(is_back, d, n, border, bits, table, axis):
@@ -146,12 +143,11 @@ class Sheet:
     def state(self, d, n, bits=0, l=(), i=(), table=None, border=0, m=()):
         """All that the next calls are handed; the table stays where none is given."""
         self.d, self.n, self.border, self.bits, self.m, self.l, self.i = d, n, border, bits, list(m), list(l), list(i)
-        assert BORDER or not border
-        self.say("s" + "".join("%d," % v for v in ([d, n, border, bits] if BORDER else [d, n, bits])))
+        self.say("s" + "".join("%d," % v for v in (d, n, border, bits)))
         if table is not None:
             self.table = list(table)
-        self.say("".join("%d," % len(v) for v in ([m, l, i, self.table] if BORDER else [l, i, self.table])) + " ")
-        for name, numbers in [("m", m if BORDER else ()), ("l", l), ("i", i), ("t", () if table is None else table)]:
+        self.say("".join("%d," % len(v) for v in (m, l, i, self.table)) + " ")
+        for name, numbers in [("m", m), ("l", l), ("i", i), ("t", () if table is None else table)]:
             if numbers:
                 self.say(name + "".join("%d," % v if v >= 0 else "%d-" % -v for v in numbers) + " ")
 
@@ -225,7 +221,8 @@ class Sheet:
         self.call(text, said(answer))
 
     def answered(self):
-        return "%d %d %d %d" % (self.bits, self.d, self.n, self.border != 0) if BORDER else "%d %d %d" % (self.bits, self.d, self.n)
+        """The state."""
+        return "%d %d %d %d" % (self.bits, self.d, self.n, self.border != 0)
 
     def load(self):
         bad = no_table(*self.shape, self.table) or no_rate(self.table)
@@ -349,7 +346,7 @@ def worked(sheet):
         sheet.to_rates()
         printed(answer)
     assert sheet.table == [2]
-    for d, n, answer in [(8, 0, "0 8 0 0" if BORDER else "0 8 0"), (9, 0, "refused 1 0"), (1, 9, "refused 2 0")]:
+    for d, n, answer in [(8, 0, "0 8 0 0"), (9, 0, "refused 1 0"), (1, 9, "refused 2 0")]:
         sheet.state(d, n, 0, (), (), [1])
         sheet.load()
         printed(answer)
@@ -735,8 +732,7 @@ if __name__ == "__main__":
     random_points(draw, sheet, 8, 8)
     for d, n in [(2, 0), (2, 1), (2, 2), (3, 1), (5, 1), (8, 1)]:
         about_halves(draw, sheet, d, n)
-    if BORDER:
-        bordered(sheet, Drawn(6364136223846793005))
+    bordered(sheet, Drawn(6364136223846793005))
     for name, text in ("stdin", sheet.asked), ("stdout", sheet.printed):
         with open(os.path.join(sys.argv[1], name), "w") as out:
             out.write("".join(text))

@@ -4,10 +4,6 @@
 //! call. `NUMOLEFAYS_LARGE=0` leaves out the large tables, as for a run under valgrind, and keeps turns with a fault
 //! and turns list by list to fewer shapes, and a line to fewer coordinates. The last line has the counts; the exit code
 //! is 1 where anything differs, and where an answer was not met or a wrong reading would not be seen.
-//!
-//! `--border` runs what is about tables with border values alone, and `--model` the same without the library: the separate
-//! code against itself, against the request's examples, and against wrong readings of the request. The library takes part
-//! in them where its boundary has the flag, with the feature `border`.
 
 mod boundary;
 mod checks;
@@ -29,9 +25,6 @@ use std::time::Instant;
 const SEED: u64 = 20_261_113;
 const COUNT: u64 = 10_000;
 
-/// Whether the library's boundary has the flag for border values: src/boundary.rs.
-const LIBRARY_HAS_BORDER: bool = cfg!(feature = "border");
-
 fn setting(name: &str, usual: u64) -> u64 {
     match std::env::var(name) {
         Ok(text) => text.parse().unwrap_or_else(|_| panic!("{name} is a number")),
@@ -39,7 +32,8 @@ fn setting(name: &str, usual: u64) -> u64 {
     }
 }
 
-/// What each call can answer, as refusal numbers, 0 for success: all of it has to have been met.
+/// What each call can answer on shapes without border values, as refusal numbers, 0 for success: all of it has to have been
+/// met.
 const ANSWERS: [(&str, &[u32]); 20] = [
     ("count", &[0, 1, 2]),
     ("number", &[0, 1, 2, 7, 9]),
@@ -69,21 +63,6 @@ fn main() {
     let clock = Instant::now();
     let mut report = Report::default();
     let with_large = setting("NUMOLEFAYS_LARGE", 1) != 0;
-    let with_border = |report: &mut Report, library| {
-        bordered::all(seed, count, with_large, library, report, &|what| step(&clock, what));
-    };
-    match std::env::args().nth(1).as_deref() {
-        None => (),
-        Some("--model") => {
-            with_border(&mut report, false);
-            std::process::exit(of_border_values(&report, count));
-        }
-        Some("--border") => {
-            with_border(&mut report, LIBRARY_HAS_BORDER);
-            std::process::exit(of_border_values(&report, count));
-        }
-        Some(other) => panic!("{other:?} is not known; --model and --border are"),
-    }
     let mut draw = Draw::new(seed);
 
     worked::worked(&mut report);
@@ -171,30 +150,19 @@ fn main() {
     threads::neighbouring_files(seed, count / 40, &mut report);
     step(&clock, "threads");
 
-    if LIBRARY_HAS_BORDER {
-        with_border(&mut report, true);
-    }
+    bordered::all(seed, count, with_large, &mut report, &|what| step(&clock, what));
 
     report.print();
     let mut met = misreadings_shown(&report, "an estimate", misreadings::names())
         & misreadings_shown(&report, "a margin", margin_misreadings::names())
         & orders::print(&shown)
-        & lists::print(&listed);
-    met &= !LIBRARY_HAS_BORDER || misreadings_shown(&report, "the request for border values", bordered::readings());
+        & lists::print(&listed)
+        & misreadings_shown(&report, "the request for border values", bordered::readings());
     if count >= COUNT {
-        met &= all_met(&report, &ANSWERS) & (!LIBRARY_HAS_BORDER || all_met(&report, &bordered::ANSWERS));
+        met &= all_met(&report, &ANSWERS) & all_met(&report, &bordered::ANSWERS);
     }
     println!("{}", report.last_line());
     std::process::exit(if report.differences == 0 && met { 0 } else { 1 });
-}
-
-/// What was seen of tables with border values alone: the exit code.
-fn of_border_values(report: &Report, count: u64) -> i32 {
-    report.print();
-    let shown = misreadings_shown(report, "the request for border values", bordered::readings());
-    let met = count < COUNT || all_met(report, &bordered::ANSWERS);
-    println!("{}", report.last_line());
-    i32::from(report.differences != 0 || !shown || !met)
 }
 
 /// Whether each of these calls was answered with each of these numbers.
@@ -214,7 +182,7 @@ fn step(clock: &Instant, what: &str) {
     println!("{:7.1} s  {what}", clock.elapsed().as_secs_f64());
 }
 
-/// How many calls show each of these wrong readings of an estimate or of a margin; false where none shows one of them.
+/// How many calls show each of these wrong readings; false where none shows one of them.
 fn misreadings_shown(report: &Report, of: &str, names: impl Iterator<Item = &'static str>) -> bool {
     let mut all = true;
     println!("{:22}{:>9}  wrong reading of {of}", "shown by", "calls");
@@ -223,7 +191,7 @@ fn misreadings_shown(report: &Report, of: &str, names: impl Iterator<Item = &'st
         println!("{:22}{times:9}  {reading}", "");
         if times == 0 {
             all = false;
-            println!("estimate: no call shows the reading {reading:?} of {of}");
+            println!("no call shows the wrong reading {reading:?} of {of}");
         }
     }
     all

@@ -1,4 +1,4 @@
-//! The surface is 0 on the border, and no point is reached there.
+//! Without border values the surface is 0 on the border, and no point is reached there.
 
 use super::estimates::answered;
 use super::short;

@@ -1,6 +1,7 @@
 //! The separate code against itself: second ways to what it answers, and tables without border values by the other code.
 
-use super::{listed, said, Desk};
+use super::{said, Desk};
+use crate::checks::short;
 use crate::model::bordered::calls::{Answer, Call, Written};
 use crate::model::bordered::estimates::Seen;
 use crate::model::bordered::grid::{grid, on_border};
@@ -174,7 +175,7 @@ pub fn itself(desk: &mut Desk) {
             axes.try_fold(loaded.clone(), |v, t| model::bordered::turns::forward_of(&grid, &v, t as usize - 1))
         };
         let (up, down) = (turned(Box::new(1..=axes)), turned(Box::new((1..=axes).rev())));
-        let say = || format!("{shape:?} rates {}", listed(&rates));
+        let say = || format!("{shape:?} rates {}", short(&rates));
         desk.report.same(CALL, "axes in the other order", &true, &(up.is_some() && up == down), &say);
     }
 }

@@ -2,7 +2,8 @@
 
 use super::inputs::estimates;
 use super::random::some_turns;
-use super::{listed, walks, Desk};
+use super::{walks, Desk};
+use crate::checks::short;
 use crate::inputs::{self, END};
 use crate::model::bordered::calls::{demand3, Call, Written};
 use crate::model::bordered::grid::grid;
@@ -20,7 +21,7 @@ pub fn all(desk: &mut Desk, with_large: bool) {
             extremes(desk, shape);
         }
     }
-    if with_large && desk.library {
+    if with_large {
         for (axes, level) in [(4, 5), (3, 8), (2, 8), (4, 6)] {
             way(desk, Shape::new(axes, level, 1));
         }
@@ -53,7 +54,7 @@ fn done(desk: &mut Desk, shape: Shape, call: Call) -> Written {
 /// a stop.
 fn way(desk: &mut Desk, shape: Shape) {
     let rates = inputs::rates(&mut desk.draw, shape.count());
-    let say = || format!("{shape:?} rates {}", listed(&rates));
+    let say = || format!("{shape:?} rates {}", short(&rates));
     let loaded = done(desk, shape, Call::Load(rates.clone()));
     let (mut table, mut bits) = (loaded.table.expect("a table"), 0);
     for goal in [shape.all_bits(), 0] {
@@ -90,7 +91,7 @@ fn through_rates(desk: &mut Desk, shape: Shape, rates: &[i64], table: &[i64]) {
         let coordinates: Vec<u32> = at[..shape.axes as usize].iter().map(|&c| u32::from(c) * (END / 512)).collect();
         for call in estimates(shape.all_bits(), table, &coordinates) {
             let found = done(desk, shape, call).numbers[0];
-            let say = || format!("{shape:?} at {coordinates:?} rates {}", listed(rates));
+            let say = || format!("{shape:?} at {coordinates:?} rates {}", short(rates));
             desk.report.same("bordered estimate", "at a point", &(rates[p] << shape.axes), &found, &say);
         }
     }
@@ -121,7 +122,7 @@ fn lists_of_turns(desk: &mut Desk, shape: Shape) {
     let count = desk.draw.index(25);
     let (directions, axes) = some_turns(desk, shape, count);
     let want = demand3(shape, &rates, &directions, &axes);
-    let say = || format!("{shape:?} directions {directions:?} axes {axes:?} rates {}", listed(&rates));
+    let say = || format!("{shape:?} directions {directions:?} axes {axes:?} rates {}", short(&rates));
     for cut in [0, desk.draw.index(count + 1)] {
         let mut now = done(desk, shape, Call::Load(rates.clone()));
         let (mut numbers, mut places) = (vec![], vec![]);

@@ -1,17 +1,16 @@
-//! Tables with border values, change request g: calls on shapes of either sort, each looked at by the separate code alone and,
-//! where the library's boundary has the flag (feature `border`), compared with the library.
+//! Tables with border values, change request g: calls on shapes of either sort, each looked at by the separate code alone and
+//! compared with the library.
 
 pub mod edges;
 pub mod inputs;
 pub mod itself;
 pub mod journeys;
-#[cfg(feature = "border")]
 pub mod library;
 pub mod random;
 pub mod walks;
 pub mod worked;
 
-use super::{answer, short};
+use super::answer;
 use crate::draw::Draw;
 use crate::model::bordered::calls::{Answer, Call};
 use crate::model::bordered::readings::WRONG;
@@ -22,8 +21,6 @@ use crate::report::Report;
 pub struct Desk<'a> {
     pub draw: Draw,
     pub report: &'a mut Report,
-    /// Whether the library is asked as well.
-    pub library: bool,
 }
 
 /// Shapes of more points show no wrong reading that others do not.
@@ -43,7 +40,7 @@ impl Desk<'_> {
             wrong_readings(self.report, shape, call, &want);
         }
         itself::looked_at(self.report, shape, call, &want);
-        self.against(shape, call, &want);
+        library::compare(&mut self.draw, self.report, shape, call, &want);
         want
     }
 
@@ -51,19 +48,7 @@ impl Desk<'_> {
     pub fn walked(&mut self, shape: Shape, call: &Call) {
         let want = call.answer(shape);
         self.report.walked(call.kind(shape));
-        self.against(shape, call, &want);
-    }
-
-    #[cfg(feature = "border")]
-    fn against(&mut self, shape: Shape, call: &Call, want: &Answer) {
-        if self.library {
-            library::compare(&mut self.draw, self.report, shape, call, want);
-        }
-    }
-
-    #[cfg(not(feature = "border"))]
-    fn against(&mut self, _: Shape, _: &Call, _: &Answer) {
-        assert!(!self.library, "the library's boundary has the flag only with the feature `border`");
+        library::compare(&mut self.draw, self.report, shape, call, &want);
     }
 }
 
@@ -82,8 +67,8 @@ pub fn said(shape: Shape, call: &Call) -> String {
 }
 
 /// What there is of all this, in the order in which it is run.
-pub fn all(seed: u64, rounds: u64, with_large: bool, library: bool, report: &mut Report, step: &dyn Fn(&str)) {
-    let mut desk = Desk { draw: Draw::new(seed ^ 0x626f_7264_6572_6564), report, library };
+pub fn all(seed: u64, rounds: u64, with_large: bool, report: &mut Report, step: &dyn Fn(&str)) {
+    let mut desk = Desk { draw: Draw::new(seed ^ 0x626f_7264_6572_6564), report };
     worked::worked(&mut desk);
     itself::itself(&mut desk);
     step("border values: worked tables, and the separate code with itself");
@@ -96,7 +81,7 @@ pub fn all(seed: u64, rounds: u64, with_large: bool, library: bool, report: &mut
     for round in 0..rounds / 4 {
         random::round(&mut desk, round);
     }
-    let threads: Vec<Report> = random::in_threads(seed, rounds / 80, library);
+    let threads: Vec<Report> = random::in_threads(seed, rounds / 80);
     threads.into_iter().for_each(|of_thread| desk.report.merge(of_thread));
     step("border values: random inputs, and in four threads");
 }
@@ -123,9 +108,4 @@ pub const ANSWERS: [(&str, &[u32]); 15] = [
 /// The names of the wrong readings.
 pub fn readings() -> impl Iterator<Item = &'static str> {
     WRONG.iter().map(|reading| reading.name)
-}
-
-/// A list for a message.
-fn listed(list: &[i64]) -> String {
-    short(list)
 }

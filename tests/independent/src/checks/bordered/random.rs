@@ -22,10 +22,10 @@ pub fn round(desk: &mut Desk, round: u64) {
 }
 
 /// Rounds in four threads at once, each with tables of its own.
-pub fn in_threads(seed: u64, rounds: u64, library: bool) -> Vec<Report> {
+pub fn in_threads(seed: u64, rounds: u64) -> Vec<Report> {
     let of_thread = |k: u64| {
         let mut report = Report::default();
-        let mut desk = Desk { draw: Draw::new(seed ^ (k << 32)), report: &mut report, library };
+        let mut desk = Desk { draw: Draw::new(seed ^ (k << 32)), report: &mut report };
         (0..rounds).for_each(|round_of_thread| round(&mut desk, round_of_thread));
         report
     };

@@ -18,7 +18,7 @@ pub fn all(desk: &mut Desk, with_large: bool) {
         let flag = super::inputs::flag(&mut desk.draw);
         walk(desk, Shape::new(axes, level, flag));
     }
-    if with_large && desk.library {
+    if with_large {
         for (axes, level) in [(4, 5), (3, 8), (4, 8)] {
             walk(desk, Shape::new(axes, level, 1));
         }
