@@ -1,5 +1,6 @@
-//! Documents 01 and 02 once more, by other means: a point is its coordinates, a table is a map from coordinates to wide
-//! integers, sums run over all points, and what a paper defines by a condition is solved and then put to the condition.
+//! Documents 01 and 02 written once more, by other means than the library's: a point is its coordinates, a table is a map from
+//! coordinates to wide integers, sums run over all points, and what a paper defines by a condition is solved and then put to
+//! the condition.
 //!
 //! Nothing here is fast, and nothing here is taken from the library or its papers' algorithms.
 

@@ -1,6 +1,6 @@
-//! Change request g once more: tables with border values beside those without, by one rule. A point is its coordinates, on
-//! each axis one of the grid, or with the flag 0 or 1; points are found by searching coordinates, numbered by sorting, and
-//! have for neighbours what stands at the coordinates beside. What a face is, only the order of the points asks.
+//! Change request g by the same means: tables with border values and those without, by one rule. A point is its coordinates,
+//! on each axis one inside the grid, or with the flag also 0 or 1. Points are found by searching coordinates and numbered by
+//! sorting; their neighbours are what stands at the coordinates beside. What a face is, only the order of the points asks.
 
 pub mod calls;
 pub mod estimates;
