@@ -15,3 +15,4 @@ pub mod Row
 pub mod FaceByFace
 pub mod FacesDown
 pub mod FacesUp
+pub mod OnFaces
