@@ -153,10 +153,27 @@ fn all_blocks<D: Direction>(
     odd
 }
 
+// Block after block, with the runs as wide as they are: `all_blocks` is compiled for single points too. (Without that, turns at (2, 8) take 37 instructions for
+// each point and axis in place of 21.)
+#[inline(always)]
+fn sized_blocks<D: Direction>(
+    v: Subspace,
+    starts: &[u64; 9],
+    rims: Option<Rims>,
+    table: &mut [i64],
+) -> u64
+    requires { Below v starts.now × TableOf v.facet.line.shape (2 ^ 61) table.old × (rims ≡ rims_of v) × (rims ≡ None → 1 ≤ v.own) }
+    ensures { Stepped D.ahead v.facet.line.shape v.facet.line.place v.start v.end table.old result table.new }
+{
+    if v.low == 0 {
+        return all_blocks::<D>(v, starts, rims, table, 1);
+    }
+    all_blocks::<D>(v, starts, rims, table, 1 << v.low)
+}
+
 // A step at each point of a level list, forward or back; answers how many of the sums are odd. Where the list has level 0 on the axis and nothing lies across the
 // border, nothing moves. In a turn that has come so far, the list's points then hold what the whole turn leaves them, and no other place changes. (What lies
-// across the border, whether the runs are single points, and whether a block of them is a pair is asked once for a list: `all_blocks` is compiled for each.
-// Without that, turns at (2, 8) take 37 instructions for each point and axis in place of 21.)
+// across the border, and whether a block is two runs, is asked once for a list: the blocks are compiled for each.)
 #[inline(always)]
 pub fn work<D: Direction>(v: Subspace, starts: &[u64; 9], table: &mut [i64]) -> u64
     requires { Below v starts.now × TableOf v.facet.line.shape (2 ^ 61) table.old }
@@ -165,18 +182,15 @@ pub fn work<D: Direction>(v: Subspace, starts: &[u64; 9], table: &mut [i64]) -> 
     ensures turned { (xs : List ℤ) → length xs ≡ length table.old → table.old ≡ came_to D.ahead v.facet.line.shape v.facet.line.place v.facet.base v.facet.axes (at v.vector.levels) xs → ListTurned D.ahead v.facet.line.shape v.facet.line.place v.facet.base v.facet.axes (at v.vector.levels) xs table.old table.new }
 {
     match v.rims {
-        Some(rims) => all_blocks::<D>(v, starts, Some(rims), table, 1 << v.low),
+        Some(rims) => sized_blocks::<D>(v, starts, Some(rims), table),
         None => {
             if v.own == 0 {
                 return 0;
             }
-            if v.low == 0 {
-                if v.own == 1 {
-                    return all_blocks::<D>(v, starts, None, table, 1);
-                }
-                return all_blocks::<D>(v, starts, None, table, 1);
+            if v.own == 1 {
+                return sized_blocks::<D>(v, starts, None, table);
             }
-            all_blocks::<D>(v, starts, None, table, 1 << v.low)
+            sized_blocks::<D>(v, starts, None, table)
         }
     }
 }
