@@ -56,9 +56,6 @@ module _ (line : Line) (on : line.shape.border ≡ true) (f : ℕ) (in_row : f <
 
   -- Where it is an inner axis.
   module _ (facet : Facet) (is : FacetOf line f (Some facet)) where
-    pub facet_line : facet.line ≡ line
-    facet_line = is.1
-
     pub starts_at : facet.base ≡ lo
     starts_at = is.3
 

@@ -34,7 +34,7 @@ use Rattle.neighbours.proofs.Faces.{face_apart}
 use Rattle.lists.specs.Lists.{odd_at, odd_sums, whole_turn, turned_between}
 use Rattle.lists.proofs.Turned.{still_turn}
 use Rattle.sweeps.proofs.Parted.{Parted, all_parted, list_parted}
-use Rattle.sweeps.proofs.Odds.{odds_none, same_growth}
+use Rattle.sweeps.proofs.Odds.{odds_none, same_growth, same_odd}
 use Rattle.sweeps.proofs.Standing.{face_end}
 
 pub turn_long : (ahead : Bool) (s : Shape) (t : ℕ) (xs : List ℤ) → length (whole_turn ahead s t xs) ≡ points_of s
@@ -84,12 +84,6 @@ module _ (line : Line) (plain : line.shape.border ≡ false) (xs : List ℤ) (lo
       odd ≡ odd_sums line.shape line.place table (points_of line.shape)
   all_odds table odd counted =
       omega (arith, counted, odds_none line.shape line.place table, ap (odd_sums line.shape line.place table) whole_end)
-
--- Sums of parents that hold the same are odd together.
-pub same_odd : (s : Shape) (t : ℕ) (xs ys : List ℤ) (p : ℕ) → ((b : Side) → value_at xs (neighbour s t b (suc p)) ≡ value_at ys (neighbour s t b (suc p))) →
-    odd_at s t xs p ≡ odd_at s t ys p
-unfolding odd_at sum_on
-same_odd s t xs ys p same = ap₂ (λ (a b : ℤ). odd_of (a +ℤ b)) (same Left) (same Right)
 
 -- Where a face is done by a back turn, its odd sums are those of the result.
 module _ (facet : Facet) (xs ys : List ℤ) (long : length xs ≡ points_of facet.line.shape)

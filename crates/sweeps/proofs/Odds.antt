@@ -10,6 +10,7 @@ use Rattle.naturals.proofs.Cases.{le_or_lt}
 use Rattle.naturals.proofs.Sums.{sum_to_zero, sum_to_suc}
 use Rattle.integers.specs.Half.{odd_of}
 use Rattle.integers.proofs.Steps.{odd_small}
+use Rattle.numbering.specs.declared.Side.{Side}
 use Rattle.numbering.specs.declared.Side.TheVariants.{Left, Right}
 use Rattle.hierarchy.specs.Turns.{value_at, sum_on}
 use Rattle.shapes.specs.declared.Shape.{Shape}
@@ -60,18 +61,18 @@ same_growth s t xs ys lo (suc hi) le same =
       same_growth s t xs ys lo hi (omega arith) (λ p from to. same p from (omega arith)),
     ))
 
+-- Sums of parents that hold the same are odd together.
+pub same_odd : (s : Shape) (t : ℕ) (xs ys : List ℤ) (p : ℕ) → ((b : Side) → value_at xs (neighbour s t b (suc p)) ≡ value_at ys (neighbour s t b (suc p))) →
+    odd_at s t xs p ≡ odd_at s t ys p
+unfolding odd_at sum_on
+same_odd s t xs ys p same = ap₂ (λ (a b : ℤ). odd_of (a +ℤ b)) (same Left) (same Right)
+
 -- ---- a level list
 
 module _ (v : Subspace) (xs ys : List ℤ)
     (same : (code : ℕ) → Apart (neighbour v.facet.line.shape) v.facet.line.place v.facet.base v.start v.end code → value_at xs code ≡ value_at ys code) where
-  same_odd : (p : ℕ) → v.start ≤ p → p < v.end → odd_at v.facet.line.shape v.facet.line.place xs p ≡ odd_at v.facet.line.shape v.facet.line.place ys p
-  unfolding odd_at sum_on
-  same_odd p from to =
-      ap₂ (λ (a b : ℤ). odd_of (a +ℤ b))
-      (same _ (beside_apart (seen v) p from to Left))
-      (same _ (beside_apart (seen v) p from to Right))
-
   pub list_odds : (k : ℕ) → odd_sums v.facet.line.shape v.facet.line.place ys v.start + k ≡ odd_sums v.facet.line.shape v.facet.line.place ys v.end →
       odd_sums v.facet.line.shape v.facet.line.place xs v.start + k ≡ odd_sums v.facet.line.shape v.facet.line.place xs v.end
   list_odds k counted =
-      omega (arith, counted, same_growth v.facet.line.shape v.facet.line.place xs ys v.start v.end (omega (arith, (seen v).end)) same_odd)
+      omega (arith, counted, same_growth v.facet.line.shape v.facet.line.place xs ys v.start v.end (omega (arith, (seen v).end))
+          (λ p from to. same_odd v.facet.line.shape v.facet.line.place xs ys p (λ b. same _ (beside_apart (seen v) p from to b))))

@@ -26,8 +26,7 @@ use Rattle.lists.specs.Lists.{odd_at, odd_sums, whole_turn, turned_between}
 use Rattle.lists.proofs.Turned.{still_turn}
 use Rattle.lists.proofs.Faces.{turn_agrees}
 use Rattle.sweeps.proofs.Parted.{Parted, list_parted, moved_down, moved_up}
-use Rattle.sweeps.proofs.Odds.{odds_suc, same_growth}
-use Rattle.sweeps.proofs.Faces.{same_odd}
+use Rattle.sweeps.proofs.Odds.{odds_suc, same_growth, same_odd}
 
 -- What does not move holds in every part of the turn what it held.
 pub still_same : (ahead : Bool) (s : Shape) (t : ℕ) {lo hi : ℕ} {xs ys : List ℤ} → length xs ≡ points_of s →
