@@ -15,6 +15,7 @@ pub struct Starts {
 
 impl Starts {
     // The starts of a face, each from the one before. (Asked of `Rows::start`, which adds them up from 0, a turn at (1, 3) takes 7 of 100 instructions more.)
+    #[inline(always)]
     pub fn of(facet: Facet) -> Starts
         ensures { result.facet ≡ facet }
     {

@@ -19,7 +19,7 @@ use vectors::LevelVector;
 // ---- one face
 
 // The points of a face as the forward turn of the table leaves them, whether or not it is accepted: the level lists from the last down. Answers how many sums were
-// odd.
+// odd. (Compiled into both its callers: whether anything lies across the border is known there, and not asked at each level list.)
 #[inline(always)]
 pub fn lower_face(facet: Facet, table: &mut [i64]) -> u64
     requires { TableOf facet.line.shape (2 ^ 60) table.old }
@@ -49,7 +49,7 @@ pub fn lower_face(facet: Facet, table: &mut [i64]) -> u64
 }
 
 // The points of a face as they are in the table that a forward turn takes to this one, whether or not that turn is accepted: the level lists from the first up.
-// Answers how many sums were odd.
+// Answers how many sums were odd. (Compiled into both its callers as well.)
 // (A loop of its own: here the cursors step on after the work on a list, there they step back before it; shared would be the work and the count alone.)
 #[inline(always)]
 pub fn raise_face(facet: Facet, table: &mut [i64]) -> u64
