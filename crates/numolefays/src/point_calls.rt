@@ -9,7 +9,13 @@ ghost use Rattle.answers.specs.Answers.{shape_of, side_of, of_value, of_point, o
 
 // How many points the shape has.
 #[unsafe(no_mangle)]
-pub extern "C" fn numolefays_count(axes: u32, level: u32, border: u8, points: &mut u64, place: &mut u64) -> u32
+pub extern "C" fn numolefays_count(
+    axes: u32,
+    level: u32,
+    border: u8,
+    points: &mut u64,
+    place: &mut u64,
+) -> u32
     ensures { returned result place.new points.new ≡ of_value points.old (counted (shape_of axes level border)) }
 {
     let answer = answers::shape_of(axes, level, border).count();
@@ -30,7 +36,12 @@ pub extern "C" fn numolefays_number_of_point(
 ) -> u32
     ensures { returned result place.new number.new ≡ of_value number.old (number_of_point (shape_of axes level border) marks.now levels.now indices.now) }
 {
-    let answer = numbers::number_of_point(answers::shape_of(axes, level, border), marks, levels, indices);
+    let answer = numbers::number_of_point(
+        answers::shape_of(axes, level, border),
+        marks,
+        levels,
+        indices,
+    );
     answers::hand(answer, number, place)
 }
 
@@ -69,7 +80,12 @@ pub extern "C" fn numolefays_successor(
 ) -> u32
     ensures { returned result place.new (next_marks.new, next_levels.new, next_indices.new, end.new) ≡ of_located (next_marks.old, next_levels.old, next_indices.old, end.old) (successor_of (shape_of axes level border) marks.now levels.now indices.now) }
 {
-    let answer = successor::successor(answers::shape_of(axes, level, border), marks, levels, indices);
+    let answer = successor::successor(
+        answers::shape_of(axes, level, border),
+        marks,
+        levels,
+        indices,
+    );
     answers::hand_located(answer, next_marks, next_levels, next_indices, end, place)
 }
 
@@ -94,5 +110,12 @@ pub extern "C" fn numolefays_parent(
 {
     let shape = answers::shape_of(axes, level, border);
     let answer = parents::parent(shape, marks, levels, indices, axis, answers::side_of(side));
-    answers::hand_located(answer, parent_marks, parent_levels, parent_indices, none, place)
+    answers::hand_located(
+        answer,
+        parent_marks,
+        parent_levels,
+        parent_indices,
+        none,
+        place,
+    )
 }

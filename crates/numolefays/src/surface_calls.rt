@@ -19,7 +19,11 @@ pub extern "C" fn numolefays_estimate(
 ) -> u32
     ensures { returned result place.new estimate.new ≡ of_value estimate.old (surface.estimate (state_of axes level border forward) table.now coordinates.now) }
 {
-    let answer = estimates::estimate(answers::state_of(axes, level, border, forward), table, coordinates);
+    let answer = estimates::estimate(
+        answers::state_of(axes, level, border, forward),
+        table,
+        coordinates,
+    );
     answers::hand(answer, estimate, place)
 }
 

@@ -18,7 +18,11 @@ pub extern "C" fn numolefays_forward(
 ) -> u32
     ensures { returned result place.new (forward.new, table.new) ≡ of_after forward.old (forward_turn (state_of axes level border forward.old) table.old axis) }
 {
-    let answer = turns::hierarchize(answers::state_of(axes, level, border, *forward), table, axis);
+    let answer = turns::hierarchize(
+        answers::state_of(axes, level, border, *forward),
+        table,
+        axis,
+    );
     answers::hand_state(answer, forward, place)
 }
 
@@ -35,7 +39,11 @@ pub extern "C" fn numolefays_back(
 ) -> u32
     ensures { returned result place.new (forward.new, table.new) ≡ of_after forward.old (back_turn (state_of axes level border forward.old) table.old axis) }
 {
-    let answer = turns::dehierarchize(answers::state_of(axes, level, border, *forward), table, axis);
+    let answer = turns::dehierarchize(
+        answers::state_of(axes, level, border, *forward),
+        table,
+        axis,
+    );
     answers::hand_state(answer, forward, place)
 }
 

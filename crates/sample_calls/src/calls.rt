@@ -214,7 +214,11 @@ fn call(
         b'N' => numbered(out, numbers::number_of_point(shape, marks, levels, indices))?,
         b'O' => ordered(out, compare_levels(padded(levels), padded(indices)))?,
         b'P' => located(out, numbers::point_of_number(shape, x).map(Some), b' ')?,
-        b'S' => located(out, successor::successor(shape, marks, levels, indices), b'e')?,
+        b'S' => located(
+            out,
+            successor::successor(shape, marks, levels, indices),
+            b'e',
+        )?,
         b'U' => judged(out, tables::unload(state, table))?,
         b'V' => judged(out, whole::rates_to_coefficients(shape, table))?,
         b'W' => judged(out, whole::coefficients_to_rates(shape, table))?,

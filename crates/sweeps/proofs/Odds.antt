@@ -74,5 +74,9 @@ module _ (v : Subspace) (xs ys : List ℤ)
   pub list_odds : (k : ℕ) → odd_sums v.facet.line.shape v.facet.line.place ys v.start + k ≡ odd_sums v.facet.line.shape v.facet.line.place ys v.end →
       odd_sums v.facet.line.shape v.facet.line.place xs v.start + k ≡ odd_sums v.facet.line.shape v.facet.line.place xs v.end
   list_odds k counted =
-      omega (arith, counted, same_growth v.facet.line.shape v.facet.line.place xs ys v.start v.end (omega (arith, (seen v).end))
-          (λ p from to. same_odd v.facet.line.shape v.facet.line.place xs ys p (λ b. same _ (beside_apart (seen v) p from to b))))
+      omega (
+        arith,
+        counted,
+        same_growth v.facet.line.shape v.facet.line.place xs ys v.start v.end (omega (arith, (seen v).end))
+            (λ p from to. same_odd v.facet.line.shape v.facet.line.place xs ys p (λ b. same _ (beside_apart (seen v) p from to b))),
+      )

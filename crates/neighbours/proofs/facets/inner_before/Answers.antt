@@ -20,6 +20,6 @@ loop-t-preserved c =
     let m = at c.args.marks.now in
     let t = c.loop-t.t in
     elim c.if-marks-t-eq0.branch [
-    then-marks-t-eq0 w ↦ rw add-one (omega (arith, w.inner-is, c.loop-t.invariant, before_inner m t (omega (arith, w.if-marks-t-eq0.true))))
-    | else-marks-t-eq0 w ↦ rw add-one (omega (arith, w.inner-is, c.loop-t.invariant, before_border m t (omega (arith, w.if-marks-t-eq0.false))))
+      | then-marks-t-eq0 w ↦ rw add-one (omega (arith, w.inner-is, c.loop-t.invariant, before_inner m t (omega (arith, w.if-marks-t-eq0.true))))
+      | else-marks-t-eq0 w ↦ rw add-one (omega (arith, w.inner-is, c.loop-t.invariant, before_border m t (omega (arith, w.if-marks-t-eq0.false))))
     ]
