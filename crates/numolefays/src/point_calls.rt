@@ -36,12 +36,8 @@ pub extern "C" fn numolefays_number_of_point(
 ) -> u32
     ensures { returned result place.new number.new ≡ of_value number.old (number_of_point (shape_of axes level border) marks.now levels.now indices.now) }
 {
-    let answer = numbers::number_of_point(
-        answers::shape_of(axes, level, border),
-        marks,
-        levels,
-        indices,
-    );
+    let shape = answers::shape_of(axes, level, border);
+    let answer = numbers::number_of_point(shape, marks, levels, indices);
     answers::hand(answer, number, place)
 }
 

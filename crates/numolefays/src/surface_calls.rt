@@ -19,11 +19,8 @@ pub extern "C" fn numolefays_estimate(
 ) -> u32
     ensures { returned result place.new estimate.new ≡ of_value estimate.old (surface.estimate (state_of axes level border forward) table.now coordinates.now) }
 {
-    let answer = estimates::estimate(
-        answers::state_of(axes, level, border, forward),
-        table,
-        coordinates,
-    );
+    let state = answers::state_of(axes, level, border, forward);
+    let answer = estimates::estimate(state, table, coordinates);
     answers::hand(answer, estimate, place)
 }
 

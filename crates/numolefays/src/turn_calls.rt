@@ -18,11 +18,8 @@ pub extern "C" fn numolefays_forward(
 ) -> u32
     ensures { returned result place.new (forward.new, table.new) ≡ of_after forward.old (forward_turn (state_of axes level border forward.old) table.old axis) }
 {
-    let answer = turns::hierarchize(
-        answers::state_of(axes, level, border, *forward),
-        table,
-        axis,
-    );
+    let state = answers::state_of(axes, level, border, *forward);
+    let answer = turns::hierarchize(state, table, axis);
     answers::hand_state(answer, forward, place)
 }
 
@@ -39,11 +36,8 @@ pub extern "C" fn numolefays_back(
 ) -> u32
     ensures { returned result place.new (forward.new, table.new) ≡ of_after forward.old (back_turn (state_of axes level border forward.old) table.old axis) }
 {
-    let answer = turns::dehierarchize(
-        answers::state_of(axes, level, border, *forward),
-        table,
-        axis,
-    );
+    let state = answers::state_of(axes, level, border, *forward);
+    let answer = turns::dehierarchize(state, table, axis);
     answers::hand_state(answer, forward, place)
 }
 
