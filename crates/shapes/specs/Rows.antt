@@ -1,11 +1,16 @@
--- A table that holds the binomials: row d − 1, column j has the count of the level vectors of d axes with the level sum j.
+-- Tables that counts are read from: a row for each number of axes d, the row d − 1.
 -- Assumes nothing.
 use Rattle.std.specs.Prelude.{◌≡◌, List, [], ℕ, ◌-◌, ◌≤◌, get_or}
-use Rattle.numbering.specs.Count.{vectors}
+use Rattle.numbering.specs.Count.{vectors, start}
 
 -- What a table has in a row and a column.
 abbrev pub entry : List (List ℕ) → ℕ → ℕ → ℕ
 entry rows row column = get_or (get_or rows row []) column 0
 
+-- The binomials: column j has the count of the level vectors of d axes with the level sum j.
 pub record Binomials (rows : List (List ℕ)) : Type 0 where
   pub holds : (d j : ℕ) → 1 ≤ d → d ≤ 8 → j ≤ 8 → entry rows (d - 1) j ≡ vectors d j
+
+-- Their running sums: column s has the count of the points of d axes with a level sum below s.
+pub record Starts (rows : List (List ℕ)) : Type 0 where
+  pub holds : (d s : ℕ) → 1 ≤ d → d ≤ 8 → s ≤ 9 → entry rows (d - 1) s ≡ start d s

@@ -8,7 +8,7 @@ ghost use Rattle.numbering.specs.Count.{vectors, start, points};
 ghost use Rattle.faces.specs.Faces.{faces};
 ghost use Rattle.faces.specs.Marked.{layer, border_points};
 ghost use Rattle.shapes.specs.Shapes.{sparse, most_axes, check_shape, check_axis, points_of, check_length, counted};
-ghost use Rattle.shapes.specs.Rows.{Binomials};
+ghost use Rattle.shapes.specs.Rows.{Binomials, Starts};
 
 use refusals::Refusal;
 
@@ -33,6 +33,18 @@ const ROWS: [[u16; 9]; 8] = [
     [1, 6, 21, 56, 126, 252, 462, 792, 1287],
     [1, 7, 28, 84, 210, 462, 924, 1716, 3003],
     [1, 8, 36, 120, 330, 792, 1716, 3432, 6435],
+];
+
+// How many points of d axes have a level sum below s: a row for each d from 1 to 8, s from 0 to 9.
+const STARTS: [[u32; 10]; 8] = [
+    [0, 1, 3, 7, 15, 31, 63, 127, 255, 511],
+    [0, 1, 5, 17, 49, 129, 321, 769, 1793, 4097],
+    [0, 1, 7, 31, 111, 351, 1023, 2815, 7423, 18943],
+    [0, 1, 9, 49, 209, 769, 2561, 7937, 23297, 65537],
+    [0, 1, 11, 71, 351, 1471, 5503, 18943, 61183, 187903],
+    [0, 1, 13, 97, 545, 2561, 10625, 40193, 141569, 471041],
+    [0, 1, 15, 127, 799, 4159, 18943, 78079, 297727, 1066495],
+    [0, 1, 17, 161, 1121, 6401, 31745, 141569, 580865, 2228225],
 ];
 
 // A shape that the check passes: 1 to 8 axes, no more than its sort may have, and a top level of at most 8.
@@ -98,16 +110,21 @@ impl Shape {
     }
 }
 
-// The constant rows of binomials, which the counts are read from: built once and lent to what reads it.
+// The two constant tables that counts are read from, lent. (A constant that is named without `&` is built on the stack each time.)
 #[derive(Clone, Copy)]
 pub struct Rows {
-    entries: [[u16; 9]; 8],
-    ghost binomials: { Binomials entries },
+    binomials: &'static [[u16; 9]; 8],
+    starts: &'static [[u32; 10]; 8],
+    ghost right: { Binomials binomials.now },
+    ghost added: { Starts starts.now },
 }
 
 impl Rows {
     pub fn new() -> Rows {
-        Rows { entries: ROWS }
+        Rows {
+            binomials: &ROWS,
+            starts: &STARTS,
+        }
     }
 
     // How many level vectors of these axes have this level sum.
@@ -115,19 +132,15 @@ impl Rows {
         requires { (1 ≤ axes) × (axes ≤ 8) × (sum ≤ 8) }
         ensures { result ≡ vectors axes sum }
     {
-        u64::from(self.entries[(axes - 1) as usize][sum as usize])
+        u64::from(self.binomials[(axes - 1) as usize][sum as usize])
     }
 
-    // How many points of these axes have a level sum below this one. (A `for` shows of each turn that the total fits; std's `sum` asks it of the whole beforehand.)
+    // How many points of these axes have a level sum below this one.
     pub fn start(&self, axes: u32, sum: u32) -> u64
         requires { (1 ≤ axes) × (axes ≤ 8) × (sum ≤ 9) }
         ensures { result ≡ start axes sum }
     {
-        let mut total: u64 = 0;
-        for j in 0..sum {
-            total += self.vectors(axes, j) << j;
-        }
-        total
+        u64::from(self.starts[(axes - 1) as usize][sum as usize])
     }
 
     // How many points a sparse table of these axes has: without axes one.
