@@ -110,7 +110,7 @@ module _ {facet : Facet} {vector : LevelVector} (s : Standing facet vector) (vec
     next_standing more =
         record { same = stepped.0 ∙ s.same; low = sum_inside next.vector facet.line.shape.level (omega (arith, next.first, more)) }
 
--- ---- the one that the last point lies in
+-- ---- the last
 
 -- The number after the last point of a face.
 abbrev pub face_end : Facet → ℕ
@@ -121,34 +121,10 @@ module _ (facet : Facet) where
   pub some_place : 1 ≤ points facet.axes facet.line.shape.level
   some_place = some_points facet.axes facet.line.shape.level (omega (arith, facet.inner))
 
-  module _ (vector : LevelVector) (last : ℕ) (last_is : suc last ≡ points facet.axes facet.line.shape.level) (same : vector.axes ≡ facet.axes)
-      (sum_is : vector.sum ≡ sum_at facet.axes facet.line.shape.level last)
-      (levels_are : vector.levels ≡ eight (level_at facet.axes facet.line.shape.level last)) where
-    inside : last < points facet.axes facet.line.shape.level
-    inside = omega (arith, last_is)
-
-    here : VectorIn facet.axes vector.sum vector.levels
-    here = rw same at vector.vector
-
-    whole : at vector.levels ≡ level_at facet.axes facet.line.shape.level last
-    whole = ap at levels_are ∙ eight_whole _ (λ u h. level_zero facet.axes facet.line.shape.level last u (omega (arith, facet.few)))
-
-    behind : first_of facet.axes (at vector.levels) + within facet.axes facet.line.shape.level last % 2 ^ vector.sum ≡ last
-    behind = rw (whole, sum_is) (number_behind_first facet.axes facet.line.shape.level last inside)
-
+  -- It ends with the last list of the top level.
+  module _ (vector : LevelVector) (last : (vector.axes ≡ facet.axes) × (vector.sum ≡ facet.line.shape.level) × (suc (rank (at vector.levels) facet.axes) ≡ vectors facet.axes facet.line.shape.level)) where
     pub last_standing : Standing facet vector
-    last_standing = record { same = same; low = sum_inside here facet.line.shape.level (omega (arith, behind, inside)) }
+    last_standing = record { same = last.0; low = omega (arith, last.1) }
 
-    -- It ends with the last point, so it is the last of the top level.
-    pub last_of_face : (vector.sum ≡ facet.line.shape.level) × (suc (rank (at vector.levels) facet.axes) ≡ vectors facet.axes vector.sum)
-    last_of_face =
-        last_of_all facet.axes (omega (arith, facet.inner)) vector.sum (rank (at vector.levels) facet.axes) (rank_in here) facet.line.shape.level last_standing.low
-        (omega (
-          arith,
-          behind,
-          mod-lt (within facet.axes facet.line.shape.level last) (pow_pos vector.sum),
-          end_inside last_standing,
-          first_at_lem here,
-          points_is facet.axes facet.line.shape.level,
-          last_is,
-        ))
+    pub last_of_face : suc (rank (at vector.levels) facet.axes) ≡ vectors facet.axes vector.sum
+    last_of_face = last.2 ∙ ap (vectors facet.axes) (sym last.1)

@@ -29,8 +29,7 @@ pub fn lower_face(facet: Facet, table: &mut [i64]) -> u64
 {
     let starts = Starts::of(facet);
     let mut start = starts.end();
-    let last = start - facet.base - 1;
-    let mut vector = numbers::vector_at(facet.axes, facet.line.shape.level, last).vector;
+    let mut vector = LevelVector::last(facet.axes, facet.line.shape.level);
     let mut cursors = starts.after_last(vector.sum);
     let mut odd: u64 = 0;
     loop {

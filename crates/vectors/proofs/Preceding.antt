@@ -149,7 +149,7 @@ module _ (d v : ℕ) (some : 1 ≤ d) (fits : d ≤ 8) where
       ∙ sum_last (at (last_of d v)) (d - 1) last_zeros
       ∙ get_or-set_same (first 0) (d - 1) v 0 (omega arith)
 
-  last_vector : VectorIn d v (last_of d v)
+  pub last_vector : VectorIn d v (last_of d v)
   last_vector =
       record {
         long = length-set (first 0) (d - 1) v;
@@ -157,7 +157,7 @@ module _ (d v : ℕ) (some : 1 ≤ d) (fits : d ≤ 8) where
         rest = λ t h. last_other t (λ e. omega arith);
       }
 
-  last_rank_lem : suc (rank (at (last_of d v)) d) ≡ vectors d v
+  pub last_rank_lem : suc (rank (at (last_of d v)) d) ≡ vectors d v
   last_rank_lem = rw whole at (rank_last (at (last_of d v)) (d - 1) last_zeros) ∙ ap (vectors d) last_total
 
 module _ {d sum : ℕ} {ls : List ℕ} {k : ℕ} (some : 1 ≤ d) (fits : d ≤ 8) (here : VectorIn d sum ls) (flat : Flat d ls k) (whole : d ≤ k) where

@@ -1,11 +1,12 @@
 // Level vectors (document 01: level lists), eight levels: their sum, their order, and the next and the one before, in place.
 #![tactic(auto)]
 
-ghost use Rattle.std.specs.Prelude.{ℕ, ◌≡◌, ◌^◌, ◌≤◌, ◌<◌, length};
+ghost use Rattle.std.specs.Prelude.{ℕ, suc, ◌≡◌, ◌^◌, ◌≤◌, ◌<◌, length};
 ghost use Rattle.naturals.specs.Sum.{sum_to};
 ghost use Rattle.std.specs.declared.cmp.Ordering.TheVariants.{Equal};
 ghost use Rattle.numbering.specs.Point.{at};
-ghost use Rattle.numbering.specs.Number.{first_of};
+ghost use Rattle.numbering.specs.Count.{vectors};
+ghost use Rattle.numbering.specs.Number.{rank, first_of};
 ghost use Rattle.numbering.specs.Order.{order_of_levels};
 ghost use Rattle.vectors.specs.Steps.{VectorIn, NextVector, PreviousVector};
 
@@ -71,6 +72,16 @@ impl LevelVector {
             sum: 0,
             levels: [0; 8],
         }
+    }
+
+    // The last of these axes and this sum: all of it on the last axis.
+    pub fn last(axes: u32, sum: u32) -> LevelVector
+        requires { (1 ≤ axes) × (axes ≤ 8) }
+        ensures { (result.axes ≡ axes) × (result.sum ≡ sum) × (suc (rank (at result.levels) axes) ≡ vectors axes sum) }
+    {
+        let mut levels = [0u32; 8];
+        levels[axes as usize - 1] = sum;
+        LevelVector { axes, sum, levels }
     }
 
     // The one of these levels.

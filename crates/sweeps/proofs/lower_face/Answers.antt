@@ -10,7 +10,7 @@ use Rattle.sweeps.proofs.Ranks.{Follows}
 use Rattle.sweeps.proofs.Standing.{face_end, rank_in, previous_follows, previous_standing, some_place, last_standing, last_of_face, vector_in}
 use Rattle.sweeps.proofs.Meeting.{met}
 use Rattle.sweeps.proofs.Lowering.{Lowering, lowering_starts, lowering_room, lowering_few, lowering_next, lowering_turned, lowering_odds, lowering_walked, lowering_first, lowering_worked}
-use Rattle.sweeps.proofs.lower_face.Goals.{After-end-start, After-vector_at, After-work-odd, After-previous}
+use Rattle.sweeps.proofs.lower_face.Goals.{After-end-start, After-work-odd, After-previous}
 use Rattle.sweeps.proofs.lower_face.Goals as goal
 
 -- ---- before the loop
@@ -19,39 +19,23 @@ use Rattle.sweeps.proofs.lower_face.Goals as goal
 ends : (c : After-end-start) → c.end-start.result ≡ face_end c.args.facet
 ends c = rw c.of-starts.ensures at c.end-start.ensures
 
-pub overflow_sub-last-2 : goal.overflow_sub-last-2
-overflow_sub-last-2 c = omega (arith, ends (goal.at.overflow_sub-last-2 c).After-end-start, some_place c.args.facet)
-
-pub vector_at-requires : goal.vector_at-requires
-vector_at-requires c =
-    let facet = c.args.facet in (
-      omega (arith, facet.inner),
-      facet.few,
-      facet.line.top,
-      omega (arith, ends (goal.at.vector_at-requires c).After-end-start, some_place facet),
-    )
-
--- The last of its level lists.
-last : (c : After-vector_at) → suc (c.end-start.result - c.args.facet.base - 1) ≡ points c.args.facet.axes c.args.facet.line.shape.level
-last c = omega (arith, ends (goal.at.After-vector_at c).After-end-start, some_place c.args.facet)
+pub last-vector-requires : goal.last-vector-requires
+last-vector-requires c =
+    let facet = c.args.facet in
+    (omega (arith, facet.inner), facet.few)
 
 pub after_last-cursors-requires : goal.after_last-cursors-requires
-after_last-cursors-requires c =
-    let got = c.vector_at.ensures in
-    let here = last (goal.at.after_last-cursors-requires c).After-vector_at in
-    rw c.of-starts.ensures (last_standing c.args.facet c.vector_at.result.vector _ here got.0 got.1 got.2).low
+after_last-cursors-requires c = rw c.of-starts.ensures (last_standing c.args.facet c.last-vector.result c.last-vector.ensures).low
 
 pub loop-start-init : goal.loop-start-init
 loop-start-init c =
     let facet = c.args.facet in
-    let vector = c.vector_at.result.vector in
-    let got = c.vector_at.ensures in
-    let seen = goal.at.loop-start-init c in
-    let here = last seen.After-vector_at in
-    let top = last_of_face facet vector _ here got.0 got.1 got.2 in (
-      last_standing facet vector _ here got.0 got.1 got.2,
-      rw top.1 (rw c.of-starts.ensures at c.after_last-cursors.ensures),
-      rw (top.1, top.0) (lowering_starts facet _ c.requires.0 c.end-start.result (ends seen.After-end-start)),
+    let vector = c.last-vector.result in
+    let top = last_of_face facet vector c.last-vector.ensures in
+    let seen = goal.at.loop-start-init c in (
+      last_standing facet vector c.last-vector.ensures,
+      rw top (rw c.of-starts.ensures at c.after_last-cursors.ensures),
+      rw (top, c.last-vector.ensures.1) (lowering_starts facet _ c.requires.0 c.end-start.result (ends seen.After-end-start)),
     )
 
 -- ---- the level list
