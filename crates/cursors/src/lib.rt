@@ -4,13 +4,15 @@
 
 mod starts;
 
-ghost use Rattle.std.specs.Prelude.{suc, ◌+◌, ◌-◌, ◌≤◌};
+ghost use Rattle.std.specs.Prelude.{suc, ◌≡◌, ◌+◌, ◌-◌, ◌*◌, ◌^◌, ◌≤◌};
 ghost use Rattle.numbering.specs.Count.{vectors};
-ghost use Rattle.numbering.specs.Number.{rank};
+ghost use Rattle.numbering.specs.Number.{rank, first_of};
 ghost use Rattle.numbering.specs.Point.{at};
-ghost use Rattle.cursors.specs.Steps.{Cursors, Filled};
+ghost use Rattle.neighbours.specs.Facets.{without};
+ghost use Rattle.neighbours.specs.Steps.{rims_of};
+ghost use Rattle.cursors.specs.Steps.{Cursors, Filled, passed};
 
-use neighbours::Subspace;
+use neighbours::{Rims, Subspace};
 pub use starts::Starts;
 
 impl Starts {
@@ -42,6 +44,49 @@ impl Starts {
         self.back_from(sum, 1)
     }
 }
+
+// ---- across the border
+
+impl Starts {
+    // The points of the level lists that cursor j has passed. Cursor 0, which is not kept, is at the list itself; past its sum there is none.
+    fn passed(&self, v: Subspace, cursors: &[u64; 9], j: u32) -> u64
+        requires { (self.now.facet ≡ v.facet) × Cursors v.facet v.vector.sum (rank (at v.vector.levels) v.facet.axes) cursors.now }
+        ensures { result ≡ 2 ^ (v.vector.sum - j) * passed v.facet.axes v.facet.place v.vector.sum j (rank (at v.vector.levels) v.facet.axes) }
+    {
+        if j == 0 {
+            return v.start - self.places[v.vector.sum as usize];
+        }
+        if v.vector.sum < j {
+            return 0;
+        }
+        cursors[j as usize] - self.places[(v.vector.sum - j) as usize]
+    }
+
+    // The number of the first point of a level list without the axis, in a face across the border: of the lists passed, those with the same level on the axis are
+    // the ones that reach it and do not reach one more, and without the axis they are the ones before it there.
+    fn first_without(&self, v: Subspace, cursors: &[u64; 9]) -> u64
+        requires { (self.now.facet ≡ v.facet) × Cursors v.facet v.vector.sum (rank (at v.vector.levels) v.facet.axes) cursors.now }
+        ensures { result ≡ first_of (v.facet.axes - 1) (without v.facet.place (at v.vector.levels)) }
+    {
+        let same = self.passed(v, cursors, v.own) - 2 * self.passed(v, cursors, v.own + 1);
+        shapes::Rows::new().start(v.facet.axes - 1, v.vector.sum - v.own) + same
+    }
+
+    // The first numbers across the border of a level list, from those of the faces that lie there. (Compiled into its caller: with a zero border, which is known
+    // there, nothing of it is computed.)
+    #[inline(always)]
+    pub fn rims(&self, v: Subspace, cursors: &[u64; 9]) -> Option<Rims>
+        requires { (self.now.facet ≡ v.facet) × Cursors v.facet v.vector.sum (rank (at v.vector.levels) v.facet.axes) cursors.now }
+        ensures { result ≡ rims_of v }
+    {
+        match v.facet.rims {
+            Some(rims) => Some(rims.further(self.first_without(v, cursors))),
+            None => None,
+        }
+    }
+}
+
+// ---- from list to list
 
 // One level list on: each cursor that stands at a list below this one steps over it. (The loop needs j for the cursor and for the
 // step; with `..=` it left goals open. Its twin back is as short as a call with a closure that adds or subtracts, which would have to ask that the result fits.)

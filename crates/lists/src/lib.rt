@@ -175,13 +175,18 @@ fn sized_blocks<D: Direction>(
 // border, nothing moves. In a turn that has come so far, the list's points then hold what the whole turn leaves them, and no other place changes. (What lies
 // across the border, and whether a block is two runs, is asked once for a list: the blocks are compiled for each.)
 #[inline(always)]
-pub fn work<D: Direction>(v: Subspace, starts: &[u64; 9], table: &mut [i64]) -> u64
-    requires { Below v starts.now × TableOf v.facet.line.shape (2 ^ 61) table.old }
+pub fn work<D: Direction>(
+    v: Subspace,
+    starts: &[u64; 9],
+    rims: Option<Rims>,
+    table: &mut [i64],
+) -> u64
+    requires { Below v starts.now × TableOf v.facet.line.shape (2 ^ 61) table.old × (rims ≡ rims_of v) }
     ensures worked { table.new ≡ list_worked D.ahead v.facet.line.shape v.facet.line.place v.facet.base v.facet.axes (at v.vector.levels) table.old }
     ensures odds { odd_sums v.facet.line.shape v.facet.line.place table.old v.start + result ≡ odd_sums v.facet.line.shape v.facet.line.place table.old v.end }
     ensures turned { (xs : List ℤ) → length xs ≡ length table.old → table.old ≡ came_to D.ahead v.facet.line.shape v.facet.line.place v.facet.base v.facet.axes (at v.vector.levels) xs → ListTurned D.ahead v.facet.line.shape v.facet.line.place v.facet.base v.facet.axes (at v.vector.levels) xs table.old table.new }
 {
-    match v.rims {
+    match rims {
         Some(rims) => sized_blocks::<D>(v, starts, Some(rims), table),
         None => {
             if v.own == 0 {

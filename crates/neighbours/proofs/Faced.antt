@@ -1,9 +1,9 @@
 -- A face of a table with values on the border as a turn on one of its inner axes meets it: the parents lie on it, and across the border of the axis lie the faces where
 -- the axis is a border axis. They come later in the row, and their points do not move on the axis.
 -- Assumes nothing.
-use mathlib.Core.Path.{◌≡◌, refl, ap, sym, ◌∙◌}
+use mathlib.Core.Path.{◌≡◌, refl, ap, ◌∙◌}
 use mathlib.Core.Bool.{true}
-use Rattle.std.specs.Prelude.{Option, Some, None}
+use Rattle.std.specs.Prelude.{Some}
 use Prim.Native.Nat.{ℕ, suc, ◌+◌, ◌≤◌, ◌<◌}
 use native.Mathlib.Omega.{arith}
 use Rattle.naturals.proofs.Cases.{eq_or_not}

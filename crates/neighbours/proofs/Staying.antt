@@ -1,7 +1,6 @@
 -- The neighbours of a face's points, on the axis, are points of the face or do not move: a parent stands before its point in the face, and what lies across the border
 -- does not move, nor does what is no point.
 -- Assumes nothing.
-use mathlib.Core.Path.{◌≡◌, refl, ap, ◌∙◌}
 use mathlib.Core.Logic.{◌⊎◌, inl, inr}
 use Prim.Native.Nat.{ℕ, zero, suc, ◌+◌, ◌≤◌, ◌<◌}
 use native.Mathlib.Omega.{arith}

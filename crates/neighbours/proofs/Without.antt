@@ -31,7 +31,7 @@ module _ (j : ℕ) (l : ℕ → ℕ) where
   sum_before zero h = omega (arith, sum_to_zero (without j l), sum_to_zero l)
   sum_before (suc u) h = omega (arith, sum_to_suc (without j l) u, sum_to_suc l u, sum_before u (omega arith), without_low u h)
 
-  sum_after : (u : ℕ) → j ≤ u → sum_to (without j l) u + l j ≡ sum_to l (suc u)
+  pub sum_after : (u : ℕ) → j ≤ u → sum_to (without j l) u + l j ≡ sum_to l (suc u)
   sum_after zero h =
       let first : j ≡ 0 = omega arith in
       omega (arith, sum_to_zero (without j l), sum_to_zero l, sum_to_suc l 0, ap l first)

@@ -1,10 +1,9 @@
--- The running total of the count of points: one more turn adds the points of one level sum, and neither that many nor the total comes near the
--- width, since the largest total of each row of shapes is below 2^32, by one test that antt computes, and the totals grow with the level sum.
+-- The counts of points stay below 2^32: the largest of each number of axes does, by one test that antt computes, and they grow with the level sum.
 -- Assumes nothing.
 use mathlib.Core.Path.{◌≡◌, refl}
 use mathlib.Core.Bool.{Bool, true}
-use Prim.Native.Nat.{ℕ, suc, ◌+◌, ◌-◌, ◌*◌, ◌^◌, ◌%◌, ◌≤◌, ◌<◌}
-use native.Mathlib.Nat.{mul_comm, mul-le-mul_left, mod-eq_of_lt}
+use Prim.Native.Nat.{ℕ, suc, ◌+◌, ◌-◌, ◌^◌, ◌≤◌, ◌<◌}
+use native.Mathlib.Nat.{mul_comm, mul-le-mul_left}
 use native.Mathlib.Omega.{arith}
 use lib.Dec.{ltb}
 use lib.Pow.{pow_pos}
@@ -48,14 +47,3 @@ module _ (d : ℕ) (low : 1 ≤ d) (high : d ≤ 8) where
   vectors_small j le =
       let one : vectors d j ≤ shell d j = omega (arith, mul-le-mul_left (vectors d j) (pow_pos j), mul_comm (2 ^ j) (vectors d j)) in
       omega (arith, one, largest_small, term_le (shell d) 9 j (omega arith))
-
-  -- The code's shift is exact.
-  shifted : (j : ℕ) → j ≤ 8 → vectors d j * 2 ^ j % 2 ^ 64 ≡ shell d j
-  unfolding start shell
-  shifted j le =
-      let fits : shell d j < 2 ^ 64 = omega (arith, largest_small, term_le (shell d) 9 j (omega arith)) in
-      rw (mul_comm (vectors d j) (2 ^ j)) (mod-eq_of_lt fits)
-
-  -- A turn of the loop.
-  pub turn : (j total count : ℕ) → j ≤ 8 → total ≡ start d j → count ≡ vectors d j → total + count * 2 ^ j % 2 ^ 64 ≡ start d (suc j)
-  turn j total count le sum new = rw new (omega (arith, shifted j le, start_suc d j))

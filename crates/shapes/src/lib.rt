@@ -35,8 +35,9 @@ const ROWS: [[u16; 9]; 8] = [
     [1, 8, 36, 120, 330, 792, 1716, 3432, 6435],
 ];
 
-// How many points of d axes have a level sum below s: a row for each d from 1 to 8, s from 0 to 9.
-const STARTS: [[u32; 10]; 8] = [
+// How many points of d axes have a level sum below s: a row for each d from 0 to 8, s from 0 to 9.
+const STARTS: [[u32; 10]; 9] = [
+    [0, 1, 1, 1, 1, 1, 1, 1, 1, 1],
     [0, 1, 3, 7, 15, 31, 63, 127, 255, 511],
     [0, 1, 5, 17, 49, 129, 321, 769, 1793, 4097],
     [0, 1, 7, 31, 111, 351, 1023, 2815, 7423, 18943],
@@ -114,7 +115,7 @@ impl Shape {
 #[derive(Clone, Copy)]
 pub struct Rows {
     binomials: &'static [[u16; 9]; 8],
-    starts: &'static [[u32; 10]; 8],
+    starts: &'static [[u32; 10]; 9],
     ghost right: { Binomials binomials.now },
     ghost added: { Starts starts.now },
 }
@@ -137,10 +138,10 @@ impl Rows {
 
     // How many points of these axes have a level sum below this one.
     pub fn start(&self, axes: u32, sum: u32) -> u64
-        requires { (1 ≤ axes) × (axes ≤ 8) × (sum ≤ 9) }
+        requires { (axes ≤ 8) × (sum ≤ 9) }
         ensures { result ≡ start axes sum }
     {
-        u64::from(self.starts[(axes - 1) as usize][sum as usize])
+        u64::from(self.starts[axes as usize][sum as usize])
     }
 
     // How many points a sparse table of these axes has: without axes one.
@@ -148,11 +149,7 @@ impl Rows {
         requires { (axes ≤ 8) × (level ≤ 8) }
         ensures { result ≡ points axes level }
     {
-        if axes == 0 {
-            1
-        } else {
-            self.start(axes, level + 1)
-        }
+        self.start(axes, level + 1)
     }
 
     // How many faces of these axes have this many border axes. (C(axes, borders) stands in the row of axes − borders + 1.)

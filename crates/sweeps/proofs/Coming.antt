@@ -14,8 +14,6 @@ use lib.Pow.{pow_pos}
 use Rattle.naturals.specs.Sum.{sum_to}
 use Rattle.naturals.proofs.Sums.{sum_to_mono}
 use Rattle.numbering.specs.Point.{at}
-use Rattle.numbering.specs.Number.{first_of}
-use Rattle.neighbours.specs.Facets.{without, moved_on}
 use Rattle.numbering.proofs.Subspaces.{block_below}
 use Rattle.hierarchy.specs.Turns.{value_at}
 use Rattle.hierarchy.proofs.Values.{values_length}
@@ -130,14 +128,12 @@ module _ (facet : Facet) (xs : List ℤ) (long : length xs ≡ points_of facet.l
           end = end_of facet.base facet.axes (at ls);
           low = sum_to (at ls) facet.place;
           own = at ls facet.place;
-          rims = moved_on facet.rims (first_of (facet.axes - 1) (without facet.place (at ls)));
           same = refl;
           inside = inside.low;
           first = refl;
           after = refl;
           before = refl;
           there = refl;
-          across = refl;
         }
 
     eight_turned : (ahead : Bool) (ys : List ℤ) → ys ≡ came_to ahead shape place facet.base facet.axes (at ls) xs →

@@ -7,15 +7,13 @@ use mathlib.Core.Logic.{inr}
 use mathlib.Core.List.{List}
 use Prim.Native.Nat.{ℕ, zero, suc, ◌+◌, ◌≤◌, ◌<◌}
 use native.Mathlib.Omega.{arith}
-use lib.IntN.{ℤ, ◌+ℤ◌}
+use lib.IntN.{ℤ}
 use lib.ListN.{length}
 use Rattle.naturals.proofs.Cases.{le_or_lt}
-use Rattle.integers.specs.Half.{odd_of}
 use Rattle.numbering.specs.Count.{points}
 use Rattle.numbering.specs.declared.Side.{Side}
-use Rattle.numbering.specs.declared.Side.TheVariants.{Left, Right}
 use Rattle.hierarchy.specs.Grid.{Still}
-use Rattle.hierarchy.specs.Turns.{value_at, sum_on}
+use Rattle.hierarchy.specs.Turns.{value_at}
 use Rattle.hierarchy.proofs.Values.{value_zero, values_length}
 use Rattle.shapes.specs.declared.Shape.{Shape}
 use Rattle.shapes.specs.Shapes.{points_of}
@@ -31,7 +29,7 @@ use Rattle.sweeps.specs.Sweeps.{lists_worked, walk, face_worked, faces_down, fac
 use Rattle.neighbours.specs.declared.facets.Line.{Line}
 use Rattle.neighbours.specs.declared.facets.Facet.{Facet}
 use Rattle.neighbours.proofs.Faces.{face_apart}
-use Rattle.lists.specs.Lists.{odd_at, odd_sums, whole_turn, turned_between}
+use Rattle.lists.specs.Lists.{odd_sums, whole_turn, turned_between}
 use Rattle.lists.proofs.Turned.{still_turn}
 use Rattle.sweeps.proofs.Parted.{Parted, all_parted, list_parted}
 use Rattle.sweeps.proofs.Odds.{odds_none, same_growth, same_odd}

@@ -4,27 +4,23 @@
 use mathlib.Core.Logic.{⊎_elim}
 use mathlib.Core.List.{List}
 use mathlib.Core.Path.{◌≡◌, ap, sym, ◌∙◌, fun_ext}
-use Prim.Native.Nat.{ℕ, suc, ◌+◌, ◌%◌, ◌^◌, ◌≤◌, ◌<◌}
-use native.Mathlib.Nat.{mod-lt}
+use Prim.Native.Nat.{ℕ, suc, ◌+◌, ◌^◌, ◌≤◌, ◌<◌}
 use native.Mathlib.Omega.{arith}
-use lib.Pow.{pow_pos}
 use Rattle.naturals.proofs.Cases.{le_or_lt}
 use Rattle.numbering.specs.Count.{vectors, points}
 use Rattle.numbering.specs.Point.{at}
 use Rattle.numbering.specs.Number.{rank, first_of}
-use Rattle.numbering.specs.Inverse.{level_of, sum_at, within, level_at}
+use Rattle.numbering.specs.Inverse.{level_of}
 use Rattle.numbering.proofs.Rank.{rank_lt}
 use Rattle.numbering.proofs.Unrank.{level_of_rank, level_past}
-use Rattle.numbering.proofs.Numbering.{points_is, start_mono, level_zero}
+use Rattle.numbering.proofs.Numbering.{points_is, start_mono}
 use Rattle.numbering.proofs.Succession.{rank_first}
-use Rattle.numbering.proofs.Subspaces.{first_is, number_behind_first}
+use Rattle.numbering.proofs.Subspaces.{first_is}
 use Rattle.vectors.specs.Steps.{VectorIn, NextVector, PreviousVector}
 use Rattle.vectors.specs.declared.LevelVector.{LevelVector}
 use Rattle.vectors.proofs.Following.{no_levels}
-use Rattle.points.specs.Points.{eight}
-use Rattle.points.proofs.Eight.{eight_whole}
 use Rattle.neighbours.specs.declared.facets.Facet.{Facet}
-use Rattle.sweeps.proofs.Ranks.{first_at, end_le, some_points, Follows, following, last_of_all}
+use Rattle.sweeps.proofs.Ranks.{first_at, end_le, some_points, Follows, following}
 
 -- A level vector of the face.
 pub record Standing (facet : Facet) (vector : LevelVector) : Type 0 where

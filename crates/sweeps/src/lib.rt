@@ -36,7 +36,7 @@ pub fn lower_face(facet: Facet, table: &mut [i64]) -> u64
         start -= 1 << vector.sum;
         let v = Subspace::on(facet, &vector, start);
         cursors::pass_back(v, &mut cursors);
-        odd += lists::work::<Forward>(v, &cursors, table);
+        odd += lists::work::<Forward>(v, &cursors, starts.rims(v, &cursors), table);
         if start == facet.base {
             return odd;
         }
@@ -65,7 +65,7 @@ pub fn raise_face(facet: Facet, table: &mut [i64]) -> u64
     let mut odd: u64 = 0;
     loop {
         let v = Subspace::on(facet, &vector, start);
-        odd += lists::work::<Back>(v, &cursors, table);
+        odd += lists::work::<Back>(v, &cursors, starts.rims(v, &cursors), table);
         start += 1 << vector.sum;
         if start == end {
             return odd;

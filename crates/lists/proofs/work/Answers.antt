@@ -15,11 +15,11 @@ pub returns-then-v-eq0-clause-worked : goal.returns-then-v-eq0-clause-worked
 returns-then-v-eq0-clause-worked g c =
     let v = c.args.v in
     list_worked_lem (seen v) (on_line v.facet.line c.requires.1.0)
-    (flat_stepped (seen v) (sym c.args.v.across ∙ c.in-None.is) c.if-v-eq0.true g.D.Direction.ahead c.args.table.now)
+    (flat_stepped (seen v) (sym c.requires.2 ∙ c.in-None.is) c.if-v-eq0.true g.D.Direction.ahead c.args.table.now)
 
 pub returns-then-v-eq0-clause-odds : goal.returns-then-v-eq0-clause-odds
 returns-then-v-eq0-clause-odds g c =
-    (flat_stepped (seen c.args.v) (sym c.args.v.across ∙ c.in-None.is) c.if-v-eq0.true g.D.Direction.ahead c.args.table.now).odds
+    (flat_stepped (seen c.args.v) (sym c.requires.2 ∙ c.in-None.is) c.if-v-eq0.true g.D.Direction.ahead c.args.table.now).odds
 
 pub returns-then-v-eq0-clause-turned : goal.returns-then-v-eq0-clause-turned
 returns-then-v-eq0-clause-turned g c =
@@ -27,7 +27,7 @@ returns-then-v-eq0-clause-turned g c =
     let xs = c.args.table.now in
     λ old long came.
     work_turned (seen c.args.v) g.D.Direction.ahead 0 old xs xs
-    (flat_stepped (seen c.args.v) (sym c.args.v.across ∙ c.in-None.is) c.if-v-eq0.true g.D.Direction.ahead xs) (long ∙ pre.1.0) came
+    (flat_stepped (seen c.args.v) (sym c.requires.2 ∙ c.in-None.is) c.if-v-eq0.true g.D.Direction.ahead xs) (long ∙ pre.1.0) came
 
 -- ---- a list that moves
 
@@ -63,10 +63,10 @@ returns-else-v-eq1-clause-turned g c =
 -- ---- what lies across the border
 
 pub sized_blocks-requires : goal.sized_blocks-requires
-sized_blocks-requires g c = (c.requires.0, c.requires.1, sym c.in-Some.is ∙ c.args.v.across, λ none. cc)
+sized_blocks-requires g c = (c.requires.0, c.requires.1, sym c.in-Some.is ∙ c.requires.2, λ none. cc)
 
 pub sized_blocks-requires-in-None : goal.sized_blocks-requires-in-None
-sized_blocks-requires-in-None g c = (c.requires.0, c.requires.1, sym c.in-None.is ∙ c.args.v.across, λ none. omega (arith, c.if-v-eq0.false))
+sized_blocks-requires-in-None g c = (c.requires.0, c.requires.1, sym c.in-None.is ∙ c.requires.2, λ none. omega (arith, c.if-v-eq0.false))
 
 pub sized_blocks-requires-then-v-eq1 : goal.sized_blocks-requires-then-v-eq1
-sized_blocks-requires-then-v-eq1 g c = (c.requires.0, c.requires.1, sym c.in-None.is ∙ c.args.v.across, λ none. omega (arith, c.if-v-eq0.false))
+sized_blocks-requires-then-v-eq1 g c = (c.requires.0, c.requires.1, sym c.in-None.is ∙ c.requires.2, λ none. omega (arith, c.if-v-eq0.false))

@@ -1,13 +1,12 @@
-use mathlib.Core.Path.{◌≡◌, sym}
+use mathlib.Core.Path.{◌≡◌, sym, ◌∙◌}
 use mathlib.Core.Logic.{⊎_elim}
-use Prim.Native.Nat.{suc, ◌+◌, ◌-◌, ◌*◌, ◌%◌, ◌^◌}
+use Prim.Native.Nat.{◌+◌, ◌-◌, ◌*◌, ◌%◌, ◌^◌}
 use native.Mathlib.Omega.{arith}
-use Rattle.numbering.specs.Count.{points}
 use Rattle.numbering.specs.Point.{at}
 use Rattle.numbering.specs.Number.{rank}
 use Rattle.cursors.proofs.Below.{cursors_below}
 use Rattle.sweeps.proofs.Ranks.{Follows}
-use Rattle.sweeps.proofs.Standing.{face_end, rank_in, previous_follows, previous_standing, some_place, last_standing, last_of_face, vector_in}
+use Rattle.sweeps.proofs.Standing.{face_end, rank_in, previous_follows, previous_standing, last_standing, last_of_face, vector_in}
 use Rattle.sweeps.proofs.Meeting.{met}
 use Rattle.sweeps.proofs.Lowering.{Lowering, lowering_starts, lowering_room, lowering_few, lowering_next, lowering_turned, lowering_odds, lowering_walked, lowering_first, lowering_worked}
 use Rattle.sweeps.proofs.lower_face.Goals.{After-end-start, After-work-odd, After-previous}
@@ -51,12 +50,18 @@ pass_back-requires c =
     let m = met c.on-v.result c.on-v.ensures in
     rw (m.on, m.same) s.1
 
+pub rims-requires : goal.rims-requires
+rims-requires c =
+    let s = c.loop-start.invariant in
+    let m = met c.on-v.result c.on-v.ensures in
+    (c.of-starts.ensures ∙ sym m.on, c.pass_back.ensures)
+
 pub work-odd-requires : goal.work-odd-requires
 work-odd-requires c =
     let pre = c.requires in
     let s = c.loop-start.invariant in
     let m = met c.on-v.result c.on-v.ensures in
-    (cursors_below c.pass_back.ensures, (rw m.on s.2.parted.long, lowering_room c.args.facet _ pre.0 s.2 pre.1))
+    (cursors_below c.pass_back.ensures, (rw m.on s.2.parted.long, lowering_room c.args.facet _ pre.0 s.2 pre.1), c.rims.ensures)
 
 -- After the work on it.
 done : (c : After-work-odd) →

@@ -1,4 +1,4 @@
-use mathlib.Core.Path.{◌≡◌, ◌∙◌}
+use mathlib.Core.Path.{◌≡◌, sym, ◌∙◌}
 use mathlib.Core.Logic.{⊎_elim}
 use Prim.Native.Nat.{suc, ◌+◌, ◌-◌, ◌*◌, ◌%◌, ◌^◌, ◌<◌}
 use native.Mathlib.Omega.{arith}
@@ -34,12 +34,18 @@ on-v-requires c =
     let s = c.loop-start.invariant in
     (s.0.same, s.0.low, raising_first c.args.facet _ c.requires.0 s.0 s.2)
 
+pub rims-requires : goal.rims-requires
+rims-requires c =
+    let s = c.loop-start.invariant in
+    let m = met c.on-v.result c.on-v.ensures in
+    (c.of-starts.ensures ∙ sym m.on, rw (m.on, m.same) s.1)
+
 pub work-odd-requires : goal.work-odd-requires
 work-odd-requires c =
     let pre = c.requires in
     let s = c.loop-start.invariant in
     let m = met c.on-v.result c.on-v.ensures in
-    (cursors_below (rw (m.on, m.same) s.1), (rw m.on s.2.parted.long, raising_room c.args.facet _ pre.0 s.2 pre.1))
+    (cursors_below (rw (m.on, m.same) s.1), (rw m.on s.2.parted.long, raising_room c.args.facet _ pre.0 s.2 pre.1), c.rims.ensures)
 
 -- After the work on it.
 done : (c : After-work-odd) →

@@ -1,6 +1,6 @@
 -- `inner_before` meets its contract: each turn counts one place more.
 -- Assumes nothing.
-use mathlib.Core.Path.{sym, ◌∙◌}
+use mathlib.Core.Path.{sym}
 use native.Mathlib.Omega.{arith}
 use native.Mathlib.Numerals.{add-one}
 use Rattle.numbering.specs.Point.{at}

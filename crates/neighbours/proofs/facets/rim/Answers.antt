@@ -2,7 +2,6 @@
 -- Assumes nothing.
 use mathlib.Core.Path.{ap, ◌∙◌}
 use native.Mathlib.Omega.{arith}
-use Prim.Native.Nat.{ℕ}
 use Rattle.faces.specs.Marked.{face_start}
 use Rattle.neighbours.proofs.Marking.{at_set}
 use Rattle.neighbours.proofs.facets.rim.Goals as goal

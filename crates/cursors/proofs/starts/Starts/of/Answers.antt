@@ -10,7 +10,7 @@ loop-s-init c = record { size = refl; holds = λ i from to. absurd (omega arith)
 pub start-requires : goal.start-requires
 start-requires c =
     let f = c.args.facet in
-    (omega (arith, f.inner), f.few, omega (arith, f.line.top))
+    (f.few, omega (arith, f.line.top))
 
 pub overflow_add-places : goal.overflow_add-places
 overflow_add-places c =
