@@ -229,16 +229,6 @@ module _ {v : Subspace} {starts : List ℕ} {first beyond width : ℕ} {xs : Lis
   none_done : {ahead : Bool} → RunsDone ahead v first 0 first xs 0 xs
   none_done {ahead} = record { place = omega arith; stepped = none_stepped ahead v.facet.line.shape v.facet.line.place first xs }
 
-  -- At level 0 on the axis the one run of the block has the border on both sides.
-  pub only_run : {ahead : Bool} → v.own ≡ 0 → (r : Rims) → block_rims v beyond ≡ Some r → Between ahead v first width xs 0 first r.lower r.upper 0 xs
-  only_run {ahead} flat r e =
-      let digit : 0 < 2 ^ v.own = pow_pos v.own in
-      let last : 1 ≡ 2 ^ v.own = ap (λ (o : ℕ). 2 ^ o) (sym flat) in
-      let none : RunsDone ahead v first 0 first xs 0 xs = none_done in
-      between none digit
-      (border_parents (first_left (seen v) h.block 0 first digit none.place refl) r e)
-      (border_parents (last_right (seen v) h.block 0 first digit none.place last) r e)
-
   module _ (moves : 1 ≤ v.own) where
     -- The first run has the border at its left, and its parents at the right are from number `near` on.
     pub first_run : {ahead : Bool} {near : ℕ} → near ≡ near_at v starts beyond 0 → Edge ahead v Left (block_rims v beyond) first width xs 0 first near 0 xs

@@ -4,5 +4,6 @@ pub mod Joining
 pub mod Sums
 pub mod Blocks
 pub mod Lists
+pub mod LevelZero
 pub mod Turned
 pub mod Faces

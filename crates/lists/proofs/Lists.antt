@@ -1,42 +1,36 @@
--- A level list, block after block from its first point on: all parents stand apart from the list, so the blocks join. A list of level 0 on the axis has no parents
--- there if nothing lies across the border: its steps move nothing and its sums are even.
+-- A level list, block after block from its first point on: all parents stand apart from the list, so the blocks join.
 -- Assumes nothing.
 use mathlib.Core.Path.{◌≡◌, refl, ap, ap₂, sym, ◌∙◌}
 use mathlib.Core.Logic.{inl, inr, ⊎_elim}
-use Rattle.std.specs.Prelude.{Option, None}
 use mathlib.Core.Bool.{Bool}
 use mathlib.Core.List.{List}
 use Prim.Native.Nat.{ℕ, zero, suc, ◌+◌, ◌-◌, ◌*◌, ◌%◌, ◌^◌, ◌≤◌, ◌<◌}
 use native.Mathlib.Nat.{mod-eq_of_lt, mul-le-mul_right}
 use native.Mathlib.Omega.{arith}
-use lib.IntN.{ℤ, pos, nat_abs}
+use lib.IntN.{ℤ, nat_abs}
 use lib.ListN.{length}
 use lib.Pow.{pow_pos, pow_mono, pow-add}
 use Rattle.naturals.specs.Sum.{sum_to}
 use Rattle.naturals.proofs.Cases.{le_or_lt}
 use Rattle.naturals.proofs.Shifts.{one_shifted}
-use Rattle.naturals.proofs.Sums.{sum_to_zero, sum_to_suc, sum_to_mono}
-use Rattle.integers.specs.Half.{odd_of}
-use Rattle.integers.proofs.Steps.{stepped_zero, odd_zero}
+use Rattle.naturals.proofs.Sums.{sum_to_suc, sum_to_mono}
 use Rattle.numbering.specs.declared.Side.{Side}
 use Rattle.numbering.specs.Point.{at}
-use Rattle.hierarchy.specs.Turns.{value_at, sum_on}
-use Rattle.hierarchy.proofs.Still.{sum_still}
+use Rattle.hierarchy.specs.Turns.{value_at}
 use Rattle.hierarchy.proofs.Values.{value_zero}
 use Rattle.hierarchy.proofs.Sweeps.{list_of_values}
 use Rattle.shapes.specs.declared.Shape.{Shape}
 use Rattle.shapes.specs.Shapes.{points_of}
 use Rattle.grids.specs.Grids.{neighbour}
 use Rattle.neighbours.specs.declared.subspaces.Subspace.{Subspace}
-use Rattle.neighbours.specs.declared.facets.Rims.{Rims}
-use Rattle.neighbours.specs.Facets.{across, Apart}
-use Rattle.neighbours.specs.Steps.{Below, rims_of}
+use Rattle.neighbours.specs.Facets.{Apart}
+use Rattle.neighbours.specs.Steps.{Below}
 use Rattle.neighbours.proofs.Seeing.{Seen, seen, vector_of}
-use Rattle.neighbours.proofs.Beside.{beyond_of, end_inside, beside_apart, beside_flat}
+use Rattle.neighbours.proofs.Beside.{end_inside, beside_apart}
 use Rattle.lists.specs.Lists.{between, stepped_at, stepped_between, list_worked}
-use Rattle.lists.specs.Steps.{OnAxis, NoLarger, RunStepped, Stepped, Workable, BlockAt}
+use Rattle.lists.specs.Steps.{OnAxis, NoLarger, Stepped, Workable, BlockAt}
 use Rattle.lists.proofs.Between.{between_low, between_inside, between_high}
-use Rattle.lists.proofs.Joining.{Outside, outside, none_stepped, stepped_few, run_joins, part_joins}
+use Rattle.lists.proofs.Joining.{outside, stepped_few, part_joins}
 use Rattle.lists.proofs.Blocks.{table_small}
 
 -- ---- the list as a table
@@ -79,43 +73,6 @@ module _ {v : Subspace} (s : Seen v) where
   list_worked_lem {ahead} {k} {xs} {ys} on done =
       stepped_list done on.long (omega (arith, some_points))
       ∙ ap₂ (λ (lo hi : ℕ). stepped_between ahead v.facet.line.shape v.facet.line.place lo hi xs) s.start (omega (arith, s.start, s.end))
-
--- ---- level 0
-
-sum_of_none : (f : ℕ → ℕ) (m : ℕ) → ((i : ℕ) → f i ≡ 0) → sum_to f m ≡ 0
-sum_of_none f zero none = sum_to_zero f
-sum_of_none f (suc m) none = omega (arith, sum_to_suc f m, sum_of_none f m none, none m)
-
-pub flat_stepped : {v : Subspace} → Seen v → rims_of v ≡ None → v.own ≡ 0 → (ahead : Bool) (xs : List ℤ) →
-    Stepped ahead v.facet.line.shape v.facet.line.place v.start v.end xs 0 xs
-unfolding across
-flat_stepped {v} s open_border level ahead xs =
-    let whole : v.start + (v.end - v.start) ≡ v.end = omega (arith, some_points s) in
-    rw whole at (run_joins (none_stepped ahead v.facet.line.shape v.facet.line.place v.start xs) (omega arith) still no_parents apart)
-  where
-    none : (b : Side) (i : ℕ) → i < v.end - v.start → neighbour v.facet.line.shape v.facet.line.place b (suc (v.start + i)) ≡ 0
-    none b i h =
-        let p : ℕ = v.start + i - v.start in
-        beside_flat s (v.start + i) (omega arith) (omega arith) b level
-        ∙ ap (λ (o : Option Rims). across o b (beyond_of v p * 2 ^ v.low + p % 2 ^ v.low)) open_border
-
-    apart : (i : ℕ) → i < v.end - v.start → (b : Side) → Outside v.start v.start (neighbour v.facet.line.shape v.facet.line.place b (suc (v.start + i)))
-    apart i h b = inl (omega (arith, none b i h))
-
-    no_parents : (i : ℕ) → i < v.end - v.start → pos 0 ≡ sum_on (neighbour v.facet.line.shape) v.facet.line.place (value_at xs) (suc (v.start + i))
-    no_parents i h =
-        sym
-        (sum_still (neighbour v.facet.line.shape) v.facet.line.place (value_at xs) (value_zero xs) (suc (v.start + i))
-        (λ b. none b i h))
-
-    still : RunStepped ahead v.start (v.end - v.start) (λ i. pos 0) xs 0 xs
-    still =
-        record {
-          long = refl;
-          on = λ i h. sym (stepped_zero ahead (value_at xs (suc (v.start + i))));
-          off = λ p outside. refl;
-          odds = sym (sum_of_none (λ i. odd_of (pos 0)) (v.end - v.start) (λ i. odd_zero));
-        }
 
 -- ---- block after block
 

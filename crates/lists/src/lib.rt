@@ -98,7 +98,7 @@ fn block<D: Direction>(
     odd + edge_run::<D>(table, x, Side::Right, rims, near, width)
 }
 
-// A block with its own points across the border. At level 0 on the axis it is one run, with the border on both sides.
+// A block with its own points across the border.
 #[inline(always)]
 fn edged_block<D: Direction>(
     v: Subspace,
@@ -109,25 +109,14 @@ fn edged_block<D: Direction>(
     beyond: u64,
     width: usize,
 ) -> u64
-    requires { Workable v starts.now first table.old × BlockAt v first beyond × (width ≡ 2 ^ v.low) × (rims ≡ rims_of v) × (rims ≡ None → 1 ≤ v.own) }
+    requires { Workable v starts.now first table.old × BlockAt v first beyond × (1 ≤ v.own) × (width ≡ 2 ^ v.low) × (rims ≡ rims_of v) }
     ensures { Stepped D.ahead v.facet.line.shape v.facet.line.place first (first + 2 ^ (v.low + v.own)) table.old result table.new }
 {
-    match rims {
-        Some(rims) => {
-            let rims = rims.further(beyond << v.low);
-            if v.own == 0 {
-                return run_between::<D>(
-                    table,
-                    first as usize,
-                    rims.lower as usize,
-                    rims.upper as usize,
-                    width,
-                );
-            }
-            block::<D>(v, starts, Some(rims), table, first, beyond, width)
-        }
-        None => block::<D>(v, starts, None, table, first, beyond, width),
-    }
+    let own_rims = match rims {
+        Some(rims) => Some(rims.further(beyond << v.low)),
+        None => None,
+    };
+    block::<D>(v, starts, own_rims, table, first, beyond, width)
 }
 
 // ---- a level list (its cursors and the table are handed on beside it: a struct of the three would be made anew for each list, and its facts shown anew)
@@ -141,7 +130,7 @@ fn all_blocks<D: Direction>(
     table: &mut [i64],
     width: usize,
 ) -> u64
-    requires { Below v starts.now × TableOf v.facet.line.shape (2 ^ 61) table.old × (width ≡ 2 ^ v.low) × (rims ≡ rims_of v) × (rims ≡ None → 1 ≤ v.own) }
+    requires { Below v starts.now × TableOf v.facet.line.shape (2 ^ 61) table.old × (1 ≤ v.own) × (width ≡ 2 ^ v.low) × (rims ≡ rims_of v) }
     ensures { Stepped D.ahead v.facet.line.shape v.facet.line.place v.start v.end table.old result table.new }
 {
     let bits = v.low + v.own;
@@ -162,7 +151,7 @@ fn sized_blocks<D: Direction>(
     rims: Option<Rims>,
     table: &mut [i64],
 ) -> u64
-    requires { Below v starts.now × TableOf v.facet.line.shape (2 ^ 61) table.old × (rims ≡ rims_of v) × (rims ≡ None → 1 ≤ v.own) }
+    requires { Below v starts.now × TableOf v.facet.line.shape (2 ^ 61) table.old × (1 ≤ v.own) × (rims ≡ rims_of v) }
     ensures { Stepped D.ahead v.facet.line.shape v.facet.line.place v.start v.end table.old result table.new }
 {
     if v.low == 0 {
@@ -171,9 +160,28 @@ fn sized_blocks<D: Direction>(
     all_blocks::<D>(v, starts, rims, table, 1 << v.low)
 }
 
-// A step at each point of a level list, forward or back; answers how many of the sums are odd. Where the list has level 0 on the axis and nothing lies across the
-// border, nothing moves. In a turn that has come so far, the list's points then hold what the whole turn leaves them, and no other place changes. (What lies
-// across the border, and whether a block is two runs, is asked once for a list: the blocks are compiled for each.)
+// The points of a level list that has level 0 on the axis: the border lies on both sides of each. What lies across it follows each other as they do, so they are one
+// run; where nothing lies there, nothing moves.
+#[inline(always)]
+fn flat<D: Direction>(v: Subspace, rims: Option<Rims>, table: &mut [i64]) -> u64
+    requires { TableOf v.facet.line.shape (2 ^ 61) table.old × (v.own ≡ 0) × (rims ≡ rims_of v) }
+    ensures { Stepped D.ahead v.facet.line.shape v.facet.line.place v.start v.end table.old result table.new }
+{
+    match rims {
+        Some(rims) => run_between::<D>(
+            table,
+            v.start as usize,
+            rims.lower as usize,
+            rims.upper as usize,
+            (v.end - v.start) as usize,
+        ),
+        None => 0,
+    }
+}
+
+// A step at each point of a level list, forward or back; answers how many of the sums are odd. In a turn that has come so far, the list's points then hold what the
+// whole turn leaves them, and no other place changes. (What lies across the border, and whether a block is two runs, is asked once for a list: the blocks are
+// compiled for each.)
 #[inline(always)]
 pub fn work<D: Direction>(
     v: Subspace,
@@ -186,12 +194,12 @@ pub fn work<D: Direction>(
     ensures odds { odd_sums v.facet.line.shape v.facet.line.place table.old v.start + result ≡ odd_sums v.facet.line.shape v.facet.line.place table.old v.end }
     ensures turned { (xs : List ℤ) → length xs ≡ length table.old → table.old ≡ came_to D.ahead v.facet.line.shape v.facet.line.place v.facet.base v.facet.axes (at v.vector.levels) xs → ListTurned D.ahead v.facet.line.shape v.facet.line.place v.facet.base v.facet.axes (at v.vector.levels) xs table.old table.new }
 {
+    if v.own == 0 {
+        return flat::<D>(v, rims, table);
+    }
     match rims {
         Some(rims) => sized_blocks::<D>(v, starts, Some(rims), table),
         None => {
-            if v.own == 0 {
-                return 0;
-            }
             if v.own == 1 {
                 return sized_blocks::<D>(v, starts, None, table);
             }

@@ -28,13 +28,13 @@ pub edged_block-odd-requires : goal.edged_block-odd-requires
 edged_block-odd-requires g c =
     let v = c.args.v in
     let more = c.loop-beyond-test.true in
-    let (below, (long, within), wide, rims, moves) = c.requires in
+    let (below, (long, within), moves, wide, rims) = c.requires in
     rw (shift_exact v c.loop-beyond.beyond more) (
       workable v c.loop-beyond.beyond more (on_line v.facet.line long) c.loop-beyond.invariant below within,
       block_there v c.loop-beyond.beyond more,
+      moves,
       wide,
       rims,
-      moves,
     )
 
 pub overflow_add-odd : goal.overflow_add-odd

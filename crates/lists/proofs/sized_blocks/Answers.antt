@@ -17,10 +17,10 @@ wide v = one_shifted 64 v.low (omega (arith, bits (seen v)))
 
 pub all_blocks-requires : goal.all_blocks-requires
 all_blocks-requires g c =
-    let (below, table, rims, moves) = c.requires in
-    (below, table, ap (λ (a : ℕ). 2 ^ a) (sym c.if-v-eq0.true), rims, moves)
+    let (below, table, moves, rims) = c.requires in
+    (below, table, moves, ap (λ (a : ℕ). 2 ^ a) (sym c.if-v-eq0.true), rims)
 
 pub all_blocks-requires-2 : goal.all_blocks-requires-2
 all_blocks-requires-2 g c =
-    let (below, table, rims, moves) = c.requires in
-    (below, table, wide c.args.v, rims, moves)
+    let (below, table, moves, rims) = c.requires in
+    (below, table, moves, wide c.args.v, rims)
