@@ -16,32 +16,31 @@ use neighbours::{Rims, Subspace};
 pub use starts::Starts;
 
 impl Starts {
-    // Cursor j of a sum at the place that lies j before the one `past` after it. (`past` is added and no flag; that the sum is one of the face's is asked by all three.)
-    fn back_from(&self, sum: u32, past: u32) -> [u64; 9]
+    // Cursor j of a sum at the place that lies j before the one `past` after it. (`past` is added and no flag; that the sum is one of the face's is asked by all
+    // three. In place: an array that is made and handed back for each sum is cleared and copied.)
+    fn back_from(&self, sum: u32, past: u32, cursors: &mut [u64; 9])
         requires { (sum ≤ self.now.facet.line.shape.level) × (past ≤ 1) }
-        ensures { Filled (λ j. at self.now.places (sum + past - j)) 9 1 (suc sum) result }
+        ensures { Filled (λ j. at self.now.places (sum + past - j)) 9 1 (suc sum) cursors.new }
     {
-        let mut cursors = [0u64; 9];
         for j in 1..sum + 1 {
             cursors[j as usize] = self.places[(sum + past - j) as usize];
         }
-        cursors
     }
 
     // The cursors before the first level list of a sum.
-    pub fn before_first(&self, sum: u32) -> [u64; 9]
+    pub fn before_first(&self, sum: u32, cursors: &mut [u64; 9])
         requires { sum ≤ self.now.facet.line.shape.level }
-        ensures { Cursors self.now.facet sum 0 result }
+        ensures { Cursors self.now.facet sum 0 cursors.new }
     {
-        self.back_from(sum, 0)
+        self.back_from(sum, 0, cursors);
     }
 
     // The cursors after the last level list of a sum.
-    pub fn after_last(&self, sum: u32) -> [u64; 9]
+    pub fn after_last(&self, sum: u32, cursors: &mut [u64; 9])
         requires { sum ≤ self.now.facet.line.shape.level }
-        ensures { Cursors self.now.facet sum (vectors self.now.facet.axes sum) result }
+        ensures { Cursors self.now.facet sum (vectors self.now.facet.axes sum) cursors.new }
     {
-        self.back_from(sum, 1)
+        self.back_from(sum, 1, cursors);
     }
 }
 

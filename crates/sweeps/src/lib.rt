@@ -30,7 +30,8 @@ pub fn lower_face(facet: Facet, table: &mut [i64]) -> u64
     let starts = Starts::of(facet);
     let mut start = starts.end();
     let mut vector = LevelVector::last(facet.axes, facet.line.shape.level);
-    let mut cursors = starts.after_last(vector.sum);
+    let mut cursors = [0u64; 9];
+    starts.after_last(vector.sum, &mut cursors);
     let mut odd: u64 = 0;
     loop {
         start -= 1 << vector.sum;
@@ -42,7 +43,7 @@ pub fn lower_face(facet: Facet, table: &mut [i64]) -> u64
         }
         vector.previous();
         if vector.sum < v.vector.sum {
-            cursors = starts.after_last(vector.sum);
+            starts.after_last(vector.sum, &mut cursors);
         }
     }
 }
@@ -61,7 +62,8 @@ pub fn raise_face(facet: Facet, table: &mut [i64]) -> u64
     let end = starts.end();
     let mut start = facet.base;
     let mut vector = LevelVector::first(facet.axes);
-    let mut cursors = starts.before_first(vector.sum);
+    let mut cursors = [0u64; 9];
+    starts.before_first(vector.sum, &mut cursors);
     let mut odd: u64 = 0;
     loop {
         let v = Subspace::on(facet, &vector, start);
@@ -73,7 +75,7 @@ pub fn raise_face(facet: Facet, table: &mut [i64]) -> u64
         cursors::pass(v, &mut cursors);
         vector.next();
         if v.vector.sum < vector.sum {
-            cursors = starts.before_first(vector.sum);
+            starts.before_first(vector.sum, &mut cursors);
         }
     }
 }

@@ -24,42 +24,27 @@ returns-then-v-eq0-clause-turned g c =
 
 -- ---- a list that moves
 
+pub moved-requires : goal.moved-requires
+moved-requires g c = (c.requires.0, c.requires.1, omega (arith, c.if-v-eq0.false), sym c.in-Some.is ∙ c.requires.2)
+
 pub returns-in-Some-clause-worked : goal.returns-in-Some-clause-worked
-returns-in-Some-clause-worked g c = list_worked_lem (seen c.args.v) (on_line c.args.v.facet.line c.requires.1.0) c.sized_blocks.ensures
+returns-in-Some-clause-worked g c = list_worked_lem (seen c.args.v) (on_line c.args.v.facet.line c.requires.1.0) c.moved.ensures
 
 pub returns-in-Some-clause-turned : goal.returns-in-Some-clause-turned
 returns-in-Some-clause-turned g c =
     let pre = c.requires in
     λ old long came.
-    work_turned (seen c.args.v) g.D.Direction.ahead c.sized_blocks.result old c.args.table.now c.sized_blocks.new.table c.sized_blocks.ensures (long ∙ pre.1.0) came
+    work_turned (seen c.args.v) g.D.Direction.ahead c.moved.result old c.args.table.now c.moved.new.table c.moved.ensures (long ∙ pre.1.0) came
 
-pub returns-then-v-eq1-clause-worked : goal.returns-then-v-eq1-clause-worked
-returns-then-v-eq1-clause-worked g c = list_worked_lem (seen c.args.v) (on_line c.args.v.facet.line c.requires.1.0) c.sized_blocks-then-v-eq1.ensures
+pub moved-requires-in-None : goal.moved-requires-in-None
+moved-requires-in-None g c = (c.requires.0, c.requires.1, omega (arith, c.if-v-eq0.false), sym c.in-None.is ∙ c.requires.2)
 
-pub returns-then-v-eq1-clause-turned : goal.returns-then-v-eq1-clause-turned
-returns-then-v-eq1-clause-turned g c =
+pub returns-in-None-clause-worked : goal.returns-in-None-clause-worked
+returns-in-None-clause-worked g c = list_worked_lem (seen c.args.v) (on_line c.args.v.facet.line c.requires.1.0) c.moved-in-None.ensures
+
+pub returns-in-None-clause-turned : goal.returns-in-None-clause-turned
+returns-in-None-clause-turned g c =
     let pre = c.requires in
     λ old long came.
-    work_turned (seen c.args.v) g.D.Direction.ahead c.sized_blocks-then-v-eq1.result old c.args.table.now c.sized_blocks-then-v-eq1.new.table
-    c.sized_blocks-then-v-eq1.ensures (long ∙ pre.1.0) came
-
-pub returns-else-v-eq1-clause-worked : goal.returns-else-v-eq1-clause-worked
-returns-else-v-eq1-clause-worked g c = list_worked_lem (seen c.args.v) (on_line c.args.v.facet.line c.requires.1.0) c.sized_blocks-in-None.ensures
-
-pub returns-else-v-eq1-clause-turned : goal.returns-else-v-eq1-clause-turned
-returns-else-v-eq1-clause-turned g c =
-    let pre = c.requires in
-    λ old long came.
-    work_turned (seen c.args.v) g.D.Direction.ahead c.sized_blocks-in-None.result old c.args.table.now c.sized_blocks-in-None.new.table
-    c.sized_blocks-in-None.ensures (long ∙ pre.1.0) came
-
--- ---- what lies across the border
-
-pub sized_blocks-requires : goal.sized_blocks-requires
-sized_blocks-requires g c = (c.requires.0, c.requires.1, omega (arith, c.if-v-eq0.false), sym c.in-Some.is ∙ c.requires.2)
-
-pub sized_blocks-requires-in-None : goal.sized_blocks-requires-in-None
-sized_blocks-requires-in-None g c = (c.requires.0, c.requires.1, omega (arith, c.if-v-eq0.false), sym c.in-None.is ∙ c.requires.2)
-
-pub sized_blocks-requires-then-v-eq1 : goal.sized_blocks-requires-then-v-eq1
-sized_blocks-requires-then-v-eq1 g c = (c.requires.0, c.requires.1, omega (arith, c.if-v-eq0.false), sym c.in-None.is ∙ c.requires.2)
+    work_turned (seen c.args.v) g.D.Direction.ahead c.moved-in-None.result old c.args.table.now c.moved-in-None.new.table c.moved-in-None.ensures
+    (long ∙ pre.1.0) came

@@ -23,8 +23,8 @@ last-vector-requires c =
     let facet = c.args.facet in
     (omega (arith, facet.inner), facet.few)
 
-pub after_last-cursors-requires : goal.after_last-cursors-requires
-after_last-cursors-requires c = rw c.of-starts.ensures (last_standing c.args.facet c.last-vector.result c.last-vector.ensures).low
+pub after_last-requires : goal.after_last-requires
+after_last-requires c = rw c.of-starts.ensures (last_standing c.args.facet c.last-vector.result c.last-vector.ensures).low
 
 pub loop-start-init : goal.loop-start-init
 loop-start-init c =
@@ -33,7 +33,7 @@ loop-start-init c =
     let top = last_of_face facet vector c.last-vector.ensures in
     let seen = goal.at.loop-start-init c in (
       last_standing facet vector c.last-vector.ensures,
-      rw top (rw c.of-starts.ensures at c.after_last-cursors.ensures),
+      rw top (rw c.of-starts.ensures at c.after_last.ensures),
       rw (top, c.last-vector.ensures.1) (lowering_starts facet _ c.requires.0 c.end-start.result (ends seen.After-end-start)),
     )
 
@@ -117,7 +117,7 @@ loop-start-preserved-then-vector-v c =
       previous_standing c.loop-start.invariant.0 c.previous.new.self c.previous.ensures,
       ⊎_elim
           (λ same. absurd (omega (arith, same.0, rw m.same at c.if-vector-v.true)))
-          (λ below. rw below.2 (rw c.of-starts.ensures at c.after_last-cursors-then-vector-v.ensures))
+          (λ below. rw below.2 (rw c.of-starts.ensures at c.after_last-then-vector-v.ensures))
           before,
       lowering_next c.args.facet _ c.requires.0 (done seen.After-work-odd) before,
     )

@@ -23,7 +23,7 @@ loop-start-init c =
     let first = c.first-vector.ensures in
     let none = first_rank facet c.first-vector.result first in (
       first_standing facet c.first-vector.result first,
-      rw none (rw c.of-starts.ensures at c.before_first-cursors.ensures),
+      rw none (rw c.of-starts.ensures at c.before_first.ensures),
       rw (none, first.1) (raising_starts facet _ c.requires.0),
     )
 
@@ -115,9 +115,9 @@ follows : (c : After-next) →
     Follows facet.axes here.sum (rank (at here.levels) facet.axes) next.sum (rank (at next.levels) facet.axes)
 follows c = next_follows c.loop-start.invariant.0 c.next.new.self c.next.ensures
 
-pub before_first-cursors-requires-then-v-vector : goal.before_first-cursors-requires-then-v-vector
-before_first-cursors-requires-then-v-vector c =
-    rw c.of-starts.ensures (stands (goal.at.before_first-cursors-requires-then-v-vector c).After-next).low
+pub before_first-requires-then-v-vector : goal.before_first-requires-then-v-vector
+before_first-requires-then-v-vector c =
+    rw c.of-starts.ensures (stands (goal.at.before_first-requires-then-v-vector c).After-next).low
 
 -- Less of the face is left.
 nearer : (c : After-next) →
@@ -152,7 +152,7 @@ loop-start-preserved-then-v-vector c =
       here,
       ⊎_elim
           (λ same. absurd (omega (arith, same.0, rw m.same at c.if-v-vector.true)))
-          (λ above. rw above.1 (rw c.of-starts.ensures at c.before_first-cursors-then-v-vector.ensures))
+          (λ above. rw above.1 (rw c.of-starts.ensures at c.before_first-then-v-vector.ensures))
           next,
       raising_next c.args.facet _ c.requires.0 (done seen.After-work-odd) here.low next,
     )
