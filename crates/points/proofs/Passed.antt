@@ -1,9 +1,9 @@
 -- What a passed check of a point tells: a shape in range, lists of a place for each axis, and a point of the shape in them; and a point of a shape in range
 -- passes. By value it is the same point and has the same number, since past its axes it has zeros.
 -- Assumes nothing.
-use Rattle.std.specs.Prelude.{Ok}
+use Rattle.std.specs.Prelude.{Ok, Err}
 use mathlib.Core.Path.{◌≡◌, ap, ◌∙◌}
-use mathlib.Core.Bool.{Bool, true, false, ◌&&◌}
+use mathlib.Core.Bool.{Bool, true, false, ◌&&◌, and-false}
 use mathlib.Core.List.{List}
 use Prim.Native.Nat.{ℕ}
 use native.Mathlib.Omega.{arith}
@@ -20,7 +20,7 @@ use Rattle.shapes.specs.declared.Shape.{Shape}
 use Rattle.shapes.specs.Shapes.{check_shape}
 use Rattle.shapes.proofs.Checked.{InRange, passed_in_range}
 use Rattle.grids.proofs.Points.{PointOf}
-use Rattle.points.specs.Points.{fitting, check_lists, check_point, eight}
+use Rattle.points.specs.Points.{fitting, check_lists, check_point, eight, bare_point, point_in}
 use Rattle.points.specs.Steps.{PointIn}
 use Rattle.points.proofs.Eight.{eight_length, padded_at}
 use Rattle.points.proofs.PointTest.{is_point_lem, point_passes}
@@ -45,21 +45,18 @@ module _ (s : Shape) (ms ls is : List ℕ) where
 
   -- Of lists of the right length the tests of the point decide.
   module _ (em : length ms ≡ s.axes) (el : length ls ≡ s.axes) (ei : length is ≡ s.axes) where
-    pub no_point : is_point (length ls) s.level (at ls) (at is) ≡ false → check_lists s ms ls is ≡ unless false NoPoint
-    unfolding check_lists
-    no_point e = simp (eq-eqb (length ms) s.axes em, eq-eqb (length ls) s.axes el, eq-eqb (length is) s.axes ei, rw el at e)
+    pub no_point : point ≡ false → point_in s ms ls is ≡ Err NoPoint
+    unfolding point_in check_lists
+    no_point e = simp (eq-eqb (length ms) s.axes em, eq-eqb (length ls) s.axes el, eq-eqb (length is) s.axes ei, e)
 
-    pub marks_tested : is_point (length ls) s.level (at ls) (at is) ≡ true → (r : Bool) →
-        all (fitting s.border (at ms) (at ls) (at is)) (length ms) ≡ r → check_lists s ms ls is ≡ unless r NoPoint
-    unfolding check_lists
-    marks_tested e r f =
-        simp (
-          eq-eqb (length ms) s.axes em,
-          eq-eqb (length ls) s.axes el,
-          eq-eqb (length is) s.axes ei,
-          rw el at e,
-          rw em at f,
-        )
+    pub no_marks : fits ≡ false → point_in s ms ls is ≡ Err NoPoint
+    unfolding point_in check_lists
+    no_marks e =
+        simp (eq-eqb (length ms) s.axes em, eq-eqb (length ls) s.axes el, eq-eqb (length is) s.axes ei, ap (λ (b : Bool). point && b) e, and-false)
+
+    pub all_tested : point ≡ true → fits ≡ true → point_in s ms ls is ≡ Ok (bare_point (at ls) (at is))
+    unfolding point_in check_lists
+    all_tested e f = simp (eq-eqb (length ms) s.axes em, eq-eqb (length ls) s.axes el, eq-eqb (length is) s.axes ei, e, f)
 
   pub passes_in : InRange s → check_lists s ms ls is ≡ Ok tt → Passes s ms ls is
   unfolding check_lists

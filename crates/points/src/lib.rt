@@ -35,24 +35,6 @@ fn is_index(l: u32, i: u32) -> bool
     i < (2 << l)
 }
 
-// Levels that sum to at most the top level, each with an index of it. No sum is formed of levels that were not tested.
-fn is_point(level: u32, levels: &[u32], indices: &[u32]) -> bool
-    requires { (level ≤ 8) × (length levels.now ≡ length indices.now) }
-    ensures { result ≡ is_point (length levels.now) level (at levels.now) (at indices.now) }
-{
-    let mut left = level;
-    for (l, i) in levels.iter().zip(indices) {
-        if left < *l {
-            return false;
-        }
-        if !is_index(*l, *i) {
-            return false;
-        }
-        left -= *l;
-    }
-    true
-}
-
 // Inside, or, where there are values on the border, on a border with level 0 and index 1.
 fn mark_fits(border: bool, mark: u32, level: u32, index: u32) -> bool
     ensures { result ≡ mark_fits border mark level index }
@@ -72,27 +54,17 @@ fn mark_fits(border: bool, mark: u32, level: u32, index: u32) -> bool
     index == 1
 }
 
-// A mark that fits on each axis.
-fn marks_fit(border: bool, marks: &[u32], levels: &[u32], indices: &[u32]) -> bool
-    requires { (length levels.now ≡ length marks.now) × (length indices.now ≡ length marks.now) }
-    ensures { result ≡ all (fitting border (at marks.now) (at levels.now) (at indices.now)) (length marks.now) }
-{
-    for (t, mark) in marks.iter().enumerate() {
-        if !mark_fits(border, *mark, levels[t], indices[t]) {
-            return false;
-        }
-    }
-    true
-}
-
-// Refused with 7 or 9.
-fn check_lists(
+// A point of a checked shape that is handed in as three lists: its levels and indices by value. Refused with 7 or 9. One walk along the axes tests and takes them.
+// No sum is formed of levels that were not tested. (By index, into two arrays, since past a zip with `iter_mut` nothing is known of what it wrote; compiled into
+// its callers: what is found is not copied once more.)
+#[inline(always)]
+pub fn point_in(
     checked: CheckedShape,
     marks: &[u32],
     levels: &[u32],
     indices: &[u32],
-) -> Result<(), Refusal>
-    ensures { result ≡ check_lists checked.shape marks.now levels.now indices.now }
+) -> Result<Point, Refusal>
+    ensures { result ≡ point_in checked.shape marks.now levels.now indices.now }
 {
     let axes = checked.shape.axes as usize;
     if marks.len() != axes {
@@ -104,34 +76,34 @@ fn check_lists(
     if indices.len() != axes {
         return Err(Refusal::ListLength);
     }
-    if !is_point(checked.shape.level, levels, indices) {
-        return Err(Refusal::NoPoint);
+    let mut found_levels = [0u32; 8];
+    let mut found_indices = [0u32; 8];
+    let mut left = checked.shape.level;
+    for t in 0..axes {
+        let level = levels[t];
+        let index = indices[t];
+        if left < level {
+            return Err(Refusal::NoPoint);
+        }
+        if !is_index(level, index) {
+            return Err(Refusal::NoPoint);
+        }
+        if !mark_fits(checked.shape.border, marks[t], level, index) {
+            return Err(Refusal::NoPoint);
+        }
+        found_levels[t] = level;
+        found_indices[t] = index;
+        left -= level;
     }
-    if !marks_fit(checked.shape.border, marks, levels, indices) {
-        return Err(Refusal::NoPoint);
-    }
-    Ok(())
-}
-
-// A point of a checked shape that is handed in as three lists: its levels and indices by value.
-#[tactic(auto, unfolding(crate::specs::Points::point_in))]
-pub fn point_in(
-    checked: CheckedShape,
-    marks: &[u32],
-    levels: &[u32],
-    indices: &[u32],
-) -> Result<Point, Refusal>
-    ensures { result ≡ point_in checked.shape marks.now levels.now indices.now }
-{
-    check_lists(checked, marks, levels, indices)?;
     Ok(Point {
-        levels: padded(levels),
-        indices: padded(indices),
+        levels: found_levels,
+        indices: found_indices,
     })
 }
 
 // A point that is handed in as three lists: its levels and indices by value.
 #[tactic(auto, unfolding(crate::specs::Points::point_from, crate::specs::Points::check_point, crate::specs::Points::point_in))]
+#[inline(always)]
 pub fn point_from(
     shape: Shape,
     marks: &[u32],
