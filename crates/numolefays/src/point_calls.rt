@@ -7,8 +7,6 @@ ghost use Rattle.parents.specs.Parents.{parent_of};
 ghost use Rattle.answers.specs.Returned.{returned};
 ghost use Rattle.answers.specs.Answers.{shape_of, side_of, of_value, of_point, of_located};
 
-use shapes::Shape;
-
 // How many points the shape has.
 #[unsafe(no_mangle)]
 pub extern "C" fn numolefays_count(
@@ -61,45 +59,6 @@ pub extern "C" fn numolefays_point_of_number(
     answers::hand_point(answer, marks, levels, indices, place)
 }
 
-// ---- successor and parent (a shape's sort is asked first, and the call with values on the border stands apart: compiled into one, the calls copy what they find
-// once more on the way out, and take a fifth more instructions on tables with a zero border)
-
-// The successor of a point goes out.
-#[inline(always)]
-fn next_out(
-    shape: Shape,
-    marks: &[u32],
-    levels: &[u32],
-    indices: &[u32],
-    next_marks: &mut [u32; 8],
-    next_levels: &mut [u32; 8],
-    next_indices: &mut [u32; 8],
-    end: &mut u32,
-    place: &mut u64,
-) -> u32
-    ensures { returned result place.new (next_marks.new, next_levels.new, next_indices.new, end.new) ≡ of_located (next_marks.old, next_levels.old, next_indices.old, end.old) (successor_of shape marks.now levels.now indices.now) }
-{
-    let answer = successor::successor(shape, marks, levels, indices);
-    answers::hand_located(answer, next_marks, next_levels, next_indices, end, place)
-}
-
-#[inline(never)]
-fn next_out_on_faces(
-    shape: Shape,
-    marks: &[u32],
-    levels: &[u32],
-    indices: &[u32],
-    next_marks: &mut [u32; 8],
-    next_levels: &mut [u32; 8],
-    next_indices: &mut [u32; 8],
-    end: &mut u32,
-    place: &mut u64,
-) -> u32
-    ensures { returned result place.new (next_marks.new, next_levels.new, next_indices.new, end.new) ≡ of_located (next_marks.old, next_levels.old, next_indices.old, end.old) (successor_of shape marks.now levels.now indices.now) }
-{
-    next_out(shape, marks, levels, indices, next_marks, next_levels, next_indices, end, place)
-}
-
 // The successor of a point: `end` is 1 after the last point, else 0.
 #[unsafe(no_mangle)]
 pub extern "C" fn numolefays_successor(
@@ -117,51 +76,13 @@ pub extern "C" fn numolefays_successor(
 ) -> u32
     ensures { returned result place.new (next_marks.new, next_levels.new, next_indices.new, end.new) ≡ of_located (next_marks.old, next_levels.old, next_indices.old, end.old) (successor_of (shape_of axes level border) marks.now levels.now indices.now) }
 {
-    let shape = answers::shape_of(axes, level, border);
-    if shape.border {
-        return next_out_on_faces(shape, marks, levels, indices, next_marks, next_levels, next_indices, end, place);
-    }
-    next_out(shape, marks, levels, indices, next_marks, next_levels, next_indices, end, place)
-}
-
-// The parent of a point goes out.
-#[inline(always)]
-fn parent_out(
-    shape: Shape,
-    marks: &[u32],
-    levels: &[u32],
-    indices: &[u32],
-    axis: u32,
-    side: u32,
-    parent_marks: &mut [u32; 8],
-    parent_levels: &mut [u32; 8],
-    parent_indices: &mut [u32; 8],
-    none: &mut u32,
-    place: &mut u64,
-) -> u32
-    ensures { returned result place.new (parent_marks.new, parent_levels.new, parent_indices.new, none.new) ≡ of_located (parent_marks.old, parent_levels.old, parent_indices.old, none.old) (parent_of shape marks.now levels.now indices.now axis (side_of side)) }
-{
-    let answer = parents::parent(shape, marks, levels, indices, axis, answers::side_of(side));
-    answers::hand_located(answer, parent_marks, parent_levels, parent_indices, none, place)
-}
-
-#[inline(never)]
-fn parent_out_on_faces(
-    shape: Shape,
-    marks: &[u32],
-    levels: &[u32],
-    indices: &[u32],
-    axis: u32,
-    side: u32,
-    parent_marks: &mut [u32; 8],
-    parent_levels: &mut [u32; 8],
-    parent_indices: &mut [u32; 8],
-    none: &mut u32,
-    place: &mut u64,
-) -> u32
-    ensures { returned result place.new (parent_marks.new, parent_levels.new, parent_indices.new, none.new) ≡ of_located (parent_marks.old, parent_levels.old, parent_indices.old, none.old) (parent_of shape marks.now levels.now indices.now axis (side_of side)) }
-{
-    parent_out(shape, marks, levels, indices, axis, side, parent_marks, parent_levels, parent_indices, none, place)
+    let answer = successor::successor(
+        answers::shape_of(axes, level, border),
+        marks,
+        levels,
+        indices,
+    );
+    answers::hand_located(answer, next_marks, next_levels, next_indices, end, place)
 }
 
 // The parent of a point on an axis, on side 0 the left one and else the right one: `none` is 1 where there is none, else 0.
@@ -184,8 +105,13 @@ pub extern "C" fn numolefays_parent(
     ensures { returned result place.new (parent_marks.new, parent_levels.new, parent_indices.new, none.new) ≡ of_located (parent_marks.old, parent_levels.old, parent_indices.old, none.old) (parent_of (shape_of axes level border) marks.now levels.now indices.now axis (side_of side)) }
 {
     let shape = answers::shape_of(axes, level, border);
-    if shape.border {
-        return parent_out_on_faces(shape, marks, levels, indices, axis, side, parent_marks, parent_levels, parent_indices, none, place);
-    }
-    parent_out(shape, marks, levels, indices, axis, side, parent_marks, parent_levels, parent_indices, none, place)
+    let answer = parents::parent(shape, marks, levels, indices, axis, answers::side_of(side));
+    answers::hand_located(
+        answer,
+        parent_marks,
+        parent_levels,
+        parent_indices,
+        none,
+        place,
+    )
 }

@@ -103,8 +103,9 @@ fn beside(border: bool, t: usize, side: Side, p: MarkedPoint) -> Option<MarkedPo
 }
 
 // What lies beside a point that is handed in as three lists, or none.
-#[tactic(auto, using(points::proofs::Handed::lists_refused), unfolding(crate::specs::Parents::parent_of))]
-pub fn parent(
+#[tactic(auto, unfolding(crate::specs::Parents::parent_of))]
+#[inline(always)]
+fn found(
     shape: Shape,
     marks: &[u32],
     levels: &[u32],
@@ -116,7 +117,8 @@ pub fn parent(
 {
     let checked = shape.check()?;
     shape.check_axis(axis)?;
-    let point = points::point_in(checked, marks, levels, indices)?;
+    let (verdict, point) = points::read(checked, marks, levels, indices);
+    verdict?;
     let marks = points::marks_from(shape.border, marks);
     Ok(beside(
         shape.border,
@@ -124,4 +126,36 @@ pub fn parent(
         side,
         MarkedPoint { marks, point },
     ))
+}
+
+// The same, of a table with values on the border. (A call of its own: what the two sorts find is not copied together.)
+#[inline(never)]
+fn found_on_faces(
+    shape: Shape,
+    marks: &[u32],
+    levels: &[u32],
+    indices: &[u32],
+    axis: u32,
+    side: Side,
+) -> Result<Option<MarkedPoint>, Refusal>
+    ensures { result ≡ parent_of shape marks.now levels.now indices.now axis side }
+{
+    found(shape, marks, levels, indices, axis, side)
+}
+
+// The parent of a point on an axis, on one side, or none.
+pub fn parent(
+    shape: Shape,
+    marks: &[u32],
+    levels: &[u32],
+    indices: &[u32],
+    axis: u32,
+    side: Side,
+) -> Result<Option<MarkedPoint>, Refusal>
+    ensures { result ≡ parent_of shape marks.now levels.now indices.now axis side }
+{
+    if shape.border {
+        return found_on_faces(shape, marks, levels, indices, axis, side);
+    }
+    found(shape, marks, levels, indices, axis, side)
 }

@@ -1,13 +1,14 @@
 -- A point that was handed in and passed: by value it is a point of the shape, and has the levels and indices of the lists.
 -- Assumes nothing.
 use Rattle.std.specs.Prelude.{Ok, Err}
-use mathlib.Core.Path.{◌≡◌}
+use mathlib.Core.Path.{◌≡◌, ap, sym}
 use mathlib.Core.List.{List}
 use Prim.Native.Nat.{ℕ}
 use Rattle.numbering.specs.Point.{at}
 use Rattle.refusals.specs.declared.Refusal.{Refusal}
 use Rattle.refusals.proofs.Passing.{result_passed, result_refused}
 use Rattle.shapes.specs.declared.Shape.{Shape}
+use Rattle.shapes.specs.Shapes.{check_shape}
 use Rattle.shapes.proofs.Checked.{InRange}
 use Rattle.points.specs.declared.Point.{Point}
 use Rattle.points.specs.Points.{check_lists, check_point, bare_point, point_in, point_from}
@@ -37,6 +38,16 @@ turned_away s ms ls is {r} e = result_refused (check_point s ms ls is) (bare_poi
 pub lists_refused : (s : Shape) (ms ls is : List ℕ) {r : Refusal} → point_in s ms ls is ≡ Err r → check_lists s ms ls is ≡ Err r
 unfolding point_in
 lists_refused s ms ls is {r} e = result_refused (check_lists s ms ls is) (bare_point (at ls) (at is)) r e
+
+-- As `points::read` has it, verdict and point side by side.
+module _ (s : Shape) (ms ls is : List ℕ) {p : Point} (passed : check_lists s ms ls is ≡ Ok tt) (value : p ≡ bare_point (at ls) (at is)) where
+  pub read_in : point_in s ms ls is ≡ Ok p
+  unfolding point_in
+  read_in = rw passed (ap Ok (sym value))
+
+  pub read_from : check_shape s ≡ Ok tt → point_from s ms ls is ≡ Ok p
+  unfolding point_from check_point
+  read_from shape = rw (shape, passed) (ap Ok (sym value))
 
 module _ (s : Shape) (ms ls is : List ℕ) {p : Point} (e : point_from s ms ls is ≡ Ok p) where
   both : (check_point s ms ls is ≡ Ok tt) × (bare_point (at ls) (at is) ≡ p)

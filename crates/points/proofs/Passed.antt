@@ -45,17 +45,17 @@ module _ (s : Shape) (ms ls is : List ℕ) where
 
   -- Of lists of the right length the tests of the point decide.
   module _ (em : length ms ≡ s.axes) (el : length ls ≡ s.axes) (ei : length is ≡ s.axes) where
-    pub no_point : point ≡ false → point_in s ms ls is ≡ Err NoPoint
-    unfolding point_in check_lists
+    pub no_point : point ≡ false → check_lists s ms ls is ≡ Err NoPoint
+    unfolding check_lists
     no_point e = simp (eq-eqb (length ms) s.axes em, eq-eqb (length ls) s.axes el, eq-eqb (length is) s.axes ei, e)
 
-    pub no_marks : fits ≡ false → point_in s ms ls is ≡ Err NoPoint
-    unfolding point_in check_lists
+    pub no_marks : fits ≡ false → check_lists s ms ls is ≡ Err NoPoint
+    unfolding check_lists
     no_marks e =
         simp (eq-eqb (length ms) s.axes em, eq-eqb (length ls) s.axes el, eq-eqb (length is) s.axes ei, ap (λ (b : Bool). point && b) e, and-false)
 
-    pub all_tested : point ≡ true → fits ≡ true → point_in s ms ls is ≡ Ok (bare_point (at ls) (at is))
-    unfolding point_in check_lists
+    pub all_tested : point ≡ true → fits ≡ true → check_lists s ms ls is ≡ Ok tt
+    unfolding check_lists
     all_tested e f = simp (eq-eqb (length ms) s.axes em, eq-eqb (length ls) s.axes el, eq-eqb (length is) s.axes ei, e, f)
 
   pub passes_in : InRange s → check_lists s ms ls is ≡ Ok tt → Passes s ms ls is

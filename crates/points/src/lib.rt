@@ -1,10 +1,9 @@
 // Points by value, and the check of a point that is handed in as three lists.
 #![tactic(auto)]
 
-ghost use Rattle.std.specs.Prelude.{◌≡◌, ℕ, ◌≤◌, ◌<◌, length, false};
-ghost use Rattle.naturals.specs.Test.{all};
-ghost use Rattle.numbering.specs.Point.{at, is_index, is_point};
-ghost use Rattle.points.specs.Points.{mark_fits, fitting, eight, check_lists, point_in, point_from};
+ghost use Rattle.std.specs.Prelude.{◌≡◌, ℕ, ◌≤◌, ◌<◌, false, IfOk};
+ghost use Rattle.numbering.specs.Point.{at, is_index};
+ghost use Rattle.points.specs.Points.{mark_fits, eight, check_lists, bare_point, point_in, point_from};
 
 use refusals::Refusal;
 use shapes::{CheckedShape, Shape};
@@ -54,9 +53,54 @@ fn mark_fits(border: bool, mark: u32, level: u32, index: u32) -> bool
     index == 1
 }
 
-// A point of a checked shape that is handed in as three lists: its levels and indices by value. Refused with 7 or 9. One walk along the axes tests and takes them.
-// No sum is formed of levels that were not tested. (By index, into two arrays, since past a zip with `iter_mut` nothing is known of what it wrote; compiled into
-// its callers: what is found is not copied once more.)
+// A point of a checked shape that is handed in as three lists: whether it is refused, with 7 or 9, and beside it, where it is not, its levels and indices by value. One
+// walk along the axes tests and takes them. No sum is formed of levels that were not tested. (By index, into two arrays, since past a zip with `iter_mut` nothing is
+// known of what it wrote. Side by side, and compiled into the callers: inside a `Result` the point is taken apart and put together again.)
+#[inline(always)]
+pub fn read(
+    checked: CheckedShape,
+    marks: &[u32],
+    levels: &[u32],
+    indices: &[u32],
+) -> (Result<(), Refusal>, Point)
+    ensures { (result.0 ≡ check_lists checked.shape marks.now levels.now indices.now) × IfOk result.0 (λ passed. result.1 ≡ bare_point (at levels.now) (at indices.now)) }
+{
+    let axes = checked.shape.axes as usize;
+    let mut p = Point {
+        levels: [0; 8],
+        indices: [0; 8],
+    };
+    if marks.len() != axes {
+        return (Err(Refusal::ListLength), p);
+    }
+    if levels.len() != axes {
+        return (Err(Refusal::ListLength), p);
+    }
+    if indices.len() != axes {
+        return (Err(Refusal::ListLength), p);
+    }
+    let mut left = checked.shape.level;
+    for t in 0..axes {
+        let level = levels[t];
+        let index = indices[t];
+        if left < level {
+            return (Err(Refusal::NoPoint), p);
+        }
+        if !is_index(level, index) {
+            return (Err(Refusal::NoPoint), p);
+        }
+        if !mark_fits(checked.shape.border, marks[t], level, index) {
+            return (Err(Refusal::NoPoint), p);
+        }
+        p.levels[t] = level;
+        p.indices[t] = index;
+        left -= level;
+    }
+    (Ok(()), p)
+}
+
+// The same, the point in the answer.
+#[tactic(auto, unfolding(crate::specs::Points::point_in))]
 #[inline(always)]
 pub fn point_in(
     checked: CheckedShape,
@@ -66,39 +110,9 @@ pub fn point_in(
 ) -> Result<Point, Refusal>
     ensures { result ≡ point_in checked.shape marks.now levels.now indices.now }
 {
-    let axes = checked.shape.axes as usize;
-    if marks.len() != axes {
-        return Err(Refusal::ListLength);
-    }
-    if levels.len() != axes {
-        return Err(Refusal::ListLength);
-    }
-    if indices.len() != axes {
-        return Err(Refusal::ListLength);
-    }
-    let mut found_levels = [0u32; 8];
-    let mut found_indices = [0u32; 8];
-    let mut left = checked.shape.level;
-    for t in 0..axes {
-        let level = levels[t];
-        let index = indices[t];
-        if left < level {
-            return Err(Refusal::NoPoint);
-        }
-        if !is_index(level, index) {
-            return Err(Refusal::NoPoint);
-        }
-        if !mark_fits(checked.shape.border, marks[t], level, index) {
-            return Err(Refusal::NoPoint);
-        }
-        found_levels[t] = level;
-        found_indices[t] = index;
-        left -= level;
-    }
-    Ok(Point {
-        levels: found_levels,
-        indices: found_indices,
-    })
+    let (verdict, p) = read(checked, marks, levels, indices);
+    verdict?;
+    Ok(p)
 }
 
 // A point that is handed in as three lists: its levels and indices by value.

@@ -2,7 +2,7 @@
 // the last point of a face the first of the next face.
 #![tactic(auto)]
 
-ghost use Rattle.std.specs.Prelude.{◌≡◌, ◌^◌, ◌≤◌, ◌<◌};
+ghost use Rattle.std.specs.Prelude.{true, ◌≡◌, ◌^◌, ◌≤◌, ◌<◌};
 ghost use Rattle.numbering.specs.Point.{at, IsPoint};
 ghost use Rattle.numbering.specs.Number.{number};
 ghost use Rattle.faces.specs.Marked.{Marked, border_number};
@@ -103,8 +103,24 @@ fn next_marked(axes: u32, level: u32, marks: [u32; 8], p: Point) -> Option<Marke
 
 // ---- the call
 
-// The successor of a point, or none, the end, after the last.
+// The successor of a point of a table with values on the border. (A call of its own: what the two sorts find is not copied together.)
+#[inline(never)]
 #[tactic(auto, using(points::proofs::Handed::turned_away), unfolding(crate::specs::Successor::successor_of))]
+fn successor_on_faces(
+    shape: Shape,
+    marks: &[u32],
+    levels: &[u32],
+    indices: &[u32],
+) -> Result<Option<MarkedPoint>, Refusal>
+    requires { shape.border ≡ true }
+    ensures { result ≡ successor_of shape marks.now levels.now indices.now }
+{
+    let p = points::point_from(shape, marks, levels, indices)?;
+    Ok(next_marked(shape.axes, shape.level, points::padded(marks), p))
+}
+
+// The successor of a point, or none, the end, after the last.
+#[tactic(auto, unfolding(crate::specs::Successor::successor_of, points::specs::Points::check_point))]
 pub fn successor(
     shape: Shape,
     marks: &[u32],
@@ -113,10 +129,11 @@ pub fn successor(
 ) -> Result<Option<MarkedPoint>, Refusal>
     ensures { result ≡ successor_of shape marks.now levels.now indices.now }
 {
-    let p = points::point_from(shape, marks, levels, indices)?;
     if shape.border {
-        let marks = points::padded(marks);
-        return Ok(next_marked(shape.axes, shape.level, marks, p));
+        return successor_on_faces(shape, marks, levels, indices);
     }
+    let checked = shape.check()?;
+    let (verdict, p) = points::read(checked, marks, levels, indices);
+    verdict?;
     Ok(next_point(shape.axes, shape.level, p))
 }

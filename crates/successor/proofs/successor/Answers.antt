@@ -1,40 +1,37 @@
--- `successor::successor` meets its contract: the check of the point decides the refusal, and what it passes is a point of the shape, which is stepped as its sort is
--- numbered.
+-- `successor::successor` meets its contract: the checks of shape and point decide the refusal, and what they pass is a point of the shape, which is stepped as its sort
+-- is numbered.
 -- Assumes nothing.
 use Rattle.std.specs.Prelude.{Ok}
-use mathlib.Core.Path.{sym, ap, ◌∙◌}
-use Rattle.numbering.specs.Point.{at}
-use Rattle.shapes.proofs.Layers.{most_bordered}
-use Rattle.points.proofs.Handed.{point_checked, handed}
-use Rattle.points.proofs.Passed.{marks_by_value}
+use mathlib.Core.Path.{◌≡◌, sym, ap, ◌∙◌}
+use borrow.Author.Rules.{rules}
+use Rattle.points.specs.Points.{check_point, point_from}
+use Rattle.points.proofs.Handed.{read_from, point_checked, handed}
 use Rattle.successor.specs.Successor.{successor_of}
-use Rattle.successor.proofs.Sorts.{after_bordered, after_plain}
+use Rattle.successor.proofs.Sorts.{after_plain}
+use Rattle.successor.proofs.successor.Goals.{In_ok-verdict}
 use Rattle.successor.proofs.successor.Goals as goal
 
-pub next_marked-requires : goal.next_marked-requires
-next_marked-requires c =
-    let p = handed _ _ _ _ (sym c.in_ok-p.ensures) in
-    let marks = ap at c.padded-marks.ensures ∙ marks_by_value p.passes in
-    (most_bordered p.passes.shape c.if-shape.true, p.passes.shape.top, rw (marks, p.levels, p.indices) p.passes.named.marked)
+pub returns-in_err-verdict : goal.returns-in_err-verdict
+unfolding successor_of check_point
+returns-in_err-verdict c =
+    let lists = rw c.in_ok-checked.ensures.shape at (sym c.read-verdict.ensures.0 ∙ c.in_err-verdict.was) in
+    rw (sym c.in_ok-checked.ensures.verdict, lists) (search rules)
 
-pub returns-then-shape : goal.returns-then-shape
-unfolding successor_of
-returns-then-shape c =
-    let given = sym c.in_ok-p.ensures in
-    let p = handed _ _ _ _ given in
-    let marks = ap at c.padded-marks.ensures ∙ marks_by_value p.passes in
-    rw (point_checked _ _ _ _ given, ← p.levels, ← p.indices, ← marks)
-    (ap Ok (c.next_marked.ensures ∙ after_bordered c.args.shape c.if-shape.true _ _ _))
+-- what the passed checks hand on
+given : (c : In_ok-verdict) → let a = c.args in point_from a.shape a.marks.now a.levels.now a.indices.now ≡ Ok c.read-verdict.result.1
+given c =
+    let lists = rw c.in_ok-checked.ensures.shape at (sym c.read-verdict.ensures.0 ∙ c.in_ok-verdict.was) in
+    read_from _ _ _ _ lists (rw c.in_ok-verdict.was at c.read-verdict.ensures.1) (sym c.in_ok-checked.ensures.verdict)
 
 pub next_point-requires : goal.next_point-requires
 next_point-requires c =
-    let p = handed _ _ _ _ (sym c.in_ok-p.ensures) in
+    let p = handed _ _ _ _ (given (goal.at.next_point-requires c).In_ok-verdict) in
     (p.passes.shape.low, p.passes.shape.high, p.passes.shape.top, p.inside)
 
 pub returns : goal.returns
 unfolding successor_of
 returns c =
-    let given = sym c.in_ok-p.ensures in
+    let given = given (goal.at.returns c).In_ok-verdict in
     let p = handed _ _ _ _ given in
     rw (point_checked _ _ _ _ given, ← p.levels, ← p.indices)
     (ap Ok (c.next_point.ensures ∙ after_plain c.args.shape c.if-shape.false _ _ _))
