@@ -43,6 +43,13 @@ pub below_small : (k b a : ℕ) → k ≤ 4 → sum_to (having k b) a ≤ a * 12
 below_small k b zero few = omega (arith, sum_to_zero (having k b))
 below_small k b (suc a) few = omega (arith, sum_to_suc (having k b) a, below_small k b a few, having_small k b a few)
 
+-- Below the marks of the borders are the inner faces, and below that of the upper border those of the lower too.
+pub below_one : (k b : ℕ) → sum_to (having k b) 1 ≡ having k b 0
+below_one k b = omega (arith, sum_to_suc (having k b) 0, sum_to_zero (having k b))
+
+pub below_two : (k b : ℕ) → sum_to (having k b) 2 ≡ having k b 0 + having k b 1
+below_two k b = omega (arith, sum_to_suc (having k b) 1, below_one k b)
+
 -- ---- the rank
 
 pub record RankedTo (m : ℕ → ℕ) (k b r : ℕ) : Type 0 where

@@ -76,15 +76,16 @@ fn last_mark(rows: &Rows, axes: u32, borders: u32, rank: u64) -> (u32, u64)
     requires { (axes ≤ 4) × (borders ≤ suc axes) }
     ensures { (result.0 ≡ last_mark axes borders rank) × (result.1 ≡ rank - sum_to (having axes borders) (last_mark axes borders rank)) }
 {
-    let inner_or_lower = having_below(rows, axes, borders, 2);
-    if inner_or_lower <= rank {
-        return (2, rank - inner_or_lower);
+    let inner = having(rows, axes, borders, 0);
+    if rank < inner {
+        return (0, rank);
     }
-    let inner = having_below(rows, axes, borders, 1);
-    if inner <= rank {
-        return (1, rank - inner);
+    let others = rank - inner;
+    let lower = having(rows, axes, borders, 1);
+    if others < lower {
+        return (1, others);
     }
-    (0, rank)
+    (2, others - lower)
 }
 
 // The marks of the face with these border axes that `rank` others come before, from the last axis down; 0 past the axes.
