@@ -1,19 +1,19 @@
 -- The faces laid one after the other: the walk over the faces with b border axes, b = 0, 1 and so on, has the faces before the one that it comes to, as many as the faces
 -- with fewer border axes and those of a smaller rank with as many, and the number of the first point after them. True since that is the order of faces.
 -- Assumes nothing.
-use mathlib.Core.Path.{◌≡◌, refl, ap, ap₂, sym, ◌∙◌}
+use mathlib.Core.Path.{◌≡◌, refl, ap, ap₂, sym, ◌∙◌, fun_ext}
 use mathlib.Core.Bool.{Bool, true}
 use mathlib.Core.List.{List}
 use Prim.Native.Nat.{ℕ, suc, ◌+◌, ◌-◌, ◌≤◌, ◌<◌}
 use native.Mathlib.Numerals.{add-one}
 use native.Mathlib.Omega.{arith}
 use lib.Dec.{leb}
-use lib.ListN.{length, set, length-set}
+use lib.ListN.{length, set, replicate, length-set, get_or-replicate, get_or-eq_default}
 use lib.Seq.{get_or-set_same, get_or-set_other}
-use borrow.Author.Tests.{leb-true}
+use borrow.Author.Tests.{eq-eqb, ne_eqb, leb-true}
 use Rattle.naturals.specs.Sum.{sum_to}
 use Rattle.naturals.specs.Test.{all}
-use Rattle.naturals.proofs.Cases.{eq_or_not}
+use Rattle.naturals.proofs.Cases.{le_or_lt, eq_or_not}
 use Rattle.naturals.proofs.Sums.{sum_to_zero, sum_to_suc, sum_to_mono}
 use Rattle.naturals.proofs.Tests.{all_at}
 use Rattle.numbering.specs.Binomial.{choose}
@@ -25,7 +25,30 @@ use Rattle.faces.proofs.Numbering.{all_layers}
 use Rattle.faces.proofs.Row.{all_faces_is, inner_of_is, borders_of_is, row_zero, row_suc, row_mono, row_ends}
 use Rattle.shapes.proofs.Layers.{layers_small}
 use Rattle.layouts.specs.declared.Face.{Face}
-use Rattle.layouts.specs.Layouts.{no_face, face_at, IsFace}
+use Rattle.layouts.specs.Layouts.{last_levels, no_face, face_at, IsFace}
+
+-- ---- the last level list
+
+no_level : (t : ℕ) → at (replicate 8 0) t ≡ 0
+no_level t = le_or_lt 8 t (λ past. get_or-eq_default (replicate 8 0) 0 past) (λ h. get_or-replicate 8 t 0 0 h)
+
+pub last_here : (k n t : ℕ) → suc t ≡ k → last_levels k n t ≡ n
+unfolding last_levels
+last_here k n t e = rw (eq-eqb (suc t) k e)
+
+pub last_other : (k n t : ℕ) → (suc t ≡ k → ⊥) → last_levels k n t ≡ 0
+unfolding last_levels
+last_other k n t e = rw (ne_eqb (suc t) k e)
+
+pub levels_none : (k n : ℕ) → k ≡ 0 → at (replicate 8 0) ≡ last_levels k n
+levels_none k n none = fun_ext λ t. no_level t ∙ sym (last_other k n t (λ e. omega arith))
+
+pub levels_set : (k n : ℕ) → 0 < k → k ≤ 8 → at (set (replicate 8 0) (k - 1) n) ≡ last_levels k n
+levels_set k n some few =
+    fun_ext λ t.
+    eq_or_not t (k - 1)
+    (λ e. rw e (get_or-set_same (replicate 8 0) (k - 1) n 0 (omega arith) ∙ sym (last_here k n (k - 1) (omega arith))))
+    (λ e. get_or-set_other (replicate 8 0) (k - 1) t n 0 e ∙ no_level t ∙ sym (last_other k n t (λ same. e (omega arith))))
 
 -- ---- bounds
 
@@ -105,12 +128,13 @@ module _ {d n : ℕ} {list : List Face} {count start b r : ℕ} (laid : Laid d n
     laid_small few top = omega (arith, next_start, row_small d n (suc count) few top one_more)
 
     -- The face that is laid.
-    pub laid_step : (face : Face) → at face.marks ≡ mark_of d b r → face.inner ≡ d - b → face.start ≡ start →
+    pub laid_step : (face : Face) → at face.marks ≡ mark_of d b r → at face.levels ≡ last_levels face.inner n → face.inner ≡ d - b → face.start ≡ start →
         d ≤ 4 → Laid d n (set list count face) (count + 1) (start + size) b (r + 1)
-    laid_step face marks inner first few =
+    laid_step face marks levels inner first few =
         let is : IsFace d n count face =
         record {
           marks = marks ∙ marks_here;
+          levels = levels ∙ ap (λ (k : ℕ). last_levels k n) (inner ∙ inner_here);
           inner = inner ∙ inner_here;
           start = first ∙ laid.reached;
         } in

@@ -8,7 +8,7 @@ ghost use Rattle.numbering.specs.Point.{at};
 ghost use Rattle.faces.specs.Faces.{faces, bit, borders, having, face_rank, last_mark, mark_of};
 ghost use Rattle.faces.specs.Marked.{layer, border_points, face_start, borders_at, number_at, mark_at};
 ghost use Rattle.faces.specs.Row.{all_faces};
-ghost use Rattle.layouts.specs.Layouts.{face_at, IsFace};
+ghost use Rattle.layouts.specs.Layouts.{last_levels, face_at, IsFace};
 
 use shapes::Rows;
 
@@ -148,12 +148,25 @@ pub fn face_of_number(axes: u32, level: u32, number: u64) -> OnFace
 
 // ---- all faces
 
-// A face by value: its marks, how many inner axes it has, and the number of its first point.
+// A face by value: its marks, its last level list over the inner axes, how many these are, and the number of its first point.
 #[derive(Clone, Copy)]
 pub struct Face {
     pub marks: [u32; 8],
+    pub levels: [u32; 8],
     pub inner: u32,
     pub start: u64,
+}
+
+// The level list that comes last: the top level on the last axis.
+fn last_levels(axes: u32, level: u32) -> [u32; 8]
+    requires { axes ≤ 8 }
+    ensures { at result ≡ last_levels axes level }
+{
+    let mut levels = [0u32; 8];
+    if 0 < axes {
+        levels[axes as usize - 1] = level;
+    }
+    levels
 }
 
 // All faces of a table, in their order: 4 axes have 3^4.
@@ -178,6 +191,7 @@ impl Layout {
         let rows = Rows::new();
         let none = Face {
             marks: [0; 8],
+            levels: [0; 8],
             inner: 0,
             start: 0,
         };
@@ -186,10 +200,12 @@ impl Layout {
         let mut start: u64 = 0;
         for borders in 0..axes + 1 {
             let inner = axes - borders;
+            let levels = last_levels(inner, level);
             let points = rows.points(inner, level);
             for rank in 0..rows.faces(axes, borders) {
                 faces[count] = Face {
                     marks: marks_of(&rows, axes, borders, rank),
+                    levels,
                     inner,
                     start,
                 };

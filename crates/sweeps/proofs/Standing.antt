@@ -6,6 +6,7 @@ use mathlib.Core.List.{List}
 use mathlib.Core.Path.{◌≡◌, ap, sym, ◌∙◌, fun_ext}
 use Prim.Native.Nat.{ℕ, suc, ◌+◌, ◌^◌, ◌≤◌, ◌<◌}
 use native.Mathlib.Omega.{arith}
+use Rattle.naturals.specs.Sum.{sum_to}
 use Rattle.naturals.proofs.Cases.{le_or_lt}
 use Rattle.numbering.specs.Count.{vectors, points}
 use Rattle.numbering.specs.Point.{at}
@@ -19,7 +20,10 @@ use Rattle.numbering.proofs.Subspaces.{first_is}
 use Rattle.vectors.specs.Steps.{VectorIn, NextVector, PreviousVector}
 use Rattle.vectors.specs.declared.LevelVector.{LevelVector}
 use Rattle.vectors.proofs.Following.{no_levels}
+use Rattle.layouts.specs.Layouts.{last_levels}
+use Rattle.layouts.proofs.LastLevels.{last_sum, last_rank}
 use Rattle.neighbours.specs.declared.facets.Facet.{Facet}
+use Rattle.sweeps.specs.Steps.{LastOf}
 use Rattle.sweeps.proofs.Ranks.{first_at, end_le, some_points, Follows, following}
 
 -- A level vector of the face.
@@ -117,10 +121,21 @@ module _ (facet : Facet) where
   pub some_place : 1 ≤ points facet.axes facet.line.shape.level
   some_place = some_points facet.axes facet.line.shape.level (omega (arith, facet.inner))
 
-  -- It ends with the last list of the top level.
-  module _ (vector : LevelVector) (last : (vector.axes ≡ facet.axes) × (vector.sum ≡ facet.line.shape.level) × (suc (rank (at vector.levels) facet.axes) ≡ vectors facet.axes facet.line.shape.level)) where
+  module _ (vector : LevelVector) (last : LastOf facet vector) where
     pub last_standing : Standing facet vector
-    last_standing = record { same = last.0; low = omega (arith, last.1) }
+    last_standing = record { same = last.axes; low = omega (arith, last.sum) }
 
     pub last_of_face : suc (rank (at vector.levels) facet.axes) ≡ vectors facet.axes vector.sum
-    last_of_face = last.2 ∙ ap (vectors facet.axes) (sym last.1)
+    last_of_face = last.rank ∙ ap (vectors facet.axes) (sym last.sum)
+
+-- As the array of faces has it.
+pub last_made : (facet : Facet) (vector : LevelVector) (n : ℕ) {levels : List ℕ} → facet.line.shape.level ≡ n → at levels ≡ last_levels facet.axes n →
+    (vector.axes ≡ facet.axes) × (vector.levels ≡ levels) → LastOf facet vector
+last_made facet vector n top is made =
+    let some : 1 ≤ facet.axes = omega (arith, facet.inner) in
+    let here : at vector.levels ≡ last_levels facet.axes n = ap at made.1 ∙ is in
+    record {
+      axes = made.0;
+      sum = sym (rw made.0 at vector.vector.total) ∙ ap (λ (l : ℕ → ℕ). sum_to l facet.axes) here ∙ last_sum facet.axes n some ∙ sym top;
+      rank = rw (here, top) (last_rank facet.axes n some);
+    }

@@ -9,6 +9,7 @@ ghost use Rattle.walks.specs.Walks.{walk_up, walk_down};
 ghost use Rattle.lists.specs.Lists.{odd_sums, turned_between};
 ghost use Rattle.lists.specs.Steps.{TableOf};
 ghost use Rattle.sweeps.specs.Sweeps.{lists_worked, table_worked};
+ghost use Rattle.sweeps.specs.Steps.{LastOf};
 
 use cursors::Starts;
 use integers::{Back, Forward};
@@ -18,18 +19,18 @@ use vectors::LevelVector;
 
 // ---- one face
 
-// The points of a face as the forward turn of the table leaves them, whether or not it is accepted: the level lists from the last down. Answers how many sums were
+// The points of a face as the forward turn of the table leaves them, whether or not it is accepted: the level lists from `last`, the last of them, down. Answers how many sums were
 // odd. (Compiled into both its callers: whether anything lies across the border is known there, and not asked at each level list.)
 #[inline(always)]
-pub fn lower_face(facet: Facet, table: &mut [i64]) -> u64
-    requires { TableOf facet.line.shape (2 ^ 60) table.old }
+fn lower_face(facet: Facet, last: LevelVector, table: &mut [i64]) -> u64
+    requires { TableOf facet.line.shape (2 ^ 60) table.old × LastOf facet last }
     ensures walked { table.new ≡ lists_worked true facet.line.shape facet.line.place facet.base facet.axes (walk_down facet.axes facet.line.shape.level) table.old }
     ensures turned { table.new ≡ turned_between true facet.line.shape facet.line.place facet.base (facet.base + points facet.axes facet.line.shape.level) table.old }
     ensures odds { odd_sums facet.line.shape facet.line.place table.old facet.base + result ≡ odd_sums facet.line.shape facet.line.place table.old (facet.base + points facet.axes facet.line.shape.level) }
 {
     let starts = Starts::of(facet);
     let mut start = starts.end();
-    let mut vector = LevelVector::last(facet.axes, facet.line.shape.level);
+    let mut vector = last;
     let mut cursors = [0u64; 9];
     starts.after_last(vector.sum, &mut cursors);
     let mut odd: u64 = 0;
@@ -52,7 +53,7 @@ pub fn lower_face(facet: Facet, table: &mut [i64]) -> u64
 // Answers how many sums were odd. (Compiled into both its callers as well.)
 // (A loop of its own: here the cursors step on after the work on a list, there they step back before it; shared would be the work and the count alone.)
 #[inline(always)]
-pub fn raise_face(facet: Facet, table: &mut [i64]) -> u64
+fn raise_face(facet: Facet, table: &mut [i64]) -> u64
     requires { TableOf facet.line.shape (2 ^ 57) table.old }
     ensures walked { table.new ≡ lists_worked false facet.line.shape facet.line.place facet.base facet.axes (walk_up facet.axes facet.line.shape.level) table.old }
     ensures turned { table.new ≡ turned_between false facet.line.shape facet.line.place facet.base (facet.base + points facet.axes facet.line.shape.level) table.old }
@@ -93,7 +94,9 @@ fn lower_faces(line: Line, table: &mut [i64]) -> u64
     let mut odd: u64 = 0;
     for f in (0..layout.count).rev() {
         if let Some(facet) = Facet::of_face(line, &layout, f) {
-            odd += lower_face(facet, table);
+            let face = layout.face(f);
+            let last = LevelVector::of(facet.axes, face.levels);
+            odd += lower_face(facet, last, table);
         }
     }
     odd
@@ -126,7 +129,8 @@ pub fn lower(line: Line, table: &mut [i64]) -> u64
     if line.shape.border {
         return lower_faces(line, table);
     }
-    lower_face(Facet::whole(line), table)
+    let last = LevelVector::last(line.shape.axes, line.shape.level);
+    lower_face(Facet::whole(line), last, table)
 }
 
 // The table that a forward turn takes to this one, whether or not that turn is accepted. Answers how many sums were odd.

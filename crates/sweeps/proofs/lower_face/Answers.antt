@@ -18,23 +18,18 @@ use Rattle.sweeps.proofs.lower_face.Goals as goal
 ends : (c : After-end-start) → c.end-start.result ≡ face_end c.args.facet
 ends c = rw c.of-starts.ensures at c.end-start.ensures
 
-pub last-vector-requires : goal.last-vector-requires
-last-vector-requires c =
-    let facet = c.args.facet in
-    (omega (arith, facet.inner), facet.few)
-
 pub after_last-requires : goal.after_last-requires
-after_last-requires c = rw c.of-starts.ensures (last_standing c.args.facet c.last-vector.result c.last-vector.ensures).low
+after_last-requires c = rw c.of-starts.ensures (last_standing c.args.facet c.args.last c.requires.1).low
 
 pub loop-start-init : goal.loop-start-init
 loop-start-init c =
     let facet = c.args.facet in
-    let vector = c.last-vector.result in
-    let top = last_of_face facet vector c.last-vector.ensures in
+    let vector = c.args.last in
+    let top = last_of_face facet vector c.requires.1 in
     let seen = goal.at.loop-start-init c in (
-      last_standing facet vector c.last-vector.ensures,
+      last_standing facet vector c.requires.1,
       rw top (rw c.of-starts.ensures at c.after_last.ensures),
-      rw (top, c.last-vector.ensures.1) (lowering_starts facet _ c.requires.0 c.end-start.result (ends seen.After-end-start)),
+      rw (top, c.requires.1.sum) (lowering_starts facet _ c.requires.0.0 c.end-start.result (ends seen.After-end-start)),
     )
 
 -- ---- the level list
@@ -42,7 +37,7 @@ loop-start-init c =
 pub on-v-requires : goal.on-v-requires
 on-v-requires c =
     let s = c.loop-start.invariant in
-    (s.0.same, s.0.low, lowering_first c.args.facet _ c.requires.0 s.0 s.2)
+    (s.0.same, s.0.low, lowering_first c.args.facet _ c.requires.0.0 s.0 s.2)
 
 pub pass_back-requires : goal.pass_back-requires
 pass_back-requires c =
@@ -61,7 +56,7 @@ work-odd-requires c =
     let pre = c.requires in
     let s = c.loop-start.invariant in
     let m = met c.on-v.result c.on-v.ensures in
-    (cursors_below c.pass_back.ensures, (rw m.on s.2.parted.long, lowering_room c.args.facet _ pre.0 s.2 pre.1), c.rims.ensures)
+    (cursors_below c.pass_back.ensures, (rw m.on s.2.parted.long, lowering_room c.args.facet _ pre.0.0 s.2 pre.0.1), c.rims.ensures)
 
 -- After the work on it.
 done : (c : After-work-odd) →
@@ -71,26 +66,26 @@ done : (c : After-work-odd) →
 done c =
     let s = c.loop-start.invariant in
     let did = c.work-odd.ensures in
-    lowering_worked c.args.facet _ c.requires.0 s.0 s.2 _ (met c.on-v.result c.on-v.ensures) _ _ did.worked did.odds
+    lowering_worked c.args.facet _ c.requires.0.0 s.0 s.2 _ (met c.on-v.result c.on-v.ensures) _ _ did.worked did.odds
 
 pub overflow_add-odd : goal.overflow_add-odd
 overflow_add-odd c =
-    omega (arith, lowering_few c.args.facet _ c.requires.0 (done (goal.at.overflow_add-odd c).After-work-odd))
+    omega (arith, lowering_few c.args.facet _ c.requires.0.0 (done (goal.at.overflow_add-odd c).After-work-odd))
 
 -- ---- after the last
 
 pub returns-then-start-facet-clause-walked : goal.returns-then-start-facet-clause-walked
 returns-then-start-facet-clause-walked c =
     let all = done (goal.at.returns-then-start-facet-clause-walked c).After-work-odd in
-    lowering_walked c.args.facet _ c.requires.0 all c.if-start-facet.true (rank_in (vector_in c.loop-start.invariant.0))
+    lowering_walked c.args.facet _ c.requires.0.0 all c.if-start-facet.true (rank_in (vector_in c.loop-start.invariant.0))
 
 pub returns-then-start-facet-clause-turned : goal.returns-then-start-facet-clause-turned
 returns-then-start-facet-clause-turned c =
-    lowering_turned c.args.facet _ c.requires.0 (done (goal.at.returns-then-start-facet-clause-turned c).After-work-odd) c.if-start-facet.true
+    lowering_turned c.args.facet _ c.requires.0.0 (done (goal.at.returns-then-start-facet-clause-turned c).After-work-odd) c.if-start-facet.true
 
 pub returns-then-start-facet-clause-odds : goal.returns-then-start-facet-clause-odds
 returns-then-start-facet-clause-odds c =
-    lowering_odds c.args.facet _ c.requires.0 (done (goal.at.returns-then-start-facet-clause-odds c).After-work-odd) c.if-start-facet.true
+    lowering_odds c.args.facet _ c.requires.0.0 (done (goal.at.returns-then-start-facet-clause-odds c).After-work-odd) c.if-start-facet.true
 
 -- ---- the one before
 
@@ -98,7 +93,7 @@ pub previous-requires : goal.previous-requires
 previous-requires c =
     let facet = c.args.facet in
     let s = c.loop-start.invariant in
-    let first = lowering_first facet _ c.requires.0 s.0 s.2 in
+    let first = lowering_first facet _ c.requires.0.0 s.0 s.2 in
     (omega (arith, s.0.low, facet.line.top), rw s.0.same (omega (arith, first, c.if-start-facet.false)))
 
 follows : (c : After-previous) →
@@ -119,7 +114,7 @@ loop-start-preserved-then-vector-v c =
           (λ same. absurd (omega (arith, same.0, rw m.same at c.if-vector-v.true)))
           (λ below. rw below.2 (rw c.of-starts.ensures at c.after_last-then-vector-v.ensures))
           before,
-      lowering_next c.args.facet _ c.requires.0 (done seen.After-work-odd) before,
+      lowering_next c.args.facet _ c.requires.0.0 (done seen.After-work-odd) before,
     )
 
 -- It is of the same sum.
@@ -133,5 +128,5 @@ loop-start-preserved c =
           (λ same. rw (sym same.1, sym same.0) (rw (m.on, m.same) at c.pass_back.ensures))
           (λ below. absurd (omega (arith, below.0, rw m.same at c.if-vector-v.false)))
           before,
-      lowering_next c.args.facet _ c.requires.0 (done seen.After-work-odd) before,
+      lowering_next c.args.facet _ c.requires.0.0 (done seen.After-work-odd) before,
     )

@@ -2,15 +2,21 @@
 -- Assumes nothing.
 use mathlib.Core.Path.{◌≡◌, ap, sym, ◌∙◌}
 use Rattle.std.specs.Prelude.{Some}
-use Prim.Native.Nat.{suc, ◌-◌, ◌<◌}
+use Prim.Native.Nat.{ℕ, suc, ◌-◌, ◌≤◌, ◌<◌}
 use native.Mathlib.Omega.{arith}
+use Rattle.naturals.specs.Sum.{sum_to}
+use Rattle.numbering.specs.Point.{at}
 use Rattle.faces.specs.Row.{all_faces}
 use Rattle.grids.specs.Faces.{faces_of}
 use Rattle.grids.proofs.Faces.{faces_bordered}
 use Rattle.lists.specs.Lists.{whole_turn}
+use Rattle.layouts.specs.Layouts.{last_levels}
+use Rattle.layouts.proofs.LastLevels.{last_past, last_sum}
 use Rattle.neighbours.specs.Faced.{FacetOf}
+use Rattle.neighbours.specs.declared.facets.Line.{Line}
+use Rattle.sweeps.proofs.Standing.{last_made}
 use Rattle.sweeps.proofs.FacesDown.{Down, down_starts, down_few, down_room, down_ends, down_passed, down_face}
-use Rattle.sweeps.proofs.lower_faces.Goals.{After-of-layout, In-Some, After-loop-f}
+use Rattle.sweeps.proofs.lower_faces.Goals.{After-of-layout, In-Some, After-face-face, After-loop-f}
 use Rattle.sweeps.proofs.lower_faces.Goals as goal
 
 -- the layout has all faces of the shape
@@ -40,10 +46,33 @@ so_far c =
     let same : suc (c.loop-f.f - 1) ≡ c.loop-f.f = omega (arith, c.loop-f-test.true) in
     rw same c.loop-f.invariant
 
+-- its last level list, as the layout has it
+its_levels : (c : After-face-face) → at c.face-face.result.levels ≡ last_levels c.in-Some.facet.axes c.args.line.shape.level
+its_levels c =
+    let seen = (goal.at.After-face-face c).In-Some in
+    (rw (c.of-layout.ensures.0, c.of-layout.ensures.1) at c.face-face.ensures).levels
+    ∙ ap (λ (k : ℕ). last_levels k c.args.line.shape.level) (sym (there seen).2)
+
+pub of-last-requires : goal.of-last-requires
+of-last-requires c =
+    let facet = c.in-Some.facet in
+    let some : 1 ≤ facet.axes = omega (arith, facet.inner) in
+    let is = its_levels (goal.at.of-last-requires c).After-face-face in (
+      some,
+      facet.few,
+      omega (arith, ap (λ (l : ℕ → ℕ). sum_to l facet.axes) is, last_sum facet.axes c.args.line.shape.level some, c.args.line.top),
+      λ t past. ap (λ (l : ℕ → ℕ). l t) is ∙ last_past facet.axes c.args.line.shape.level some t past,
+    )
+
 pub lower_face-odd-requires : goal.lower_face-odd-requires
 lower_face-odd-requires c =
     let seen = (goal.at.lower_face-odd-requires c).In-Some in
-    (rw (there seen).1 c.loop-f.invariant.parted.long, down_room c.args.line c.args.table.now c.requires.1.0 c.loop-f.invariant c.requires.1.1)
+    let there = there seen in (
+      (rw there.1 c.loop-f.invariant.parted.long, down_room c.args.line c.args.table.now c.requires.1.0 c.loop-f.invariant c.requires.1.1),
+      last_made c.in-Some.facet c.of-last.result c.args.line.shape.level (ap (λ (l : Line). l.shape.level) there.1)
+          (its_levels (goal.at.lower_face-odd-requires c).After-face-face)
+          c.of-last.ensures,
+    )
 
 pub overflow_add-odd : goal.overflow_add-odd
 overflow_add-odd c =

@@ -43,6 +43,7 @@ loop-rank-preserved c =
     c.points-points.ensures
     _
     c.marks_of.ensures
+    c.last_levels-levels.ensures
     refl
     refl
     c.requires.0
