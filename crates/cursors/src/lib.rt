@@ -17,7 +17,9 @@ pub use starts::Starts;
 
 impl Starts {
     // Cursor j of a sum at the place that lies j before the one `past` after it. (`past` is added and no flag; that the sum is one of the face's is asked by all
-    // three. In place: an array that is made and handed back for each sum is cleared and copied.)
+    // three. In place: an array that is made and handed back for each sum is cleared and copied; and compiled into its callers: lent to a call, the cursors would be
+    // read anew after each write to the table.)
+    #[inline(always)]
     fn back_from(&self, sum: u32, past: u32, cursors: &mut [u64; 9])
         requires { (sum ≤ self.now.facet.line.shape.level) × (past ≤ 1) }
         ensures { Filled (λ j. at self.now.places (sum + past - j)) 9 1 (suc sum) cursors.new }
@@ -28,6 +30,7 @@ impl Starts {
     }
 
     // The cursors before the first level list of a sum.
+    #[inline(always)]
     pub fn before_first(&self, sum: u32, cursors: &mut [u64; 9])
         requires { sum ≤ self.now.facet.line.shape.level }
         ensures { Cursors self.now.facet sum 0 cursors.new }
@@ -36,6 +39,7 @@ impl Starts {
     }
 
     // The cursors after the last level list of a sum.
+    #[inline(always)]
     pub fn after_last(&self, sum: u32, cursors: &mut [u64; 9])
         requires { sum ≤ self.now.facet.line.shape.level }
         ensures { Cursors self.now.facet sum (vectors self.now.facet.axes sum) cursors.new }

@@ -160,23 +160,6 @@ fn sized_blocks<D: Direction>(
     all_blocks::<D>(v, starts, rims, table, 1 << v.low)
 }
 
-// The points of a level list that moves on the axis. A block at level 1 is two runs: it is compiled without the runs between.
-#[inline(always)]
-fn moved<D: Direction>(
-    v: Subspace,
-    starts: &[u64; 9],
-    rims: Option<Rims>,
-    table: &mut [i64],
-) -> u64
-    requires { Below v starts.now × TableOf v.facet.line.shape (2 ^ 61) table.old × (1 ≤ v.own) × (rims ≡ rims_of v) }
-    ensures { Stepped D.ahead v.facet.line.shape v.facet.line.place v.start v.end table.old result table.new }
-{
-    if v.own == 1 {
-        return sized_blocks::<D>(v, starts, rims, table);
-    }
-    sized_blocks::<D>(v, starts, rims, table)
-}
-
 // The points of a level list that has level 0 on the axis: the border lies on both sides of each. What lies across it follows each other as they do, so they are one
 // run; where nothing lies there, nothing moves.
 #[inline(always)]
@@ -197,7 +180,8 @@ fn flat<D: Direction>(v: Subspace, rims: Option<Rims>, table: &mut [i64]) -> u64
 }
 
 // A step at each point of a level list, forward or back; answers how many of the sums are odd. In a turn that has come so far, the list's points then hold what the
-// whole turn leaves them, and no other place changes. (What lies across the border is asked once for a list: the blocks are compiled for both.)
+// whole turn leaves them, and no other place changes. (What lies across the border, and whether a block is two runs, is asked once for a list: the blocks are
+// compiled for each.)
 #[inline(always)]
 pub fn work<D: Direction>(
     v: Subspace,
@@ -214,7 +198,17 @@ pub fn work<D: Direction>(
         return flat::<D>(v, rims, table);
     }
     match rims {
-        Some(rims) => moved::<D>(v, starts, Some(rims), table),
-        None => moved::<D>(v, starts, None, table),
+        Some(rims) => {
+            if v.own == 1 {
+                return sized_blocks::<D>(v, starts, Some(rims), table);
+            }
+            sized_blocks::<D>(v, starts, Some(rims), table)
+        }
+        None => {
+            if v.own == 1 {
+                return sized_blocks::<D>(v, starts, None, table);
+            }
+            sized_blocks::<D>(v, starts, None, table)
+        }
     }
 }

@@ -29,7 +29,7 @@ own : (g : Over) (c : Joined-rims g) → c.match-rims.own_rims ≡ block_rims c.
 own g c =
     let (work, block, moves, wide, rims) = c.requires in
     elim c.match-rims.branch [
-      in-Some w ↦
+      | in-Some w ↦
           w.own_rims-is
           ∙ rims_handed (here g (goal.at.Joined-rims g c).Start) w.in-Some.rims (sym rims ∙ w.in-Some.is) w.further.result w.further.ensures
       | in-None w ↦ w.own_rims-is ∙ no_rims c.args.v c.args.beyond (sym rims ∙ w.in-None.is)
