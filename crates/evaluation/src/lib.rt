@@ -240,7 +240,7 @@ fn summed_over_faces(asked: bool, shape: Shape, table: &[i64], coordinates: &[u3
             (inner, shape.level)
         };
         for rank in 0..rows.faces(shape.axes, borders) {
-            let marks = layouts::marks_of(&rows, shape.axes, borders, rank);
+            let marks = layouts::marks_of(shape.axes, borders, rank);
             let mut vector = LevelVector::first(axes);
             while vector.sum <= top {
                 let term = taken_on_face(shape.axes, &hats, &marks, &vector.levels);

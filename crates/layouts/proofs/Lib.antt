@@ -1,3 +1,4 @@
+pub mod Smaller
 pub mod Marks
 pub mod Found
 pub mod Laid

@@ -14,29 +14,21 @@ use shapes::Rows;
 
 // ---- marks and ranks
 
-// How many faces of `axes` + 1 axes with these border axes have this mark on the last axis.
-fn having(rows: &Rows, axes: u32, borders: u32, mark: u32) -> u64
-    requires { (axes ≤ 4) × (borders ≤ suc axes) }
-    ensures { result ≡ having axes borders mark }
-{
-    match mark {
-        0 if axes < borders => 0,
-        0 => rows.faces(axes, borders),
-        _ if borders == 0 => 0,
-        _ => rows.faces(axes, borders - 1),
-    }
-}
+// How many faces of k + 1 axes with b border axes have a smaller mark than a on the last axis: a row for each k from 0 to 3, in it one for each b from 0 to 4.
+const BELOW: [[[u8; 3]; 5]; 4] = [
+    [[0, 1, 1], [0, 0, 1], [0, 0, 0], [0, 0, 0], [0, 0, 0]],
+    [[0, 1, 1], [0, 2, 3], [0, 0, 2], [0, 0, 0], [0, 0, 0]],
+    [[0, 1, 1], [0, 4, 5], [0, 4, 8], [0, 0, 4], [0, 0, 0]],
+    [[0, 1, 1], [0, 6, 7], [0, 12, 18], [0, 8, 20], [0, 0, 8]],
+];
 
-// How many of them have a smaller mark there.
-fn having_below(rows: &Rows, axes: u32, borders: u32, mark: u32) -> u64
-    requires { (axes ≤ 4) × (borders ≤ suc axes) × (mark ≤ 2) }
+// How many faces of `axes` + 1 axes with these border axes have a smaller mark on the last axis.
+fn below(axes: u32, borders: u32, mark: u32) -> u64
+    requires { (axes ≤ 3) × (borders ≤ suc axes) × (mark ≤ 2) }
     ensures { result ≡ sum_to (having axes borders) mark }
 {
-    let mut below: u64 = 0;
-    for a in 0..mark {
-        below += having(rows, axes, borders, a);
-    }
-    below
+    let table = &BELOW;
+    u64::from(table[axes as usize][borders as usize][mark as usize])
 }
 
 // 1 for the mark of a border, 0 for that of an inner axis.
@@ -47,7 +39,7 @@ fn bit(mark: u32) -> u32
 }
 
 // How many border axes a face has, and how many others with as many come before it.
-fn borders_and_rank(rows: &Rows, axes: u32, marks: &[u32; 8]) -> (u32, u64)
+fn borders_and_rank(axes: u32, marks: &[u32; 8]) -> (u32, u64)
     requires { (axes ≤ 4) × ((t : ℕ) → t < axes → at marks.now t ≤ 2) }
     ensures { (result.0 ≡ borders (at marks.now) axes) × (result.1 ≡ face_rank (at marks.now) axes) }
 {
@@ -56,7 +48,7 @@ fn borders_and_rank(rows: &Rows, axes: u32, marks: &[u32; 8]) -> (u32, u64)
     for k in 0..axes {
         let mark = marks[k as usize];
         borders += bit(mark);
-        rank += having_below(rows, k, borders, mark);
+        rank += below(k, borders, mark);
     }
     (borders, rank)
 }
@@ -67,29 +59,28 @@ pub fn face_start(axes: u32, level: u32, marks: &[u32; 8]) -> u64
     ensures { result ≡ face_start axes level (at marks.now) }
 {
     let rows = Rows::new();
-    let (borders, rank) = borders_and_rank(&rows, axes, marks);
+    let (borders, rank) = borders_and_rank(axes, marks);
     rows.layers(axes, level, borders) + rows.points(axes - borders, level) * rank
 }
 
 // The mark on the last of `axes` + 1 axes, of the face with these border axes that `rank` others come before, and how many of these have the same mark there.
-fn last_mark(rows: &Rows, axes: u32, borders: u32, rank: u64) -> (u32, u64)
-    requires { (axes ≤ 4) × (borders ≤ suc axes) }
+fn last_mark(axes: u32, borders: u32, rank: u64) -> (u32, u64)
+    requires { (axes ≤ 3) × (borders ≤ suc axes) }
     ensures { (result.0 ≡ last_mark axes borders rank) × (result.1 ≡ rank - sum_to (having axes borders) (last_mark axes borders rank)) }
 {
-    let inner = having(rows, axes, borders, 0);
-    if rank < inner {
-        return (0, rank);
+    let inner_or_lower = below(axes, borders, 2);
+    if inner_or_lower <= rank {
+        return (2, rank - inner_or_lower);
     }
-    let others = rank - inner;
-    let lower = having(rows, axes, borders, 1);
-    if others < lower {
-        return (1, others);
+    let inner = below(axes, borders, 1);
+    if inner <= rank {
+        return (1, rank - inner);
     }
-    (2, others - lower)
+    (0, rank)
 }
 
 // The marks of the face with these border axes that `rank` others come before, from the last axis down; 0 past the axes.
-pub fn marks_of(rows: &Rows, axes: u32, borders: u32, rank: u64) -> [u32; 8]
+pub fn marks_of(axes: u32, borders: u32, rank: u64) -> [u32; 8]
     requires { (axes ≤ 4) × (borders ≤ axes) × (rank < faces axes borders) }
     ensures { at result ≡ mark_of axes borders rank }
 {
@@ -97,7 +88,7 @@ pub fn marks_of(rows: &Rows, axes: u32, borders: u32, rank: u64) -> [u32; 8]
     let mut left = borders;
     let mut rest = rank;
     for k in (0..axes).rev() {
-        let (mark, before) = last_mark(rows, k, left, rest);
+        let (mark, before) = last_mark(k, left, rest);
         marks[k as usize] = mark;
         left -= bit(mark);
         rest = before;
@@ -123,7 +114,7 @@ fn in_layer(rows: &Rows, axes: u32, level: u32, borders: u32, number: u64) -> On
     let inner = axes - borders;
     let points = rows.points(inner, level);
     OnFace {
-        marks: marks_of(rows, axes, borders, number / points),
+        marks: marks_of(axes, borders, number / points),
         inner,
         number: number % points,
     }
@@ -204,7 +195,7 @@ impl Layout {
             let points = rows.points(inner, level);
             for rank in 0..rows.faces(axes, borders) {
                 faces[count] = Face {
-                    marks: marks_of(&rows, axes, borders, rank),
+                    marks: marks_of(axes, borders, rank),
                     levels,
                     inner,
                     start,
