@@ -3,12 +3,12 @@
 use Rattle.std.specs.Prelude.{Option, Some, None}
 use mathlib.Core.Bool.{Bool, true, false}
 use mathlib.Core.List.{List}
-use mathlib.Core.Path.{◌≡◌, refl, sym, ◌∙◌}
-use Prim.Native.Nat.{ℕ, ◌<◌}
+use mathlib.Core.Path.{◌≡◌, refl, sym, ◌∙◌, fun_ext}
+use Prim.Native.Nat.{ℕ, ◌≤◌, ◌<◌}
 use native.Mathlib.Omega.{arith}
-use lib.ListN.{length, set, length-set}
+use lib.ListN.{length, set, replicate, length-set, get_or-replicate, get_or-eq_default}
 use lib.Seq.{get_or-set_same, get_or-set_other}
-use Rattle.naturals.proofs.Cases.{eq_or_not}
+use Rattle.naturals.proofs.Cases.{le_or_lt, eq_or_not}
 use Rattle.numbering.specs.declared.Side.{Side}
 use Rattle.numbering.specs.Point.{at}
 use Rattle.numbering.specs.Parent.{numerator, is_border, parent_level, parent_index, update}
@@ -29,6 +29,23 @@ written xs t v e h = eight_ext (update (at xs) t v) (set xs t v) (length-set xs 
         eq_or_not u t
         (λ same. rw same (get_or-set_same xs t v 0 (omega arith) ∙ sym (update_same (at xs) t v)))
         (λ other. get_or-set_other xs t u v 0 other ∙ sym (update_other (at xs) t v u other))
+
+-- Without a mark there the marks are those with none there.
+pub unwritten : (ms : List ℕ) (t : ℕ) → length ms ≡ 8 → at ms t ≡ 0 → ms ≡ eight (update (at ms) t 0)
+unwritten ms t e none = eight_ext (update (at ms) t 0) ms e each
+  where
+    each : (u : ℕ) → u < 8 → at ms u ≡ update (at ms) t 0 u
+    each u lt =
+        eq_or_not u t
+        (λ same. rw same (none ∙ sym (update_same (at ms) t 0)))
+        (λ other. sym (update_other (at ms) t 0 u other))
+
+-- Eight zeros are no marks.
+pub no_marks : {m : ℕ → ℕ} → ((t : ℕ) → m t ≡ 0) → at (replicate 8 0) ≡ m
+no_marks none = fun_ext λ t. zero t ∙ sym (none t)
+  where
+    zero : (t : ℕ) → at (replicate 8 0) t ≡ 0
+    zero t = le_or_lt 8 t (λ past. get_or-eq_default (replicate 8 0) 0 past) (λ h. get_or-replicate 8 t 0 0 h)
 
 -- A point of marks ms, levels ls and indices is, and the numerator m of its neighbour on axis t.
 module _ (border : Bool) (t : ℕ) (side : Side) (ms ls is : List ℕ) where

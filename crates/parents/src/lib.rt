@@ -1,12 +1,12 @@
 // Hierarchical parents: what lies beside a point on one axis, by trailing zeros of the neighbour's numerator; on a border of the axis nothing does.
 #![tactic(auto)]
 
-ghost use Rattle.std.specs.Prelude.{◌≡◌, ◌%◌, ◌^◌, ◌≤◌, ◌<◌, suc};
+ghost use Rattle.std.specs.Prelude.{true, ◌≡◌, ◌%◌, ◌^◌, ◌≤◌, ◌<◌, suc};
 ghost use Rattle.numbering.specs.Point.{at};
 ghost use Rattle.numbering.specs.Parent.{numerator, is_border, parent_level, parent_index, update};
 ghost use Rattle.numbered.specs.Numbered.{mark_of};
 ghost use Rattle.numbered.specs.Neighbours.{beside};
-ghost use Rattle.points.specs.Points.{point_of};
+ghost use Rattle.points.specs.Points.{bare_point};
 ghost use Rattle.parents.specs.Parents.{located, parent_of};
 
 use numbering::Side;
@@ -62,27 +62,23 @@ fn mark_of(side: Side) -> u32
     }
 }
 
-// A point moved on axis t (from 0) to this mark, level and index.
-fn moved(t: usize, p: MarkedPoint, mark: u32, level: u32, index: u32) -> MarkedPoint
+// A point moved on axis t (from 0) to this level and index.
+fn moved(t: usize, p: Point, level: u32, index: u32) -> Point
     requires { t < 8 }
-    ensures { result ≡ point_of (update (at p.marks) t mark) (update (at p.point.levels) t level) (update (at p.point.indices) t index) }
+    ensures { result ≡ bare_point (update (at p.levels) t level) (update (at p.indices) t index) }
 {
-    let mut marks = p.marks;
     let Point {
         mut levels,
         mut indices,
-    } = p.point;
-    marks[t] = mark;
+    } = p;
     levels[t] = level;
     indices[t] = index;
-    MarkedPoint {
-        marks,
-        point: Point { levels, indices },
-    }
+    Point { levels, indices }
 }
 
 // What lies beside a point on axis t (from 0), whose level there is at most 8 and whose index is one of its level: the parent, or across the border the border
-// point or none; beside a border point none.
+// point or none; beside a border point none. (The marks are copied where one changes: those of a zero border are known to be none.)
+#[inline(always)]
 fn beside(border: bool, t: usize, side: Side, p: MarkedPoint) -> Option<MarkedPoint>
     requires { (t < 8) × (at p.point.levels t ≤ 8) × (at p.point.indices t % 2 ≡ 1) × (at p.point.indices t < 2 ^ suc (at p.point.levels t)) }
     ensures { result ≡ located (beside border t side (at p.marks) (at p.point.levels) (at p.point.indices)) }
@@ -94,18 +90,27 @@ fn beside(border: bool, t: usize, side: Side, p: MarkedPoint) -> Option<MarkedPo
     let numerator = neighbour(side, p.point.indices[t]);
     if !is_border(level, numerator) {
         let up = reduce(level, numerator);
-        return Some(moved(t, p, 0, up.level, up.index));
+        return Some(MarkedPoint {
+            marks: p.marks,
+            point: moved(t, p.point, up.level, up.index),
+        });
     }
     if !border {
         return None;
     }
-    Some(moved(t, p, mark_of(side), 0, 1))
+    let mut marks = p.marks;
+    marks[t] = mark_of(side);
+    Some(MarkedPoint {
+        marks,
+        point: moved(t, p.point, 0, 1),
+    })
 }
 
-// What lies beside a point that is handed in as three lists, or none.
-#[tactic(auto, unfolding(crate::specs::Parents::parent_of))]
-#[inline(always)]
-fn found(
+// What lies beside a point of a table with values on the border that is handed in as three lists, or none. (A call of its own: what the two sorts find is not copied
+// together.)
+#[inline(never)]
+#[tactic(auto, using(points::proofs::Handed::lists_refused), unfolding(crate::specs::Parents::parent_of))]
+fn beside_on_faces(
     shape: Shape,
     marks: &[u32],
     levels: &[u32],
@@ -113,37 +118,23 @@ fn found(
     axis: u32,
     side: Side,
 ) -> Result<Option<MarkedPoint>, Refusal>
+    requires { shape.border ≡ true }
     ensures { result ≡ parent_of shape marks.now levels.now indices.now axis side }
 {
     let checked = shape.check()?;
     shape.check_axis(axis)?;
-    let (verdict, point) = points::read(checked, marks, levels, indices);
-    verdict?;
-    let marks = points::marks_from(shape.border, marks);
+    let point = points::point_in(checked, marks, levels, indices)?;
+    let marks = points::padded(marks);
     Ok(beside(
-        shape.border,
+        true,
         (axis - 1) as usize,
         side,
         MarkedPoint { marks, point },
     ))
 }
 
-// The same, of a table with values on the border. (A call of its own: what the two sorts find is not copied together.)
-#[inline(never)]
-fn found_on_faces(
-    shape: Shape,
-    marks: &[u32],
-    levels: &[u32],
-    indices: &[u32],
-    axis: u32,
-    side: Side,
-) -> Result<Option<MarkedPoint>, Refusal>
-    ensures { result ≡ parent_of shape marks.now levels.now indices.now axis side }
-{
-    found(shape, marks, levels, indices, axis, side)
-}
-
-// The parent of a point on an axis, on one side, or none.
+// What lies beside a point that is handed in as three lists, or none.
+#[tactic(auto, unfolding(crate::specs::Parents::parent_of))]
 pub fn parent(
     shape: Shape,
     marks: &[u32],
@@ -155,7 +146,17 @@ pub fn parent(
     ensures { result ≡ parent_of shape marks.now levels.now indices.now axis side }
 {
     if shape.border {
-        return found_on_faces(shape, marks, levels, indices, axis, side);
+        return beside_on_faces(shape, marks, levels, indices, axis, side);
     }
-    found(shape, marks, levels, indices, axis, side)
+    let checked = shape.check()?;
+    shape.check_axis(axis)?;
+    let (verdict, point) = points::read(checked, marks, levels, indices);
+    verdict?;
+    let marks = [0u32; 8];
+    Ok(beside(
+        false,
+        (axis - 1) as usize,
+        side,
+        MarkedPoint { marks, point },
+    ))
 }

@@ -1,10 +1,14 @@
 -- `parents::beside` meets its contract: the mark and the border are tested, and each way on is one of `Stepped`.
 -- Assumes nothing.
 use Rattle.std.specs.Prelude.{Some}
-use mathlib.Core.Path.{sym, ap, ◌∙◌}
+use mathlib.Core.Path.{sym, ap, ap₂, ◌∙◌}
+use mathlib.Core.List.{List}
+use Prim.Native.Nat.{ℕ}
+use borrow.Author.Rules.{rules}
 use Rattle.numbering.specs.Point.{at}
 use Rattle.numbering.proofs.Parents.{Inside, inside}
-use Rattle.parents.proofs.Stepped.{stays, to_parent, to_border, to_across}
+use Rattle.points.specs.declared.Point.{Point}
+use Rattle.parents.proofs.Stepped.{written, unwritten, stays, to_parent, to_border, to_across}
 use Rattle.parents.proofs.beside.Goals.{Then-not-is_border}
 use Rattle.parents.proofs.beside.Goals as goal
 
@@ -32,7 +36,7 @@ pub returns-then-not-is_border : goal.returns-then-not-is_border
 returns-then-not-is_border c =
     let a = c.args in
     let up = c.reduce-up.ensures in
-    ap Some c.moved.ensures
+    ap₂ (λ (m : List ℕ) (p : Point). Some record { marks = m; point = p }) (unwritten a.p.marks a.t (search rules) c.if-p-t-ne0.false) c.moved.ensures
     ∙ to_parent a.border a.t a.side a.p.marks a.p.point.levels a.p.point.indices c.if-p-t-ne0.false _ c.neighbour-numerator.ensures
     (sym c.is_border.ensures ∙ c.if-not-is_border.true) _ _ up.0 up.1
 
@@ -46,7 +50,7 @@ returns-then-not-border c =
 pub returns : goal.returns
 returns c =
     let a = c.args in
-    ap Some c.moved-2.ensures
+    ap₂ (λ (m : List ℕ) (p : Point). Some record { marks = m; point = p }) (written a.p.marks a.t _ (search rules) c.requires.0) c.moved-2.ensures
     ∙ to_across a.border a.t a.side a.p.marks a.p.point.levels a.p.point.indices c.if-p-t-ne0.false _ c.neighbour-numerator.ensures
     (sym c.is_border.ensures ∙ c.if-not-is_border.false)
     c.if-not-border.false _ c.mark_of.ensures

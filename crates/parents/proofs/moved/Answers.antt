@@ -1,4 +1,4 @@
--- `parents::moved` meets its contract: each of the three lists has eight places, and one of them is written.
+-- `parents::moved` meets its contract: each of the two lists has eight places, and one of them is written.
 -- Assumes nothing.
 use mathlib.Core.Path.{refl}
 use borrow.Author.Rules.{rules}
@@ -9,8 +9,7 @@ pub returns : goal.returns
 returns c =
     let a = c.args in
     rw (
-      written a.p.marks a.t a.mark (search rules) c.requires,
-      written a.p.point.levels a.t a.level (search rules) c.requires,
-      written a.p.point.indices a.t a.index (search rules) c.requires,
+      written a.p.levels a.t a.level (search rules) c.requires,
+      written a.p.indices a.t a.index (search rules) c.requires,
     )
     refl

@@ -1,4 +1,4 @@
--- `parents::found` meets its contract: the checks decide the refusal, and of what they pass the point is moved along the axis.
+-- `parents::parent` meets its contract: the checks decide the refusal, and of what they pass the point is moved along the axis.
 -- Assumes nothing.
 use Rattle.std.specs.Prelude.{ℕ, Ok}
 use mathlib.Core.Path.{◌≡◌, sym, ap, ◌∙◌}
@@ -8,10 +8,10 @@ use Rattle.parents.specs.Parents.{parent_of}
 use Rattle.shapes.proofs.Checked.{checked_in_range}
 use Rattle.points.specs.Points.{point_in}
 use Rattle.points.proofs.Handed.{read_in, lists_checked}
-use Rattle.points.proofs.Passed.{marks_by_value}
 use Rattle.parents.proofs.Accepted.{Accepted, accepted}
-use Rattle.parents.proofs.found.Goals.{In_ok-verdict}
-use Rattle.parents.proofs.found.Goals as goal
+use Rattle.parents.proofs.Stepped.{no_marks}
+use Rattle.parents.proofs.parent.Goals.{In_ok-verdict}
+use Rattle.parents.proofs.parent.Goals as goal
 
 pub returns-in_err-verdict : goal.returns-in_err-verdict
 unfolding parent_of
@@ -31,11 +31,6 @@ known c =
     let same : c.in_ok-checked.checked.shape ≡ c.args.shape = c.in_ok-checked.ensures.shape in
     accepted _ _ _ _ _ (rw same at (checked_in_range c.in_ok-checked.checked)) (sym c.in_ok-check_axis.ensures) (given c)
 
-pub marks_from-marks-requires : goal.marks_from-marks-requires
-marks_from-marks-requires c =
-    λ off t h.
-    ap (λ (f : ℕ → ℕ). f t) ((known (goal.at.marks_from-marks-requires c).In_ok-verdict).handed.passes.named.only off)
-
 pub overflow_sub-axis : goal.overflow_sub-axis
 overflow_sub-axis c = (known (goal.at.overflow_sub-axis c).In_ok-verdict).low
 
@@ -47,9 +42,10 @@ beside-requires c =
 pub returns : goal.returns
 unfolding parent_of
 returns c =
+    let a = c.args in
     let seen = (goal.at.returns c).In_ok-verdict in
     let p = (known seen).handed in
-    let marks = ap at c.marks_from-marks.ensures ∙ marks_by_value p.passes in
+    let marks = no_marks (λ t. ap (λ (f : ℕ → ℕ). f t) (p.passes.named.only c.if-shape.false)) in
     rw (
       sym c.in_ok-checked.ensures.verdict,
       sym c.in_ok-check_axis.ensures,
@@ -57,5 +53,6 @@ returns c =
       ← p.levels,
       ← p.indices,
       ← marks,
+      c.if-shape.false,
     )
     (ap Ok c.beside.ensures)
