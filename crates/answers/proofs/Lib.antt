@@ -1,2 +1,3 @@
 pub mod Kept
 pub mod Zero
+pub mod Flag

@@ -68,6 +68,7 @@ pub fn hand<T: Copy>(answer: Result<T, Refusal>, out: &mut T, place: &mut u64) -
 }
 
 // A point into three arrays. (By three variables: the borrow check does not cover a field that is an array, stored straight.)
+#[inline(always)]
 fn put_point(
     found: MarkedPoint,
     marks: &mut [u32; 8],
@@ -103,6 +104,7 @@ pub fn hand_point(
 
 // A point goes out into three arrays, and `none` is 0. Where there is none, at the end or the border, the arrays stay, and `none` is 1.
 // (C has numbers for yes and no.)
+#[inline(always)]
 pub fn hand_located(
     answer: Result<Option<MarkedPoint>, Refusal>,
     marks: &mut [u32; 8],

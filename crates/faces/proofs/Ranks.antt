@@ -143,7 +143,7 @@ face_rank_lt m (suc k) marks =
     )
 
 -- The rank depends on the marks of its axes alone.
-face_rank_cong : (m o : ℕ → ℕ) (k : ℕ) → ((t : ℕ) → t < k → m t ≡ o t) → face_rank m k ≡ face_rank o k
+pub face_rank_cong : (m o : ℕ → ℕ) (k : ℕ) → ((t : ℕ) → t < k → m t ≡ o t) → face_rank m k ≡ face_rank o k
 face_rank_cong m o zero same = omega (arith, face_rank_zero m, face_rank_zero o)
 face_rank_cong m o (suc k) same =
     face_rank_suc m k

@@ -3,3 +3,4 @@ pub mod Marks
 pub mod Found
 pub mod Laid
 pub mod LastLevels
+pub mod Upper

@@ -1,7 +1,7 @@
 // Where the faces of a table with values on the border lie: the faces in their order, the first number of each, and the face that a number lies on.
 #![tactic(auto)]
 
-ghost use Rattle.std.specs.Prelude.{◌≡◌, ℕ, suc, ◌-◌, ◌/◌, ◌%◌, ◌≤◌, ◌<◌};
+ghost use Rattle.std.specs.Prelude.{◌≡◌, ℕ, suc, ◌-◌, ◌*◌, ◌/◌, ◌%◌, ◌≤◌, ◌<◌};
 ghost use Rattle.naturals.specs.Sum.{sum_to};
 ghost use Rattle.numbering.specs.Count.{points};
 ghost use Rattle.numbering.specs.Point.{at};
@@ -61,6 +61,16 @@ pub fn face_start(axes: u32, level: u32, marks: &[u32; 8]) -> u64
     let rows = Rows::new();
     let (borders, rank) = borders_and_rank(axes, marks);
     rows.layers(axes, level, borders) + rows.points(axes - borders, level) * rank
+}
+
+// How many points lie between the first point of a face with the lower border on an axis and that of the face with the upper border there and else the same marks:
+// on each of `inner` inner axes, with so many border axes before the axis.
+pub fn lower_to_upper(level: u32, place: u32, borders: u32, inner: u32) -> u64
+    requires { (place ≤ 3) × (borders ≤ place) × (inner ≤ 4) × (level ≤ 8) }
+    ensures { result ≡ points inner level * faces place borders }
+{
+    let lower_faces = below(place, borders + 1, 2) - below(place, borders + 1, 1);
+    Rows::new().points(inner, level) * lower_faces
 }
 
 // The mark on the last of `axes` + 1 axes, of the face with these border axes that `rank` others come before, and how many of these have the same mark there.

@@ -82,13 +82,13 @@ fn inner_before(marks: &[u32; 8], place: u32) -> u32
     inner
 }
 
-// The first number of the face with this mark on the axis, and else these marks.
-fn rim(line: Line, marks: [u32; 8], mark: u32) -> u64
-    requires { (line.shape.axes ≤ 4) × ((t : ℕ) → t < line.shape.axes → at marks t ≤ 2) × (mark ≤ 2) }
-    ensures { result ≡ face_start line.shape.axes line.shape.level (update (at marks) line.place mark) }
+// The first number of the face with the lower border on the axis, and else these marks.
+fn lower_rim(line: Line, marks: [u32; 8]) -> u64
+    requires { (line.shape.axes ≤ 4) × ((t : ℕ) → t < line.shape.axes → at marks t ≤ 2) }
+    ensures { result ≡ face_start line.shape.axes line.shape.level (update (at marks) line.place 1) }
 {
     let mut across = marks;
-    across[line.place as usize] = mark;
+    across[line.place as usize] = 1;
     layouts::face_start(line.shape.axes, line.shape.level, &across)
 }
 
@@ -119,15 +119,15 @@ impl Facet {
         if face.marks[line.place as usize] != 0 {
             return None;
         }
+        let place = inner_before(&face.marks, line.place);
+        let lower = lower_rim(line, face.marks);
+        let upper = lower + layouts::lower_to_upper(line.shape.level, line.place, line.place - place, face.inner - 1);
         Some(Facet {
             line,
             axes: face.inner,
-            place: inner_before(&face.marks, line.place),
+            place,
             base: face.start,
-            rims: Some(Rims {
-                lower: rim(line, face.marks, 1),
-                upper: rim(line, face.marks, 2),
-            }),
+            rims: Some(Rims { lower, upper }),
         })
     }
 }

@@ -135,6 +135,7 @@ fn beside_on_faces(
 
 // What lies beside a point that is handed in as three lists, or none.
 #[tactic(auto, unfolding(crate::specs::Parents::parent_of))]
+#[inline(always)]
 pub fn parent(
     shape: Shape,
     marks: &[u32],
