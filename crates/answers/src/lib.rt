@@ -116,10 +116,14 @@ pub fn hand_located(
     ensures { returned result place.new (marks.new, levels.new, indices.new, none.new) ≡ of_located (marks.old, levels.old, indices.old, none.old) answer }
 {
     if let Ok(located) = answer {
-        *none = 1;
-        if let Some(point) = located {
-            *none = 0;
-            put_point(point, marks, levels, indices);
+        match located {
+            Some(point) => {
+                *none = 0;
+                put_point(point, marks, levels, indices);
+            }
+            None => {
+                *none = 1;
+            }
         }
     }
     tell(answer, place)

@@ -62,31 +62,6 @@ pub extern "C" fn numolefays_point_of_number(
     answers::hand_point(answer, marks, levels, indices, place)
 }
 
-// ---- successor and parent (the call with values on the border stands apart: compiled into one, what the two sorts find is copied together, and the calls take up to
-// a fifth more instructions with a zero border)
-
-// The successor of a point with values on the border.
-#[inline(never)]
-fn next_on_faces(
-    axes: u32,
-    level: u32,
-    border: u8,
-    marks: &[u32],
-    levels: &[u32],
-    indices: &[u32],
-    next_marks: &mut [u32; 8],
-    next_levels: &mut [u32; 8],
-    next_indices: &mut [u32; 8],
-    end: &mut u32,
-    place: &mut u64,
-) -> u32
-    ensures { returned result place.new (next_marks.new, next_levels.new, next_indices.new, end.new) ≡ of_located (next_marks.old, next_levels.old, next_indices.old, end.old) (successor_of (shape_of axes level border) marks.now levels.now indices.now) }
-{
-    let shape = answers::shape_of(axes, level, border);
-    let answer = successor::successor(shape, marks, levels, indices);
-    answers::hand_located(answer, next_marks, next_levels, next_indices, end, place)
-}
-
 // The successor of a point: `end` is 1 after the last point, else 0.
 #[unsafe(no_mangle)]
 pub extern "C" fn numolefays_successor(
@@ -104,31 +79,16 @@ pub extern "C" fn numolefays_successor(
 ) -> u32
     ensures { returned result place.new (next_marks.new, next_levels.new, next_indices.new, end.new) ≡ of_located (next_marks.old, next_levels.old, next_indices.old, end.old) (successor_of (shape_of axes level border) marks.now levels.now indices.now) }
 {
-    if border == 0 {
-        let answer = successor::successor(Shape::sparse(axes, level), marks, levels, indices);
-        return answers::hand_located(
-            answer,
-            next_marks,
-            next_levels,
-            next_indices,
-            end,
-            place,
-        );
-    }
-    next_on_faces(
-        axes,
-        level,
-        border,
+    let answer = successor::successor(
+        answers::shape_of(axes, level, border),
         marks,
         levels,
         indices,
-        next_marks,
-        next_levels,
-        next_indices,
-        end,
-        place,
-    )
+    );
+    answers::hand_located(answer, next_marks, next_levels, next_indices, end, place)
 }
+
+// ---- parent
 
 // The parent of a point with values on the border.
 #[inline(never)]

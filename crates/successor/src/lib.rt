@@ -121,7 +121,6 @@ fn successor_on_faces(
 
 // The successor of a point, or none, the end, after the last.
 #[tactic(auto, unfolding(crate::specs::Successor::successor_of, points::specs::Points::check_point))]
-#[inline(always)]
 pub fn successor(
     shape: Shape,
     marks: &[u32],
