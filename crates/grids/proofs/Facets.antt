@@ -35,7 +35,7 @@ use Rattle.shapes.specs.declared.Shape.{Shape}
 use Rattle.shapes.specs.Shapes.{points_of}
 use Rattle.shapes.proofs.Layers.{points_bordered}
 use Rattle.grids.specs.Grids.{number_of, mark_on, level_on, index_on, neighbour}
-use Rattle.grids.proofs.Points.{point_at_lem, number_bordered, marks_bordered, levels_bordered, indices_bordered, numbering, number_of_point_lem}
+use Rattle.grids.proofs.Points.{mark_small, point_at_lem, number_bordered, marks_bordered, levels_bordered, indices_bordered, numbering, number_of_point_lem}
 use Rattle.grids.proofs.Beside.{numerator_on, still_there, to_parent, to_across}
 use Rattle.grids.proofs.Instance.{neighbours_of}
 
@@ -49,10 +49,6 @@ first_of_cong k l o same =
 skip_lt : (c u k : ℕ) → suc u < k → skip c u < k
 unfolding skip
 skip_lt c u k h = le_or_lt c u (λ le. rw (le-ltb u c le) h) (λ lt. rw (lt-ltb u c lt) (omega arith))
-
-mark_small : (b : Side) → mark_of b ≤ 2
-mark_small Left = omega arith
-mark_small Right = omega arith
 
 -- Where the axis is a border axis of a face, nothing moves there.
 pub face_still : (s : Shape) → s.border ≡ true → (f : ℕ) → f < all_faces s.axes → (t : ℕ) → t < s.axes → 0 < marks_of s.axes f t →

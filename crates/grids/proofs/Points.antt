@@ -32,6 +32,10 @@ use Rattle.shapes.specs.Shapes.{points_of}
 use Rattle.shapes.proofs.Layers.{points_plain, points_bordered}
 use Rattle.grids.specs.Grids.{number_of, mark_on, level_on, index_on, numbered}
 
+pub mark_small : (b : Side) → mark_of b ≤ 2
+mark_small Left = omega arith
+mark_small Right = omega arith
+
 -- Marks, levels and indices of a point of the shape, with nothing past its axes; with a zero border no axis is marked.
 pub record PointOf (s : Shape) (m l i : ℕ → ℕ) : Type 0 where
   pub marked : Marked s.axes s.level m l i
@@ -220,10 +224,6 @@ module _ (s : Shape) where
             record { marked = across_marked x.marked t axis inner (mark_of b) (mark_small b); only = λ off. absurd (false≢true (sym off ∙ on)) };
       }
     where
-      mark_small : (b : Side) → mark_of b ≤ 2
-      mark_small Left = omega arith
-      mark_small Right = omega arith
-
       one_number : {m l i o k j : ℕ → ℕ} → PointOf s m l i → PointOf s o k j → ((t : ℕ) → t < s.axes → m t ≡ o t) →
           ((t : ℕ) → t < s.axes → l t ≡ k t) → ((t : ℕ) → t < s.axes → i t ≡ j t) → number_of s m l i ≡ number_of s o k j
       one_number {m} {l} {i} {o} {k} {j} x y marks levels indices =

@@ -39,8 +39,8 @@ numbered s =
       index = index_on s;
     }
 
--- The neighbour of a code on axis t (from 0), on either side: code 0 is the zero border, code p + 1 is point number p. That of the zero border, of a number past the
--- last point and on an axis that the shape does not have is the zero border.
+-- The neighbour of a code on axis t (from 0), on either side: code 0 is no point, code p + 1 is point number p. Beside no point, past the
+-- last number and on an axis that the shape does not have it is no point.
 unfoldable pub neighbour : Shape → ℕ → Side → ℕ → ℕ
 neighbour s t side p = numbered_points.neighbour (numbered s) t side p
 

@@ -1,4 +1,4 @@
--- What a turn needs of a grid: neighbours on each axis. Code 0 is "none", the zero border; code p + 1 is point number p.
+-- What a turn needs of a grid: neighbours on each axis. Code 0 is none, as beside a zero border; code p + 1 is point number p.
 -- Assumes nothing.
 use Rattle.std.specs.Prelude.{◌≡◌, ◌⊎◌, ℕ, ◌≤◌, ◌<◌}
 use Rattle.numbering.specs.declared.Side.{Side}

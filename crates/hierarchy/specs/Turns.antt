@@ -6,7 +6,7 @@ use Rattle.integers.specs.Half.{half, is_even, in_limit}
 use Rattle.numbering.specs.declared.Side.TheVariants.{Left, Right}
 use Rattle.hierarchy.specs.Grid.{Neighbours}
 
--- What a list of values holds at a code: 0 at the border and past the end.
+-- What a list of values holds at a code: 0 where there is no point, and past the end.
 unfoldable pub value_at : List ℤ → ℕ → ℤ
 value_at xs zero = pos 0
 value_at xs (suc p) = get_or xs p (pos 0)

@@ -17,7 +17,7 @@ Weights = ℕ → ℕ → ℕ → ℕ
 abbrev pub Agreement : Type 0
 Agreement = ℕ → ℕ → ℕ → Bool
 
--- Hat functions on a grid of m points and d axes, with the unit u: a weight is 0 at the border; a move on another axis that stays off the border
+-- Hat functions on a grid of m points and d axes, with the unit u: a weight is 0 where there is no point; a move on another axis that comes to a point
 -- changes neither weight nor agreement; on its own axis, twice a weight is the weights at the two neighbours, and twice the unit more at the point
 -- itself; points that agree on every axis are one.
 pub record Hats (m d u : ℕ) (nb : Neighbours) (w : Weights) (same : Agreement) : Type 0 where

@@ -1,4 +1,4 @@
--- Neighbours by number on a grid, with a zero border or with values on it: code 0 is the zero border, code p + 1 is point number p.
+-- Neighbours by number on a grid, with a zero border or with values on it: code 0 is no point, code p + 1 is point number p.
 -- Assumes nothing.
 use Rattle.std.specs.Prelude.{Bool, true, false, ◌&&◌, ℕ, zero, suc, eqb, ltb, if◌then◌else◌}
 use Rattle.numbering.specs.declared.Side.{Side}
@@ -46,8 +46,7 @@ unfoldable pub code_of : Numbered → Place → ℕ
 code_of g nowhere = 0
 code_of g (somewhere m l i) = suc (g.number m l i)
 
--- The neighbour of a code on axis t (from 0), on either side: that of the zero border, of a number past the last point and on an axis that there is not is the
--- zero border.
+-- The neighbour of a code on axis t (from 0), on either side: beside no point, past the last number and on an axis that there is not it is no point.
 unfoldable pub neighbour : Numbered → ℕ → Side → ℕ → ℕ
 neighbour g t side zero = 0
 neighbour g t side (suc p) =

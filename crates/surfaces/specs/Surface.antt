@@ -1,5 +1,5 @@
 -- The surface of a table of coefficients: its exact value at coordinates, and the estimate (document 01, "Estimates"). A table is a function from
--- codes to whole numbers: code 0 is the zero border, and code p + 1 is point number p. First for any unit and any numbered points, then for those of a shape.
+-- codes to whole numbers: code 0 is no point, and code p + 1 is point number p. First for any unit and any numbered points, then for those of a shape.
 -- Assumes nothing.
 use Rattle.std.specs.Prelude.{◌≡◌, ℕ, ◌^◌, ℤ, pos, ◌*ℤ◌}
 use Rattle.naturals.specs.Sum.{prod_to}

@@ -34,7 +34,7 @@ use Rattle.sweeps.specs.Sweeps.{lists_worked}
 use Rattle.sweeps.proofs.Parted.{Parted, parted_list, moved_down, moved_up}
 use Rattle.sweeps.proofs.Walking.{worked_long}
 use Rattle.sweeps.proofs.Joined.{OfFace, Joined, joined_down, joined_up}
-use Rattle.sweeps.proofs.Standing.{face_end}
+use Rattle.neighbours.proofs.Staying.{facet_end}
 
 -- ---- the work on points from number lo to hi − 1
 
@@ -193,12 +193,12 @@ module _ (facet : Facet) (xs : List ℤ) (long : length xs ≡ points_of facet.l
       (list_inside l inside) turned.holds turned.others
 
   -- From a table in which the turn comes to the face: all points from the end of the face on are turned.
-  module _ (start : List ℤ) (comes : StandsDown (face_end facet) start) (before after : List Levels) (l : Levels)
+  module _ (start : List ℤ) (comes : StandsDown (facet_end facet) start) (before after : List Levels) (l : Levels)
       (walk : walk_down facet.axes facet.line.shape.level ≡ before ++ (l ∷ after)) where
     reached_down : (walked_on true before start ≡ came_to true shape place facet.base facet.axes l xs)
         × ListTurned true shape place facet.base facet.axes l xs (walked_on true before start) (walked_on true (before ++ (l ∷ [])) start)
     reached_down =
-        reached true (end_of facet.base facet.axes) (first_in facet.base facet.axes) StandsDown comes_down goes_down before after l (face_end facet) start comes
+        reached true (end_of facet.base facet.axes) (first_in facet.base facet.axes) StandsDown comes_down goes_down before after l (facet_end facet) start comes
         (rw walk at (joined_down facet.base facet.axes facet.line.shape.level))
 
     -- A forward turn comes to each level list of its walk with the lists before it in the walk done, and no other place changed.

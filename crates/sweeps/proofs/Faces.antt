@@ -33,7 +33,7 @@ use Rattle.lists.specs.Lists.{odd_sums, whole_turn, turned_between}
 use Rattle.lists.proofs.Turned.{still_turn}
 use Rattle.sweeps.proofs.Parted.{Parted, all_parted, list_parted}
 use Rattle.sweeps.proofs.Odds.{odds_none, same_growth, same_odd}
-use Rattle.sweeps.proofs.Standing.{face_end}
+use Rattle.neighbours.proofs.Staying.{facet_end}
 
 pub turn_long : (ahead : Bool) (s : Shape) (t : ℕ) (xs : List ℤ) → length (whole_turn ahead s t xs) ≡ points_of s
 unfolding whole_turn
@@ -85,19 +85,19 @@ module _ (line : Line) (plain : line.shape.border ≡ false) (xs : List ℤ) (lo
 
 -- Where a face is done by a back turn, its odd sums are those of the result.
 module _ (facet : Facet) (xs ys : List ℤ) (long : length xs ≡ points_of facet.line.shape)
-    (parted : Parted (points_of facet.line.shape) facet.base (face_end facet) xs (whole_turn false facet.line.shape facet.line.place xs) ys) where
+    (parted : Parted (points_of facet.line.shape) facet.base (facet_end facet) xs (whole_turn false facet.line.shape facet.line.place xs) ys) where
   abbrev result : List ℤ
   result = whole_turn false facet.line.shape facet.line.place xs
 
-  holds : (q : ℕ) → facet.base < q → (face_end facet < q → Still (neighbour facet.line.shape) facet.line.place q) → value_at ys q ≡ value_at result q
+  holds : (q : ℕ) → facet.base < q → (facet_end facet < q → Still (neighbour facet.line.shape) facet.line.place q) → value_at ys q ≡ value_at result q
   holds zero from still = absurd (omega arith)
   holds (suc p) from still =
-      le_or_lt (face_end facet) p
+      le_or_lt (facet_end facet) p
       (λ past.
       parted.others p (inr past) ∙ sym (still_turn false facet.line.shape facet.line.place xs long (suc p) (still (omega arith))))
       (λ within. parted.inside p (omega arith) within)
 
-  parent_holds : (p : ℕ) → facet.base ≤ p → p < face_end facet → (b : Side) → (q : ℕ) → q ≡ neighbour facet.line.shape facet.line.place b (suc p) →
+  parent_holds : (p : ℕ) → facet.base ≤ p → p < facet_end facet → (b : Side) → (q : ℕ) → q ≡ neighbour facet.line.shape facet.line.place b (suc p) →
       value_at ys q ≡ value_at result q
   parent_holds p from to b zero e = value_zero ys ∙ sym (value_zero result)
   parent_holds p from to b (suc r) e =
@@ -105,12 +105,12 @@ module _ (facet : Facet) (xs ys : List ℤ) (long : length xs ≡ points_of face
       let known = apart (omega arith) in
       holds (suc r) known.0 (λ high. (known.1 (omega arith)).1)
 
-  pub former_odds : (odd : ℕ) → odd_sums facet.line.shape facet.line.place result facet.base + odd ≡ odd_sums facet.line.shape facet.line.place result (face_end facet) →
-      odd_sums facet.line.shape facet.line.place ys facet.base + odd ≡ odd_sums facet.line.shape facet.line.place ys (face_end facet)
+  pub former_odds : (odd : ℕ) → odd_sums facet.line.shape facet.line.place result facet.base + odd ≡ odd_sums facet.line.shape facet.line.place result (facet_end facet) →
+      odd_sums facet.line.shape facet.line.place ys facet.base + odd ≡ odd_sums facet.line.shape facet.line.place ys (facet_end facet)
   former_odds odd counted =
       omega (
         arith,
         counted,
-        same_growth facet.line.shape facet.line.place ys result facet.base (face_end facet) (omega arith)
+        same_growth facet.line.shape facet.line.place ys result facet.base (facet_end facet) (omega arith)
             (λ p from to. same_odd facet.line.shape facet.line.place ys result p (λ b. parent_holds p from to b _ refl)),
       )

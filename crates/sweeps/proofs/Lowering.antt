@@ -34,7 +34,8 @@ use Rattle.sweeps.proofs.Room.{turned_within}
 use Rattle.sweeps.proofs.Parted.{Parted, none_parted, parted_list, below_codes, parted_within, moved_down}
 use Rattle.sweeps.proofs.Odds.{odds_few}
 use Rattle.sweeps.proofs.Walking.{worked_long, same_walk, first_worked, none_worked, left_down, down_all, down_first, down_sum, down_none}
-use Rattle.sweeps.proofs.Standing.{Standing, face_end, first_at_lem, levels_of_rank, vector_in, end_inside}
+use Rattle.neighbours.proofs.Staying.{facet_end}
+use Rattle.sweeps.proofs.Standing.{Standing, first_at_lem, levels_of_rank, vector_in, end_inside}
 use Rattle.sweeps.proofs.Coming.{vector_worked}
 use Rattle.sweeps.proofs.Meeting.{Met, met_start, met_end, met_odds}
 
@@ -45,18 +46,18 @@ turned_on facet xs = whole_turn true facet.line.shape facet.line.place xs
 -- Of the sum the first b lists are left; from number k to the end of the face the table ys is turned, and so many sums were odd there.
 pub record Lowering (facet : Facet) (xs : List ℤ) (sum b k odd : ℕ) (ys : List ℤ) : Type 0 where
   pub first : k ≡ facet.base + first_at facet.axes sum b
-  pub parted : Parted (points_of facet.line.shape) k (face_end facet) xs (turned_on facet xs) ys
-  pub odds : odd_sums facet.line.shape facet.line.place xs k + odd ≡ odd_sums facet.line.shape facet.line.place xs (face_end facet)
+  pub parted : Parted (points_of facet.line.shape) k (facet_end facet) xs (turned_on facet xs) ys
+  pub odds : odd_sums facet.line.shape facet.line.place xs k + odd ≡ odd_sums facet.line.shape facet.line.place xs (facet_end facet)
   pub walked : lists_worked true facet.line.shape facet.line.place facet.base facet.axes (left_down facet.axes sum b) ys
       ≡ lists_worked true facet.line.shape facet.line.place facet.base facet.axes (walk_down facet.axes facet.line.shape.level) xs
 
 module _ (facet : Facet) (xs : List ℤ) (long : length xs ≡ points_of facet.line.shape) where
   -- At the start all lists of the top level are left.
-  pub lowering_starts : (k : ℕ) → k ≡ face_end facet → Lowering facet xs facet.line.shape.level (vectors facet.axes facet.line.shape.level) k 0 xs
+  pub lowering_starts : (k : ℕ) → k ≡ facet_end facet → Lowering facet xs facet.line.shape.level (vectors facet.axes facet.line.shape.level) k 0 xs
   lowering_starts k whole =
       record {
         first = omega (arith, whole, points_is facet.axes facet.line.shape.level, start_suc facet.axes facet.line.shape.level);
-        parted = rw whole (none_parted _ (face_end facet) xs (turned_on facet xs) long);
+        parted = rw whole (none_parted _ (facet_end facet) xs (turned_on facet xs) long);
         odds = rw whole (omega arith);
         walked = same_walk true facet.line.shape facet.line.place facet.base facet.axes xs (down_all facet.axes facet.line.shape.level);
       }
@@ -71,7 +72,7 @@ module _ (facet : Facet) (xs : List ℤ) (long : length xs ≡ points_of facet.l
     -- No more sums are odd than there are points.
     pub lowering_few : odd < 2 ^ 32
     lowering_few =
-        omega (arith, s.odds, odds_few facet.line.shape facet.line.place xs (face_end facet), facet.sits.inside, facet.sits.small)
+        omega (arith, s.odds, odds_few facet.line.shape facet.line.place xs (facet_end facet), facet.sits.inside, facet.sits.small)
 
     -- Where no list of the sum is left, all of the sum below are.
     lowering_sum : (sum' : ℕ) → sum ≡ suc sum' → b ≡ 0 → Lowering facet xs sum' (vectors facet.axes sum') k odd ys
@@ -93,11 +94,11 @@ module _ (facet : Facet) (xs : List ℤ) (long : length xs ≡ points_of facet.l
 
     -- At the first number of the face none is left.
     module _ (done : k ≡ facet.base) where
-      pub lowering_turned : ys ≡ turned_between true facet.line.shape facet.line.place facet.base (face_end facet) xs
+      pub lowering_turned : ys ≡ turned_between true facet.line.shape facet.line.place facet.base (facet_end facet) xs
       unfolding turned_between
       lowering_turned = parted_list (rw done at s.parted)
 
-      pub lowering_odds : odd_sums facet.line.shape facet.line.place xs facet.base + odd ≡ odd_sums facet.line.shape facet.line.place xs (face_end facet)
+      pub lowering_odds : odd_sums facet.line.shape facet.line.place xs facet.base + odd ≡ odd_sums facet.line.shape facet.line.place xs (facet_end facet)
       lowering_odds = rw done at s.odds
 
       pub lowering_walked : b < vectors facet.axes sum →
@@ -115,7 +116,7 @@ module _ (facet : Facet) (xs : List ℤ) (long : length xs ≡ points_of facet.l
     ends_list : k ≡ end_of facet.base facet.axes (at vector.levels)
     ends_list = ends ∙ ap (λ (u : ℕ). facet.base + first_of facet.axes (at vector.levels) + 2 ^ u) (sym (vector_in here).total)
 
-    ends_inside : k ≤ face_end facet
+    ends_inside : k ≤ facet_end facet
     ends_inside = omega (arith, ends, end_inside here)
 
     -- Its first number, as the code reckons it.
@@ -126,7 +127,7 @@ module _ (facet : Facet) (xs : List ℤ) (long : length xs ≡ points_of facet.l
     still : (q : ℕ) → k < q → Still (neighbour facet.line.shape) facet.line.place q → value_at ys q ≡ value_at xs q
     still zero high stays = absurd (omega arith)
     still (suc p) high stays =
-        le_or_lt (face_end facet) p
+        le_or_lt (facet_end facet) p
         (λ past. s.parted.others p (inr past))
         (λ within.
         s.parted.inside p (omega (arith, high)) within
@@ -149,7 +150,7 @@ module _ (facet : Facet) (xs : List ℤ) (long : length xs ≡ points_of facet.l
         (counted : odd_sums facet.line.shape facet.line.place xs (first_in facet.base facet.axes (at vector.levels)) + more
         ≡ odd_sums facet.line.shape facet.line.place xs (end_of facet.base facet.axes (at vector.levels)))
         (turned : ListTurned true facet.line.shape facet.line.place facet.base facet.axes (at vector.levels) xs ys zs) where
-      list_parted : Parted (points_of facet.line.shape) (first_in facet.base facet.axes (at vector.levels)) (face_end facet) xs (turned_on facet xs) zs
+      list_parted : Parted (points_of facet.line.shape) (first_in facet.base facet.axes (at vector.levels)) (facet_end facet) xs (turned_on facet xs) zs
       list_parted =
           moved_down s.parted zs
           (ap length worked ∙ worked_long true facet.line.shape facet.line.place facet.base facet.axes (at vector.levels) ys)

@@ -17,7 +17,7 @@ use Rattle.neighbours.specs.declared.facets.Line.{Line}
 use Rattle.neighbours.specs.declared.facets.Facet.{Facet}
 use Rattle.lists.specs.Lists.{whole_turn, came_to, ListTurned}
 use Rattle.sweeps.specs.Sweeps.{lists_worked}
-use Rattle.sweeps.proofs.Standing.{face_end}
+use Rattle.neighbours.proofs.Staying.{facet_end}
 use Rattle.sweeps.proofs.Parted.{Parted}
 use Rattle.sweeps.proofs.Coming.{came_down, turned_down, came_up, turned_up}
 use Rattle.sweeps.proofs.FaceByFace.{starts_at, ends_at}
@@ -35,7 +35,7 @@ module _ (line : Line) (xs : List ℤ) (long : length xs ≡ points_of line.shap
 
   module _ {odd : ℕ} (down : Down line xs (suc f) odd ys) (before after : List Levels) (l : Levels)
       (walk : walk_down facet.axes facet.line.shape.level ≡ before ++ (l ∷ after)) where
-    comes_down : Parted (points_of facet.line.shape) (face_end facet) (points_of facet.line.shape) xs (whole_turn true facet.line.shape facet.line.place xs) ys
+    comes_down : Parted (points_of facet.line.shape) (facet_end facet) (points_of facet.line.shape) xs (whole_turn true facet.line.shape facet.line.place xs) ys
     comes_down = rw (ends_at line on f in_row facet is, is.1) down.parted
 
     pub came_down_on_face : worked_on true before ≡ came_to true facet.line.shape facet.line.place facet.base facet.axes l xs

@@ -15,7 +15,7 @@ use Rattle.neighbours.proofs.Whole.{whole}
 use Rattle.lists.specs.Lists.{whole_turn, came_to, ListTurned}
 use Rattle.sweeps.specs.Sweeps.{lists_worked}
 use Rattle.sweeps.proofs.Parted.{none_parted}
-use Rattle.sweeps.proofs.Standing.{face_end}
+use Rattle.neighbours.proofs.Staying.{facet_end}
 use Rattle.sweeps.proofs.Faces.{whole_end}
 use Rattle.sweeps.proofs.Coming.{StandsDown, StandsUp, came_down, turned_down, came_up, turned_up}
 
@@ -38,7 +38,7 @@ module _ (line : Line) (plain : line.shape.border ≡ false) (xs : List ℤ) (lo
   abbrev worked : Bool → List Levels → List ℤ
   worked ahead ls = lists_worked ahead line.shape line.place 0 line.shape.axes ls xs
 
-  nothing_down : StandsDown all xs long (face_end all) xs
+  nothing_down : StandsDown all xs long (facet_end all) xs
   nothing_down = rw (whole_end line plain xs long) (none_parted (points_of line.shape) (points_of line.shape) xs (whole_turn true line.shape line.place xs) long)
 
   module _ (before after : List Levels) (l : Levels) (walk : walk_down line.shape.axes line.shape.level ≡ before ++ (l ∷ after)) where

@@ -35,7 +35,8 @@ use Rattle.sweeps.proofs.Parted.{Parted, none_parted, parted_list, parted_within
 use Rattle.sweeps.proofs.Odds.{odds_few}
 use Rattle.sweeps.proofs.Faces.{former_odds}
 use Rattle.sweeps.proofs.Walking.{worked_long, same_walk, first_worked, none_worked, left_up, up_all, up_first, up_sum, up_none}
-use Rattle.sweeps.proofs.Standing.{Standing, face_end, first_at_lem, rank_in, levels_of_rank, end_inside, vector_in}
+use Rattle.neighbours.proofs.Staying.{facet_end}
+use Rattle.sweeps.proofs.Standing.{Standing, first_at_lem, rank_in, levels_of_rank, end_inside, vector_in}
 use Rattle.sweeps.proofs.Coming.{vector_worked}
 use Rattle.sweeps.proofs.Meeting.{Met, met_start, met_end, met_odds}
 
@@ -94,12 +95,12 @@ module _ (facet : Facet) (xs : List ℤ) (long : length xs ≡ points_of facet.l
         }
 
     -- At the end of the face none is left.
-    module _ (done : k ≡ face_end facet) where
-      pub raising_former : ys ≡ turned_between false facet.line.shape facet.line.place facet.base (face_end facet) xs
+    module _ (done : k ≡ facet_end facet) where
+      pub raising_former : ys ≡ turned_between false facet.line.shape facet.line.place facet.base (facet_end facet) xs
       unfolding turned_between
       raising_former = parted_list (rw done at s.parted)
 
-      pub raising_odds : odd_sums facet.line.shape facet.line.place ys facet.base + odd ≡ odd_sums facet.line.shape facet.line.place ys (face_end facet)
+      pub raising_odds : odd_sums facet.line.shape facet.line.place ys facet.base + odd ≡ odd_sums facet.line.shape facet.line.place ys (facet_end facet)
       raising_odds = former_odds facet xs ys long (rw done at s.parted) odd (rw done at s.odds)
 
   module _ {sum r k odd : ℕ} {ys : List ℤ} (s : Raising facet xs sum (suc r) k odd ys) where
@@ -110,7 +111,7 @@ module _ (facet : Facet) (xs : List ℤ) (long : length xs ≡ points_of facet.l
         (λ same. rw (same.0, same.1) s)
         (λ above. rw (above.0, above.1) (raising_sum s (omega (arith, above.0)) above.2))
 
-    pub raising_walked : sum ≤ facet.line.shape.level → r < vectors facet.axes sum → k ≡ face_end facet →
+    pub raising_walked : sum ≤ facet.line.shape.level → r < vectors facet.axes sum → k ≡ facet_end facet →
         ys ≡ lists_worked false facet.line.shape facet.line.place facet.base facet.axes (walk_up facet.axes facet.line.shape.level) xs
     raising_walked low in_sum done =
         let end : first_at facet.axes sum r + 2 ^ sum ≡ start facet.axes (suc facet.line.shape.level)
@@ -133,7 +134,7 @@ module _ (facet : Facet) (xs : List ℤ) (long : length xs ≡ points_of facet.l
     ends_list : k + 1 * 2 ^ vector.sum % 2 ^ 64 ≡ end_of facet.base facet.axes (at vector.levels)
     ends_list = raising_end ∙ ap (λ (u : ℕ). facet.base + first_of facet.axes (at vector.levels) + 2 ^ u) (sym (vector_in here).total)
 
-    pub raising_inside : k + 1 * 2 ^ vector.sum % 2 ^ 64 ≤ face_end facet
+    pub raising_inside : k + 1 * 2 ^ vector.sum % 2 ^ 64 ≤ facet_end facet
     raising_inside = omega (arith, raising_end, end_inside here)
 
     -- The turn comes to it.

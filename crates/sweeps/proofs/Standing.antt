@@ -112,10 +112,6 @@ module _ {facet : Facet} {vector : LevelVector} (s : Standing facet vector) (vec
 
 -- ---- the last
 
--- The number after the last point of a face.
-abbrev pub face_end : Facet → ℕ
-face_end facet = facet.base + points facet.axes facet.line.shape.level
-
 module _ (facet : Facet) where
   -- A face has points.
   pub some_place : 1 ≤ points facet.axes facet.line.shape.level

@@ -6,7 +6,8 @@ use Rattle.numbering.specs.Point.{at}
 use Rattle.numbering.specs.Number.{rank}
 use Rattle.cursors.proofs.Below.{cursors_below}
 use Rattle.sweeps.proofs.Ranks.{Follows}
-use Rattle.sweeps.proofs.Standing.{face_end, rank_in, previous_follows, previous_standing, last_standing, last_of_face, vector_in}
+use Rattle.neighbours.proofs.Staying.{facet_end}
+use Rattle.sweeps.proofs.Standing.{rank_in, previous_follows, previous_standing, last_standing, last_of_face, vector_in}
 use Rattle.sweeps.proofs.Meeting.{met}
 use Rattle.sweeps.proofs.Lowering.{Lowering, lowering_starts, lowering_room, lowering_few, lowering_next, lowering_turned, lowering_odds, lowering_walked, lowering_first, lowering_worked}
 use Rattle.sweeps.proofs.lower_face.Goals.{After-end-start, After-work-odd, After-previous}
@@ -15,7 +16,7 @@ use Rattle.sweeps.proofs.lower_face.Goals as goal
 -- ---- before the loop
 
 -- Where the face ends.
-ends : (c : After-end-start) → c.end-start.result ≡ face_end c.args.facet
+ends : (c : After-end-start) → c.end-start.result ≡ facet_end c.args.facet
 ends c = rw c.of-starts.ensures at c.end-start.ensures
 
 pub after_last-requires : goal.after_last-requires

@@ -7,14 +7,15 @@ use Rattle.numbering.specs.Point.{at}
 use Rattle.numbering.specs.Number.{rank}
 use Rattle.cursors.proofs.Below.{cursors_below}
 use Rattle.sweeps.proofs.Ranks.{Follows}
-use Rattle.sweeps.proofs.Standing.{Standing, face_end, rank_in, first_standing, first_rank, next_follows, next_standing, vector_in}
+use Rattle.neighbours.proofs.Staying.{facet_end}
+use Rattle.sweeps.proofs.Standing.{Standing, rank_in, first_standing, first_rank, next_follows, next_standing, vector_in}
 use Rattle.sweeps.proofs.Meeting.{met}
 use Rattle.sweeps.proofs.Raising.{Raising, raising_starts, raising_room, raising_few, raising_former, raising_odds, raising_next, raising_walked, raising_first, raising_end, raising_inside, raising_worked}
 use Rattle.sweeps.proofs.raise_face.Goals.{After-end-end, After-work-odd, After-next}
 use Rattle.sweeps.proofs.raise_face.Goals as goal
 
 -- Where the face ends.
-ends : (c : After-end-end) → c.end-end.result ≡ face_end c.args.facet
+ends : (c : After-end-end) → c.end-end.result ≡ facet_end c.args.facet
 ends c = rw c.of-starts.ensures at c.end-end.ensures
 
 pub loop-start-init : goal.loop-start-init
