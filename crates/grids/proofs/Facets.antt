@@ -11,7 +11,6 @@ use Rattle.naturals.specs.Sum.{sum_to}
 use Rattle.naturals.proofs.Cases.{le_or_lt}
 use Rattle.naturals.proofs.Sums.{sum_to_cong}
 use Rattle.numbering.specs.declared.Side.{Side}
-use Rattle.numbering.specs.declared.Side.TheVariants.{Left, Right}
 use Rattle.numbering.specs.Count.{points, start}
 use Rattle.numbering.specs.Number.{position, first_of, number}
 use Rattle.numbering.specs.Inverse.{level_at, index_at}

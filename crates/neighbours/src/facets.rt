@@ -121,7 +121,13 @@ impl Facet {
         }
         let place = inner_before(&face.marks, line.place);
         let lower = lower_rim(line, face.marks);
-        let upper = lower + layouts::lower_to_upper(line.shape.level, line.place, line.place - place, face.inner - 1);
+        let upper = lower
+            + layouts::lower_to_upper(
+                line.shape.level,
+                line.place,
+                line.place - place,
+                face.inner - 1,
+            );
         Some(Facet {
             line,
             axes: face.inner,

@@ -20,7 +20,7 @@ use Rattle.shapes.specs.declared.Shape.{Shape}
 use Rattle.shapes.specs.Shapes.{check_shape}
 use Rattle.shapes.proofs.Checked.{InRange, passed_in_range}
 use Rattle.grids.proofs.Points.{PointOf}
-use Rattle.points.specs.Points.{fitting, check_lists, check_point, eight, bare_point, point_in}
+use Rattle.points.specs.Points.{fitting, check_lists, check_point, eight}
 use Rattle.points.specs.Steps.{PointIn}
 use Rattle.points.proofs.Eight.{eight_length, padded_at}
 use Rattle.points.proofs.PointTest.{is_point_lem, point_passes}

@@ -1,13 +1,11 @@
-use mathlib.Core.Path.{◌≡◌, ap, ap₂, sym, ◌∙◌}
+use mathlib.Core.Path.{ap₂, sym, ◌∙◌}
 use mathlib.Core.List.{List}
 use Prim.Native.Nat.{ℕ, ◌≤◌}
 use native.Mathlib.Numerals.{add-one}
 use native.Mathlib.Omega.{arith}
 use borrow.Author.Tests.{eq-eqb, ne_eqb}
 use lib.ListN.{length}
-use Rattle.std.specs.Prelude.{Ok}
-use Rattle.points.specs.Points.{check_lists, point_in}
-use Rattle.points.specs.declared.Point.{Point}
+use Rattle.points.specs.Points.{check_lists}
 use Rattle.points.proofs.Passed.{no_point, no_marks, all_tested}
 use Rattle.points.proofs.Tested.{level_fails, index_fails, walk_starts, walk_steps, mark_fails, walk_point, walk_fits, walk_value}
 use Rattle.points.proofs.read.Goals as goal

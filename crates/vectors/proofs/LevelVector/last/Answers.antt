@@ -1,7 +1,6 @@
 -- `LevelVector::last` meets its contract: its rank is one below the count of the sum's level vectors.
 -- Assumes nothing.
 use mathlib.Core.Path.{refl}
-use native.Mathlib.Omega.{arith}
 use Rattle.vectors.proofs.Preceding.{last_vector, last_rank_lem}
 use Rattle.vectors.proofs.LevelVector.last.Goals as goal
 

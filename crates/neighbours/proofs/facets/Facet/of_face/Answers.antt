@@ -115,9 +115,9 @@ overflow_add-upper c =
     let s = c.args.line.shape in
     let marks : (t : ℕ) → t < s.axes → update (at c.face-face.result.marks) c.args.line.place 2 t ≤ 2
     = λ t h.
-        eq_or_not t c.args.line.place
-        (λ e. rw e (omega (arith, update_same (at c.face-face.result.marks) c.args.line.place 2)))
-        (λ ne. omega (arith, update_other (at c.face-face.result.marks) c.args.line.place 2 t ne, low seen.After-face-face t))
+    eq_or_not t c.args.line.place
+    (λ e. rw e (omega (arith, update_same (at c.face-face.result.marks) c.args.line.place 2)))
+    (λ ne. omega (arith, update_other (at c.face-face.result.marks) c.args.line.place 2 t ne, low seen.After-face-face t))
     in
     record {
       fits = omega (
