@@ -17,8 +17,7 @@ pub use starts::Starts;
 
 impl Starts {
     // Cursor j of a sum at the place that lies j before the one `past` after it. (`past` is added and no flag; that the sum is one of the face's is asked by all
-    // three. In place: an array that is made and handed back for each sum is cleared and copied; and compiled into its callers: lent to a call, the cursors would be
-    // read anew after each write to the table.)
+    // three. In place: an array that is made and handed back for each sum is cleared and copied.)
     #[inline(always)]
     fn back_from(&self, sum: u32, past: u32, cursors: &mut [u64; 9])
         requires { (sum ≤ self.now.facet.line.shape.level) × (past ≤ 1) }

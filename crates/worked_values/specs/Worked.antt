@@ -32,6 +32,11 @@ abbrev pub AllHold : List Example → Type 0
 AllHold [] = Unit {0}
 AllHold (e ∷ es) = Holds e × AllHold es
 
+-- Of two axes with values on the border and one point inside: its rates lie on a square of three by three, and an eighth and three quarters of the way along the axes
+-- the surface is straight between four of them.
+abbrev pub nine_coefficients : List ℤ
+nine_coefficients = pos 21 ∷ negsuc 11 ∷ negsuc 5 ∷ negsuc 11 ∷ negsuc 25 ∷ pos 16 ∷ pos 32 ∷ pos 24 ∷ pos 36 ∷ []
+
 abbrev pub examples : List Example
 examples =
     count (sparse 1 0) 1
@@ -59,4 +64,6 @@ examples =
     ∷ estimate (with_border 1 1) (negsuc 3 ∷ pos 6 ∷ pos 2 ∷ pos 2 ∷ pos 18 ∷ []) (0 ∷ []) (pos 2)
     ∷ estimate (with_border 1 1) (negsuc 3 ∷ pos 6 ∷ pos 2 ∷ pos 2 ∷ pos 18 ∷ []) (131072 ∷ []) (pos 6)
     ∷ estimate (with_border 1 1) (negsuc 3 ∷ pos 6 ∷ pos 2 ∷ pos 2 ∷ pos 18 ∷ []) (1048576 ∷ []) (pos 18)
+    ∷ coefficients (with_border 2 0) (map pos (5 ∷ 2 ∷ 7 ∷ 3 ∷ 1 ∷ 4 ∷ 8 ∷ 6 ∷ 9 ∷ [])) nine_coefficients
+    ∷ estimate (with_border 2 0) nine_coefficients (131072 ∷ 786432 ∷ []) (pos 15)
     ∷ []
