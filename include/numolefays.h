@@ -69,7 +69,7 @@ enum numolefays_refusal {
     NUMOLEFAYS_STILL_SAMPLED = 17,   /* estimate while an axis is not forward; place: first such axis */
     NUMOLEFAYS_STILL_FORWARD = 18,   /* unload while an axis is forward; place: first such axis */
     /* because of the input */
-    NUMOLEFAYS_TOO_MANY_POINTS = 19  /* a component grid of more than 32,768 points */
+    NUMOLEFAYS_TOO_MANY_POINTS = 19  /* a shape or a component grid of more than 32,768 points */
 };
 
 /* ---- points [2] ---- */
@@ -82,14 +82,14 @@ enum numolefays_mark {
 };
 
 /*
- * How many points the shape has: N, at most 2,228,225; with border values at most 331,777 [3].
- * Refused: 1, 2.
+ * How many points the shape has: N, at most 32,768 [3]. A larger shape is refused by every call.
+ * Refused: 1, 2, 19.
  */
 uint32_t numolefays_count(uint32_t axes, uint32_t level, uint8_t border, uint64_t *points, uint64_t *place);
 
 /*
  * The number of a point, from 0 to N - 1 [4].
- * Refused: 1, 2, 7 (any of the lists), 9.
+ * Refused: 1, 2, 19, 7 (any of the lists), 9.
  */
 uint32_t numolefays_number_of_point(uint32_t axes, uint32_t level, uint8_t border, const uint32_t *marks,
                                     size_t marks_length, const uint32_t *levels, size_t levels_length,
@@ -98,7 +98,7 @@ uint32_t numolefays_number_of_point(uint32_t axes, uint32_t level, uint8_t borde
 
 /*
  * The point of a number [4].
- * Refused: 1, 2, 6.
+ * Refused: 1, 2, 19, 6.
  */
 uint32_t numolefays_point_of_number(uint32_t axes, uint32_t level, uint8_t border, uint64_t number,
                                     uint32_t marks[8], uint32_t levels[8], uint32_t indices[8], uint64_t *place);
@@ -106,7 +106,7 @@ uint32_t numolefays_point_of_number(uint32_t axes, uint32_t level, uint8_t borde
 /*
  * The successor of a point [5]: the point numbered one higher goes to the arrays, and `*end` gets 0. After the last
  * point `*end` gets 1 and the arrays hold what they held; this is no refusal.
- * Refused: 1, 2, 7 (any of the lists), 9.
+ * Refused: 1, 2, 19, 7 (any of the lists), 9.
  */
 uint32_t numolefays_successor(uint32_t axes, uint32_t level, uint8_t border, const uint32_t *marks,
                               size_t marks_length, const uint32_t *levels, size_t levels_length,
@@ -118,7 +118,7 @@ uint32_t numolefays_successor(uint32_t axes, uint32_t level, uint8_t border, con
  * parent goes to the arrays, and `*none` gets 0. Where there is none, `*none` gets 1 and the arrays hold what they
  * held; this is no refusal. Where the neighbour is the border, the parent is the point there if there are border
  * values, else there is none. A point on the border of this axis has none.
- * Refused: 1, 2, 5 (the axis given), 7 (any of the lists), 9.
+ * Refused: 1, 2, 19, 5 (the axis given), 7 (any of the lists), 9.
  */
 uint32_t numolefays_parent(uint32_t axes, uint32_t level, uint8_t border, const uint32_t *marks, size_t marks_length,
                            const uint32_t *levels, size_t levels_length, const uint32_t *indices,
@@ -131,7 +131,7 @@ uint32_t numolefays_parent(uint32_t axes, uint32_t level, uint8_t border, const 
 /*
  * Load [9]: a table of N rates, each from -2,147,483,648 to 2,147,483,647, becomes a loaded table, each rate
  * times 2^d. `*forward` gets 0: no axis is forward.
- * Refused: 1, 2, 3, 4 (the smallest point number with no rate).
+ * Refused: 1, 2, 19, 3, 4 (the smallest point number with no rate).
  */
 uint32_t numolefays_load(uint32_t axes, uint32_t level, uint8_t border, int64_t *table, size_t table_length,
                          uint8_t *forward, uint64_t *place);
@@ -140,7 +140,7 @@ uint32_t numolefays_load(uint32_t axes, uint32_t level, uint8_t border, int64_t 
  * Adopt [9]: a table of N coefficients, which is only read. `*forward` gets a bit for each axis: all are
  * forward. Any numbers within the content limit pass, also those of a table that was not turned on every axis:
  * only the byte of a state can tell.
- * Refused: 1, 2, 3, 10 (a value past 2^47 on either side of zero).
+ * Refused: 1, 2, 19, 3, 10 (a value past 2^47 on either side of zero).
  */
 uint32_t numolefays_adopt(uint32_t axes, uint32_t level, uint8_t border, const int64_t *table, size_t table_length,
                           uint8_t *forward, uint64_t *place);
@@ -149,7 +149,7 @@ uint32_t numolefays_adopt(uint32_t axes, uint32_t level, uint8_t border, const i
  * Forward on an axis [8]: each value becomes itself minus half the sum of its two parents' values, read as they
  * were before the turn; where there is no parent, 0 is read. With border values those of points on the border of
  * this axis stay. `*forward` gets the bit of the axis.
- * Refused: 1, 2, 14, 3, 5 (the axis given), 15 (the axis), 10 (an odd sum, or a value past 2^47 before or
+ * Refused: 1, 2, 14, 19, 3, 5 (the axis given), 15 (the axis), 10 (an odd sum, or a value past 2^47 before or
  * after).
  */
 uint32_t numolefays_forward(uint32_t axes, uint32_t level, uint8_t border, uint8_t *forward, int64_t *table,
@@ -158,28 +158,28 @@ uint32_t numolefays_forward(uint32_t axes, uint32_t level, uint8_t border, uint8
 /*
  * Back on an axis [8]: the table becomes the one that an accepted forward turn takes to the present one.
  * `*forward` loses the bit of the axis.
- * Refused: 1, 2, 14, 3, 5 (the axis given), 16 (the axis), 10 (there is no such table).
+ * Refused: 1, 2, 14, 19, 3, 5 (the axis given), 16 (the axis), 10 (there is no such table).
  */
 uint32_t numolefays_back(uint32_t axes, uint32_t level, uint8_t border, uint8_t *forward, int64_t *table,
                          size_t table_length, uint32_t axis, uint64_t *place);
 
 /*
  * Unload [9]: a table with no axis forward becomes rates, each value divided by 2^d.
- * Refused: 1, 2, 14, 3, 18 (the first forward axis), 10 (a value that is not 2^d times a rate).
+ * Refused: 1, 2, 14, 19, 3, 18 (the first forward axis), 10 (a value that is not 2^d times a rate).
  */
 uint32_t numolefays_unload(uint32_t axes, uint32_t level, uint8_t border, uint8_t forward, int64_t *table,
                            size_t table_length, uint64_t *place);
 
 /*
  * Rates to coefficients, whole [9]: a table of N rates is loaded and turned forward on every axis.
- * Refused: 1, 2, 3, 4 (the smallest point number with no rate). 10 cannot occur.
+ * Refused: 1, 2, 19, 3, 4 (the smallest point number with no rate). 10 cannot occur.
  */
 uint32_t numolefays_rates_to_coefficients(uint32_t axes, uint32_t level, uint8_t border, int64_t *table,
                                           size_t table_length, uint64_t *place);
 
 /*
  * Coefficients to rates, whole [9]: the table becomes the rates that have these coefficients.
- * Refused: 1, 2, 3, 10 (no rates have them).
+ * Refused: 1, 2, 19, 3, 10 (no rates have them).
  */
 uint32_t numolefays_coefficients_to_rates(uint32_t axes, uint32_t level, uint8_t border, int64_t *table,
                                           size_t table_length, uint64_t *place);
@@ -189,7 +189,7 @@ uint32_t numolefays_coefficients_to_rates(uint32_t axes, uint32_t level, uint8_t
  * numbers[i] and places[i] get the number and the place of that turn's refusal (5, 15 or 16, 10), and 0 and 0
  * where it was carried out. A refused turn leaves table and state, and the next is carried out. `*forward` gets
  * the state after the last turn. The rest of a list can be handed in later.
- * Refused: 1, 2, 14, 3, 7 (the four lists are not of one length). Refusals of the turns are no refusals of the
+ * Refused: 1, 2, 14, 19, 3, 7 (the four lists are not of one length). Refusals of the turns are no refusals of the
  * run.
  */
 uint32_t numolefays_run(uint32_t axes, uint32_t level, uint8_t border, uint8_t *forward, int64_t *table,
@@ -208,7 +208,7 @@ uint32_t numolefays_run(uint32_t axes, uint32_t level, uint8_t border, uint8_t *
  * away from zero; the joint weights before it are rounded down. With X the coordinate of an axis, a point on the
  * lower border of it weighs 1,048,576 - X on it, and one on the upper border X.
  * The table is only read, and every axis must be forward.
- * Refused: 1, 2, 14, 3, 17 (the first axis that is not forward), 7, 8 (the first axis with such a coordinate),
+ * Refused: 1, 2, 14, 19, 3, 17 (the first axis that is not forward), 7, 8 (the first axis with such a coordinate),
  * 10 (a value past 2^47).
  */
 uint32_t numolefays_estimate(uint32_t axes, uint32_t level, uint8_t border, uint8_t forward, const int64_t *table,
@@ -220,7 +220,7 @@ uint32_t numolefays_estimate(uint32_t axes, uint32_t level, uint8_t border, uint
  * most *margin, in the same unit. *absolute_sum is S, the sum of the absolute coefficients of the points whose
  * weight there is above zero on each axis; *margin is 1/2 plus d - 1 times S over 1,048,576, rounded up. It says
  * nothing of how far the surface is from the truth between the samples.
- * Refused: 1, 2, 14, 3, 17, 7, 8, 10, as the estimate alone.
+ * Refused: 1, 2, 14, 19, 3, 17, 7, 8, 10, as the estimate alone.
  */
 uint32_t numolefays_estimate_with_margin(uint32_t axes, uint32_t level, uint8_t border, uint8_t forward,
                                          const int64_t *table, size_t table_length, const uint32_t *coordinates,
@@ -247,7 +247,7 @@ uint32_t numolefays_component_coefficients(const uint32_t *levels, size_t levels
 /*
  * A house file's N rates into the first N places of the table; the places after them hold what they held.
  * `*axes` and `*level` get the file's shape. To load it, hand in the first N places, and `border` 0.
- * Refused: 11 or 12 for d, 11 or 12 for n, 1, 2, 3 (fewer than N places), 11 or 12 for each rate, 13.
+ * Refused: 11 or 12 for d, 11 or 12 for n, 1, 2, 19, 3 (fewer than N places), 11 or 12 for each rate, 13.
  */
 uint32_t numolefays_read_house_file(const uint8_t *bytes, size_t bytes_length, int64_t *table,
                                     size_t table_length, uint32_t *axes, uint32_t *level, uint64_t *place);
@@ -255,7 +255,7 @@ uint32_t numolefays_read_house_file(const uint8_t *bytes, size_t bytes_length, i
 /*
  * The shape of a house file and its N, from the first two numbers alone: how long a table to lend to the reader.
  * Whether N rates come after them is for the reader to say.
- * Refused: 11 or 12 for d, 11 or 12 for n, 1, 2.
+ * Refused: 11 or 12 for d, 11 or 12 for n, 1, 2, 19.
  */
 uint32_t numolefays_house_file_shape(const uint8_t *bytes, size_t bytes_length, uint32_t *axes, uint32_t *level,
                                      uint64_t *points, uint64_t *place);
@@ -264,7 +264,7 @@ uint32_t numolefays_house_file_shape(const uint8_t *bytes, size_t bytes_length, 
  * The house file of a shape and its N rates, each number in its fewest groups: equal tables, equal files. The
  * rates are only read. `*length` gets the file's length, at most 2 + 5 N; the file goes to the first `*length`
  * bytes of the output buffer, and the bytes after them hold what they held.
- * Refused: 1, 2, 3 (not exactly N rates), 4 (the smallest point number with no rate), 3 (output buffer shorter
+ * Refused: 1, 2, 19, 3 (not exactly N rates), 4 (the smallest point number with no rate), 3 (output buffer shorter
  * than the file).
  */
 uint32_t numolefays_write_house_file(uint32_t axes, uint32_t level, const int64_t *rates, size_t rates_length,
@@ -273,10 +273,10 @@ uint32_t numolefays_write_house_file(uint32_t axes, uint32_t level, const int64_
 /*
  * A house file read and written again, without a table: the one form of all files of that shape and these rates.
  * It is never longer than the file, and rewriting it changes no byte; but the two buffers must not overlap [15].
- * A file of more than most_points points is refused as by a reader with that many places; 2,228,225 is no limit.
+ * A file of more than most_points points is refused as by a reader with that many places; 32,768 is no limit.
  * `*length` gets the form's length; the form goes to the first `*length` bytes of the output buffer, and the bytes
  * after them hold what they held.
- * Refused: 11 or 12 for d, 11 or 12 for n, 1, 2, 3 (N above most_points), 11 or 12 for each rate, 13, 3 (output
+ * Refused: 11 or 12 for d, 11 or 12 for n, 1, 2, 19, 3 (N above most_points), 11 or 12 for each rate, 13, 3 (output
  * buffer shorter than the form).
  */
 uint32_t numolefays_rewrite_house_file(const uint8_t *bytes, size_t bytes_length, size_t most_points,

@@ -15,7 +15,7 @@ mod table;
 mod timing;
 mod turns;
 
-const SHAPES: [(u32, u32); 4] = [(8, 5), (8, 8), (2, 8), (4, 7)];
+const SHAPES: [(u32, u32); 5] = [(8, 5), (7, 5), (5, 6), (4, 7), (2, 8)];
 
 /// Prints one table, over these shapes if it is about shapes, with so many seconds for a contestant and a row.
 type Print = fn(&[(u32, u32)], f64);

@@ -19,13 +19,15 @@ static void must(uint32_t number)
     }
 }
 
-/* N of every shape of one sort, of 1 to `most` axes. */
+/* N of every shape of one sort, of 1 to `most` axes, or 0 where it is refused with 19. */
 static void counts(const char *word, uint8_t border, uint32_t most)
 {
     for (uint32_t d = 1; d <= most; d++)
         for (uint32_t n = 0; n <= 8; n++) {
-            uint64_t points, place;
-            must(numolefays_count(d, n, border, &points, &place));
+            uint64_t points = 0, place;
+            uint32_t number = numolefays_count(d, n, border, &points, &place);
+            if (number != NUMOLEFAYS_TOO_MANY_POINTS)
+                must(number);
             printf("%s %u %u %" PRIu64 "\n", word, (unsigned)d, (unsigned)n, points);
         }
 }

@@ -225,12 +225,12 @@ mod raw {
     }
 }
 
-/// How many points the shape has. Section 3. Refused with 1, 2.
+/// How many points the shape has. Section 3. Refused with 1, 2, 19.
 pub fn count(axes: u32, level: u32, border: u8, points: &mut u64, place: &mut u64) -> u32 {
     unsafe { raw::numolefays_count(axes, level, border, points, place) }
 }
 
-/// The number of a point. Section 4. Refused with 1, 2, 7, 9.
+/// The number of a point. Section 4. Refused with 1, 2, 19, 7, 9.
 pub fn number_of_point(
     axes: u32,
     level: u32,
@@ -258,7 +258,7 @@ pub fn number_of_point(
     }
 }
 
-/// The point of a number. Section 4. Refused with 1, 2, 6.
+/// The point of a number. Section 4. Refused with 1, 2, 19, 6.
 pub fn point_of_number(
     axes: u32,
     level: u32,
@@ -273,7 +273,7 @@ pub fn point_of_number(
 }
 
 /// The point numbered one higher; `end` is 1 after the last, and the arrays then hold what they held. Section 5.
-/// Refused with 1, 2, 7, 9.
+/// Refused with 1, 2, 19, 7, 9.
 pub fn successor(
     axes: u32,
     level: u32,
@@ -308,7 +308,7 @@ pub fn successor(
 }
 
 /// The parent on an axis: side 0 is left, every other number right; `none` is 1 where there is no such point, and the arrays
-/// then hold what they held. Section 6. Refused with 1, 2, 5, 7, 9.
+/// then hold what they held. Section 6. Refused with 1, 2, 19, 5, 7, 9.
 pub fn parent(
     axes: u32,
     level: u32,
@@ -346,17 +346,17 @@ pub fn parent(
     }
 }
 
-/// Rates to a loaded table. Section 9. Refused with 1, 2, 3, 4.
+/// Rates to a loaded table. Section 9. Refused with 1, 2, 19, 3, 4.
 pub fn load(axes: u32, level: u32, border: u8, table: &mut [i64], forward: &mut u8, place: &mut u64) -> u32 {
     unsafe { raw::numolefays_load(axes, level, border, table.as_mut_ptr(), table.len(), forward, place) }
 }
 
-/// Coefficients as they are. Section 9. Refused with 1, 2, 3, 10.
+/// Coefficients as they are. Section 9. Refused with 1, 2, 19, 3, 10.
 pub fn adopt(axes: u32, level: u32, border: u8, table: &[i64], forward: &mut u8, place: &mut u64) -> u32 {
     unsafe { raw::numolefays_adopt(axes, level, border, table.as_ptr(), table.len(), forward, place) }
 }
 
-/// Forward on one axis. Section 8. Refused with 1, 2, 14, 3, 5, 15, 10.
+/// Forward on one axis. Section 8. Refused with 1, 2, 14, 19, 3, 5, 15, 10.
 pub fn forward(
     axes: u32,
     level: u32,
@@ -369,28 +369,28 @@ pub fn forward(
     unsafe { raw::numolefays_forward(axes, level, border, forward, table.as_mut_ptr(), table.len(), axis, place) }
 }
 
-/// Back on one axis. Section 8. Refused with 1, 2, 14, 3, 5, 16, 10.
+/// Back on one axis. Section 8. Refused with 1, 2, 14, 19, 3, 5, 16, 10.
 pub fn back(axes: u32, level: u32, border: u8, forward: &mut u8, table: &mut [i64], axis: u32, place: &mut u64) -> u32 {
     unsafe { raw::numolefays_back(axes, level, border, forward, table.as_mut_ptr(), table.len(), axis, place) }
 }
 
-/// A loaded table to rates. Section 9. Refused with 1, 2, 14, 3, 18, 10.
+/// A loaded table to rates. Section 9. Refused with 1, 2, 14, 19, 3, 18, 10.
 pub fn unload(axes: u32, level: u32, border: u8, forward: u8, table: &mut [i64], place: &mut u64) -> u32 {
     unsafe { raw::numolefays_unload(axes, level, border, forward, table.as_mut_ptr(), table.len(), place) }
 }
 
-/// Rates to coefficients, whole. Section 9. Refused with 1, 2, 3, 4.
+/// Rates to coefficients, whole. Section 9. Refused with 1, 2, 19, 3, 4.
 pub fn rates_to_coefficients(axes: u32, level: u32, border: u8, table: &mut [i64], place: &mut u64) -> u32 {
     unsafe { raw::numolefays_rates_to_coefficients(axes, level, border, table.as_mut_ptr(), table.len(), place) }
 }
 
-/// Coefficients to rates, whole. Section 9. Refused with 1, 2, 3, 10.
+/// Coefficients to rates, whole. Section 9. Refused with 1, 2, 19, 3, 10.
 pub fn coefficients_to_rates(axes: u32, level: u32, border: u8, table: &mut [i64], place: &mut u64) -> u32 {
     unsafe { raw::numolefays_coefficients_to_rates(axes, level, border, table.as_mut_ptr(), table.len(), place) }
 }
 
 /// A list of turns: direction 0 is forward, any other is back; `numbers` and `places` get each turn's refusal, 0 and 0 where
-/// it was carried out. Section 10. Refused with 1, 2, 14, 3, and with 7 where the four lists are not of one length.
+/// it was carried out. Section 10. Refused with 1, 2, 14, 19, 3, and with 7 where the four lists are not of one length.
 pub fn run(
     axes: u32,
     level: u32,
@@ -424,7 +424,7 @@ pub fn run(
     }
 }
 
-/// The surface at these coordinates. Section 11. Refused with 1, 2, 14, 3, 17, 7, 8, 10.
+/// The surface at these coordinates. Section 11. Refused with 1, 2, 14, 19, 3, 17, 7, 8, 10.
 pub fn estimate(
     axes: u32,
     level: u32,
@@ -452,7 +452,7 @@ pub fn estimate(
 }
 
 /// The same estimate, with S and the margin, rounded up to a whole number. Section 11.
-/// Refused with 1, 2, 14, 3, 17, 7, 8, 10.
+/// Refused with 1, 2, 14, 19, 3, 17, 7, 8, 10.
 pub fn estimate_with_margin(
     axes: u32,
     level: u32,
@@ -491,7 +491,7 @@ pub fn component_coefficients(levels: &[u32], table: &mut [i64], place: &mut u64
     }
 }
 
-/// A house file's rates into the first places of the table. Section 12. Refused with 11 or 12 for d and for n, 1, 2, 3,
+/// A house file's rates into the first places of the table. Section 12. Refused with 11 or 12 for d and for n, 1, 2, 19, 3,
 /// 11 or 12 for each rate, 13.
 pub fn read_house_file(bytes: &[u8], table: &mut [i64], axes: &mut u32, level: &mut u32, place: &mut u64) -> u32 {
     unsafe {
@@ -508,13 +508,13 @@ pub fn read_house_file(bytes: &[u8], table: &mut [i64], axes: &mut u32, level: &
 }
 
 /// The shape of a house file and its number of points, from the first two numbers alone. Section 16. Refused with 11 or 12
-/// for d and for n, 1, 2.
+/// for d and for n, 1, 2, 19.
 pub fn house_file_shape(bytes: &[u8], axes: &mut u32, level: &mut u32, points: &mut u64, place: &mut u64) -> u32 {
     unsafe { raw::numolefays_house_file_shape(bytes.as_ptr(), bytes.len(), axes, level, points, place) }
 }
 
 /// The house file of a shape and its rates into the first bytes of `out`; `length` is how many they are. Section 16. Refused
-/// with 1, 2, 3, 4, and with 3 where `out` is shorter than the file.
+/// with 1, 2, 19, 3, 4, and with 3 where `out` is shorter than the file.
 pub fn write_house_file(
     axes: u32,
     level: u32,
@@ -538,7 +538,7 @@ pub fn write_house_file(
 }
 
 /// The one form of a house file of at most `most_points` points into the first bytes of `out`; `length` is how many they are.
-/// Section 16. Refused with 11 or 12 for d and for n, 1, 2, 3, 11 or 12 for each rate, 13, and with 3 where `out` is shorter
+/// Section 16. Refused with 11 or 12 for d and for n, 1, 2, 19, 3, 11 or 12 for each rate, 13, and with 3 where `out` is shorter
 /// than the form.
 pub fn rewrite_house_file(bytes: &[u8], most_points: usize, out: &mut [u8], length: &mut u64, place: &mut u64) -> u32 {
     unsafe {

@@ -5,7 +5,7 @@ use crate::{boundary, Refusal, Shape};
 /// Reads a house file: its N rates become the first N places of the table, in point order, and the others stay.
 /// docs/MANUAL.md, section 12. The shape answered has a zero border.
 ///
-/// Refused, number by number, with 11 or 12; with 1, 2 and 3 (fewer than N places) once both numbers of the shape are read;
+/// Refused, number by number, with 11 or 12; with 1, 2, 19 and 3 (fewer than N places) once both numbers of the shape are read;
 /// with 13 last. The table is then as it was.
 pub fn read_house_file(bytes: &[u8], table: &mut [i64]) -> Result<Shape, Refusal> {
     let (mut axes, mut level, mut place) = (0, 0, 0);
@@ -16,7 +16,7 @@ pub fn read_house_file(bytes: &[u8], table: &mut [i64]) -> Result<Shape, Refusal
 /// The shape of a house file, from its first two numbers alone: [`Shape::points`] of it is how long a table to lend to
 /// [`read_house_file`]. Section 16. Whether so many rates come after them is for the reader to say.
 ///
-/// Refused with 11 or 12 for either number, then 1, 2.
+/// Refused with 11 or 12 for either number, then 1, 2, 19.
 pub fn house_file_shape(bytes: &[u8]) -> Result<Shape, Refusal> {
     let (mut axes, mut level, mut points, mut place) = (0, 0, 0, 0);
     let number = boundary::house_file_shape(bytes, &mut axes, &mut level, &mut points, &mut place);
@@ -27,7 +27,7 @@ pub fn house_file_shape(bytes: &[u8]) -> Result<Shape, Refusal> {
 /// and answers its length; the other bytes stay. Each number is in its fewest groups, so equal tables are equal files.
 /// Section 16. There is no house file of a table with border values: such a table has more places, and is refused with 3.
 ///
-/// Refused with 1, 2, 3 (not exactly N rates), 4, and last with 3 where `out` is shorter than the file; `out` is then as it
+/// Refused with 1, 2, 19, 3 (not exactly N rates), 4, and last with 3 where `out` is shorter than the file; `out` is then as it
 /// was.
 pub fn write_house_file(axes: u32, level: u32, rates: &[i64], out: &mut [u8]) -> Result<usize, Refusal> {
     let (mut length, mut place) = (0, 0);
@@ -35,7 +35,7 @@ pub fn write_house_file(axes: u32, level: u32, rates: &[i64], out: &mut [u8]) ->
     Refusal::checked(number, place).map(|()| length as usize)
 }
 
-/// The same into a new vector. Refused with 1, 2, 3 (not exactly N rates), 4.
+/// The same into a new vector. Refused with 1, 2, 19, 3 (not exactly N rates), 4.
 ///
 /// ```
 /// use numolefays::{house_file, house_file_shape, read_house_file, Shape};

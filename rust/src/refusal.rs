@@ -45,7 +45,7 @@ pub enum Refusal {
     StillSampled(u32),
     /// 18: unload while an axis is forward; the first such axis.
     StillForward(u32),
-    /// 19: the component grid has more than 32,768 points.
+    /// 19: the shape or the component grid has more than 32,768 points.
     TooManyPoints,
     /// A number that this crate does not know, from an archive that is newer than it.
     Unknown {
@@ -163,7 +163,7 @@ impl fmt::Display for Refusal {
             Refusal::NotForward(axis) => write!(f, "axis {axis} is not forward"),
             Refusal::StillSampled(axis) => write!(f, "axis {axis} is not forward yet"),
             Refusal::StillForward(axis) => write!(f, "axis {axis} is still forward"),
-            Refusal::TooManyPoints => write!(f, "the component grid has more than 32768 points"),
+            Refusal::TooManyPoints => write!(f, "the shape or the component grid has more than 32768 points"),
             Refusal::Unknown { place, .. } => write!(f, "a refusal that this crate does not know, place {place}"),
         }
     }

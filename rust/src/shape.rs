@@ -3,7 +3,8 @@
 use crate::{boundary, Point, Refusal, Side, State};
 
 /// A number of axes, 1 to 8, a top level, 0 to 8, and whether its tables have values on the border; with them there are 1 to
-/// 4 axes. Any two numbers make a `Shape` of either sort; each call refuses the ones that are none, with 1 or 2.
+/// 4 axes. Any two numbers make a `Shape` of either sort; each call refuses the ones that are none, with 1 or 2,
+/// and those of more than 32,768 points, with 19.
 /// docs/MANUAL.md, section 1.
 ///
 /// ```
@@ -43,7 +44,7 @@ impl Shape {
         Shape { axes, level, border: true }
     }
 
-    /// How many points a table of this shape has, N. Section 3. Refused with 1, 2.
+    /// How many points a table of this shape has, N. Section 3. Refused with 1, 2, 19.
     pub fn points(self) -> Result<u64, Refusal> {
         let (mut points, mut place) = (0, 0);
         let number = boundary::count(self.axes, self.level, self.border.into(), &mut points, &mut place);
@@ -51,7 +52,7 @@ impl Shape {
     }
 
     /// The number of the point with these marks, levels and indices, one each for every axis. Section 4. Refused with 1, 2,
-    /// 7, 9.
+    /// 19, 7, 9.
     pub fn number_of(self, marks: &[u32], levels: &[u32], indices: &[u32]) -> Result<u64, Refusal> {
         let (mut found, mut place) = (0, 0);
         let number = boundary::number_of_point(
@@ -67,7 +68,7 @@ impl Shape {
         Refusal::checked(number, place).map(|()| found)
     }
 
-    /// The point of a number, 0 to N − 1. Section 4. Refused with 1, 2, 6.
+    /// The point of a number, 0 to N − 1. Section 4. Refused with 1, 2, 19, 6.
     pub fn point(self, number: u64) -> Result<Point, Refusal> {
         let mut point = Point::blank(self.axes);
         let mut place = 0;
@@ -84,7 +85,7 @@ impl Shape {
         Refusal::checked(refused, place).map(|()| point)
     }
 
-    /// The point numbered one higher, or `None` after the last. Section 5. Refused with 1, 2, 7, 9.
+    /// The point numbered one higher, or `None` after the last. Section 5. Refused with 1, 2, 19, 7, 9.
     pub fn successor(self, marks: &[u32], levels: &[u32], indices: &[u32]) -> Result<Option<Point>, Refusal> {
         let mut next = Point::blank(self.axes);
         let (mut end, mut place) = (0, 0);
@@ -105,7 +106,7 @@ impl Shape {
     }
 
     /// The parent of a point on an axis. Where the neighbour on that side is the border, it is the point there if the shape has
-    /// values on the border, else `None`. A point on the border of the axis has none. Section 6. Refused with 1, 2, 5, 7, 9.
+    /// values on the border, else `None`. A point on the border of the axis has none. Section 6. Refused with 1, 2, 19, 5, 7, 9.
     pub fn parent(
         self,
         marks: &[u32],
@@ -134,7 +135,7 @@ impl Shape {
         Refusal::checked(number, place).map(|()| if none == 0 { Some(parent) } else { None })
     }
 
-    /// Rates become a loaded table, each rate times 2^d; no axis is forward. Section 9. Refused with 1, 2, 3, 4.
+    /// Rates become a loaded table, each rate times 2^d; no axis is forward. Section 9. Refused with 1, 2, 19, 3, 4.
     pub fn load(self, table: &mut [i64]) -> Result<State, Refusal> {
         let (mut forward, mut place) = (0, 0);
         let number = boundary::load(self.axes, self.level, self.border.into(), table, &mut forward, &mut place);
@@ -142,21 +143,21 @@ impl Shape {
     }
 
     /// Takes a table of coefficients as it is; all axes are forward. Any numbers within the content limit pass: hand in
-    /// coefficients only, and keep the state beside a table that is turned on some axes. Section 9. Refused with 1, 2, 3, 10.
+    /// coefficients only, and keep the state beside a table that is turned on some axes. Section 9. Refused with 1, 2, 19, 3, 10.
     pub fn adopt(self, table: &[i64]) -> Result<State, Refusal> {
         let (mut forward, mut place) = (0, 0);
         let number = boundary::adopt(self.axes, self.level, self.border.into(), table, &mut forward, &mut place);
         Refusal::checked(number, place).map(|()| State { shape: self, bits: forward })
     }
 
-    /// Rates become their coefficients, whole. Section 9. Refused with 1, 2, 3, 4.
+    /// Rates become their coefficients, whole. Section 9. Refused with 1, 2, 19, 3, 4.
     pub fn rates_to_coefficients(self, table: &mut [i64]) -> Result<(), Refusal> {
         let mut place = 0;
         let number = boundary::rates_to_coefficients(self.axes, self.level, self.border.into(), table, &mut place);
         Refusal::checked(number, place)
     }
 
-    /// Coefficients become the rates that have them, whole. Section 9. Refused with 1, 2, 3, 10.
+    /// Coefficients become the rates that have them, whole. Section 9. Refused with 1, 2, 19, 3, 10.
     pub fn coefficients_to_rates(self, table: &mut [i64]) -> Result<(), Refusal> {
         let mut place = 0;
         let number = boundary::coefficients_to_rates(self.axes, self.level, self.border.into(), table, &mut place);

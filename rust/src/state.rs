@@ -28,7 +28,7 @@ impl State {
 
     /// Forward on one axis: each value becomes itself minus half the sum of its two parents' values, 0 where there is no
     /// parent. Points on the border of the axis keep their values. Section 8.
-    /// Refused with 1, 2, 14, 3, 5, 15, 10.
+    /// Refused with 1, 2, 14, 19, 3, 5, 15, 10.
     pub fn forward(&mut self, table: &mut [i64], axis: u32) -> Result<(), Refusal> {
         let mut place = 0;
         let number = boundary::forward(
@@ -44,7 +44,7 @@ impl State {
     }
 
     /// Back on one axis: the table becomes the one that a forward turn takes to the present one. Section 8.
-    /// Refused with 1, 2, 14, 3, 5, 16, 10.
+    /// Refused with 1, 2, 14, 19, 3, 5, 16, 10.
     pub fn back(&mut self, table: &mut [i64], axis: u32) -> Result<(), Refusal> {
         let mut place = 0;
         let number = boundary::back(
@@ -70,7 +70,7 @@ impl State {
     /// A list of turns, one after the other: what each of them answered. A refused turn does not end the run.
     /// Section 10.
     ///
-    /// The rest of a list may be handed in later, with the table and this state. Refused with 1, 2, 14, 3.
+    /// The rest of a list may be handed in later, with the table and this state. Refused with 1, 2, 14, 19, 3.
     pub fn run(&mut self, table: &mut [i64], turns: &[Turn]) -> Result<Vec<Result<(), Refusal>>, Refusal> {
         let directions: Vec<u8> = turns.iter().map(|t| t.direction()).collect();
         let axes: Vec<u32> = turns.iter().map(|t| t.axis()).collect();
@@ -81,7 +81,7 @@ impl State {
     }
 
     /// The same with lent lists and without allocation: direction 0 is forward and every other back; `numbers` and `places`
-    /// get each turn's refusal, 0 and 0 where it was carried out. Section 10. Refused with 1, 2, 14, 3, and with 7 where
+    /// get each turn's refusal, 0 and 0 where it was carried out. Section 10. Refused with 1, 2, 14, 19, 3, and with 7 where
     /// the four lists differ in length.
     pub fn run_lists(
         &mut self,
@@ -108,7 +108,7 @@ impl State {
     }
 
     /// A table with no axis forward becomes rates, each value divided by 2^d; there is no state afterwards. Section 9.
-    /// Refused with 1, 2, 14, 3, 18, 10.
+    /// Refused with 1, 2, 14, 19, 3, 18, 10.
     pub fn unload(self, table: &mut [i64]) -> Result<(), Refusal> {
         let mut place = 0;
         let number =
@@ -119,7 +119,7 @@ impl State {
     /// The estimate at these coordinates, one for each axis, each from 0 to 1,048,576 ([`UNIT`](crate::UNIT)), in units of
     /// 1/2^d of a rate; from a table that is forward on every axis. Its last division is to the nearest whole number, halves
     /// away from zero; the joint weights before it are rounded down.
-    /// Section 11. Refused with 1, 2, 14, 3, 17, 7, 8, 10.
+    /// Section 11. Refused with 1, 2, 14, 19, 3, 17, 7, 8, 10.
     pub fn estimate(self, table: &[i64], coordinates: &[u32]) -> Result<i64, Refusal> {
         let (mut estimate, mut place) = (0, 0);
         let number = boundary::estimate(
@@ -136,7 +136,7 @@ impl State {
     }
 
     /// The same estimate, and how far rounding can have moved it from the surface's exact value. Section 11. Refused with 1, 2,
-    /// 14, 3, 17, 7, 8, 10.
+    /// 14, 19, 3, 17, 7, 8, 10.
     pub fn estimate_with_margin(self, table: &[i64], coordinates: &[u32]) -> Result<Estimated, Refusal> {
         let mut place = 0;
         let mut answer = Estimated { estimate: 0, absolute_sum: 0, margin: 0 };

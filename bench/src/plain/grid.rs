@@ -82,12 +82,37 @@ pub fn vectors(axes: usize, level: u32) -> Vec<Levels> {
     all
 }
 
-/// Refusal 1 or 2, else nothing.
+/// The most points of a table.
+pub const MOST_POINTS: u64 = 32_768;
+
+/// `TOPS[d]`: the largest top level of d axes with so many points.
+const TOPS: [u32; 9] = tops();
+
+const fn tops() -> [u32; 9] {
+    let mut all = [0; 9];
+    let mut axes = 1;
+    while axes <= 8 {
+        let (mut points, mut level) = (1, 0);
+        while level < 8 {
+            level += 1;
+            points += BINOMIAL[axes - 1 + level][level] << level;
+            if points <= MOST_POINTS {
+                all[axes] = level as u32;
+            }
+        }
+        axes += 1;
+    }
+    all
+}
+
+/// Refusal 1, 2 or 19, else nothing.
 pub fn check_shape(axes: u32, level: u32) -> Option<u32> {
     if axes == 0 || axes > 8 {
         Some(1)
     } else if level > 8 {
         Some(2)
+    } else if level > TOPS[axes as usize] {
+        Some(19)
     } else {
         None
     }

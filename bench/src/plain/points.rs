@@ -10,7 +10,7 @@ pub struct Point {
     pub indices: Levels,
 }
 
-/// Refusal 1 or 2 of the shape, 7 or 9 of a point that was handed in as three lists; all marks must be 0.
+/// Refusal 1, 2 or 19 of the shape, 7 or 9 of a point that was handed in as three lists; all marks must be 0.
 fn check_point(axes: u32, level: u32, marks: &[u32], levels: &[u32], indices: &[u32]) -> Option<u32> {
     check_shape(axes, level).or_else(|| check_lists(axes, level, marks, levels, indices))
 }

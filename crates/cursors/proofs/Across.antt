@@ -149,13 +149,6 @@ module _ (starts : Starts) (v : Subspace) (same : starts.facet ≡ v.facet) {cur
         ap (λ (p : ℕ). 2 ^ v.vector.sum * p) (passed_at_zero v.facet.axes v.facet.place v.vector.sum (before v)),
       ))
 
-  pub at_cursor : (j : ℕ) → 1 ≤ j → j ≤ v.vector.sum →
-      (at starts.places (v.vector.sum - j) ≤ at cursors j) × (at cursors j - at starts.places (v.vector.sum - j) ≡ count v j)
-  at_cursor j some le =
-      let here = held.first j some le in
-      let first = place_of (v.vector.sum - j) (omega arith) in
-      (omega (arith, here, first), omega (arith, here, first))
-
 pub past_list : (v : Subspace) (j : ℕ) → v.vector.sum < j → 0 ≡ count v j
 past_list v j over =
     sym

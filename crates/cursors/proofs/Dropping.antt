@@ -11,7 +11,7 @@ use Rattle.std.specs.Prelude.{if◌then◌else◌}
 use borrow.Author.Tests.{lt-ltb, le-ltb, le-leb, lt-leb, eq-eqb, ne_eqb}
 use Rattle.naturals.specs.Sum.{sum_to}
 use Rattle.naturals.proofs.Cases.{le_or_lt, eq_or_not}
-use Rattle.naturals.proofs.Sums.{sum_to_zero, sum_to_suc, term_le}
+use Rattle.naturals.proofs.Sums.{sum_to_zero, sum_to_suc, sum_to_cong, term_le}
 use Rattle.numbering.specs.Count.{vectors}
 use Rattle.numbering.specs.Number.{ending, rank}
 use Rattle.numbering.specs.Inverse.{level_of}
@@ -21,6 +21,7 @@ use Rattle.numbering.proofs.Unrank.{level_of_rank, sum_of_level, rank_of_level, 
 use Rattle.neighbours.specs.Facets.{without}
 use Rattle.neighbours.proofs.Without.{without_low, without_high, sum_after}
 use Rattle.cursors.specs.Steps.{reaches, passed}
+use Rattle.cursors.proofs.Lowering.{level_is}
 use Rattle.cursors.proofs.Marks.{Marks, marks_before}
 
 -- ---- a level put in
@@ -64,11 +65,7 @@ module _ (j k : ℕ) where
 
   sum_put : (l : ℕ → ℕ) (c : ℕ) → j ≤ c → sum_to (put_in j k l) (suc c) ≡ sum_to l c + k
   sum_put l c there =
-      omega (arith, sum_after j (put_in j k l) c there, sum_same (without j (put_in j k l)) l (left_out l) c, put_there l)
-    where
-      sum_same : (f g : ℕ → ℕ) → ((u : ℕ) → f u ≡ g u) → (m : ℕ) → sum_to f m ≡ sum_to g m
-      sum_same f g same zero = sum_to_zero f ∙ sym (sum_to_zero g)
-      sum_same f g same (suc m) = omega (arith, sum_to_suc f m, sum_to_suc g m, same m, sum_same f g same m)
+      omega (arith, sum_after j (put_in j k l) c there, sum_to_cong (without j (put_in j k l)) l c (λ u h. left_out l u), put_there l)
 
 -- A level vector left out of and put in again.
 put_back : (j : ℕ) (l : ℕ → ℕ) (u : ℕ) → put_in j (l j) (without j l) u ≡ l u
@@ -141,16 +138,13 @@ exactly : ℕ → ℕ → ℕ → ℕ → ℕ → ℕ
 exactly d t s k r = if eqb k (level_of d s r t) then 1 else 0
 
 module _ (l : ℕ → ℕ) (d t s k : ℕ) (axis : t < d) (sum : sum_to l d ≡ s) where
-  level_is : level_of d s (rank l d) t ≡ l t
-  level_is = ap (λ (s : ℕ). level_of d s (rank l d) t) (sym sum) ∙ level_of_rank l d t axis
-
   is_exact : k ≡ l t → exactly d t s k (rank l d) ≡ 1
   unfolding exactly
-  is_exact e = rw (eq-eqb k (level_of d s (rank l d) t) (e ∙ sym level_is))
+  is_exact e = rw (eq-eqb k (level_of d s (rank l d) t) (e ∙ sym (level_is l d t s axis sum)))
 
   not_exact : (k ≡ l t → ⊥) → exactly d t s k (rank l d) ≡ 0
   unfolding exactly
-  not_exact ne = rw (ne_eqb k (level_of d s (rank l d) t) (λ e. ne (e ∙ level_is)))
+  not_exact ne = rw (ne_eqb k (level_of d s (rank l d) t) (λ e. ne (e ∙ level_is l d t s axis sum)))
 
 module _ (c j s k : ℕ) (there : j ≤ c) (low : k ≤ s) where
   -- From the rank of a level vector of one axis less to that of the one with k put in.

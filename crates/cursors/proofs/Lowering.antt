@@ -61,18 +61,19 @@ sum_of_zeros : (k : ℕ) → sum_to (λ u. 0) k ≡ 0
 sum_of_zeros zero = sum_to_zero (λ u. 0)
 sum_of_zeros (suc k) = omega (arith, sum_to_suc (λ u. 0) k, sum_of_zeros k)
 
--- Whether a level vector has a level of at least j on the axis, as its rank tells.
-module _ (l : ℕ → ℕ) (d t s j : ℕ) (axis : t < d) (sum : sum_to l d ≡ s) where
-  level_is : level_of d s (rank l d) t ≡ l t
-  level_is = ap (λ (s : ℕ). level_of d s (rank l d) t) (sym sum) ∙ level_of_rank l d t axis
+-- The level of a level vector on an axis, from its rank.
+pub level_is : (l : ℕ → ℕ) (d t s : ℕ) → t < d → sum_to l d ≡ s → level_of d s (rank l d) t ≡ l t
+level_is l d t s axis sum = ap (λ (s : ℕ). level_of d s (rank l d) t) (sym sum) ∙ level_of_rank l d t axis
 
+-- Whether it is at least j.
+module _ (l : ℕ → ℕ) (d t s j : ℕ) (axis : t < d) (sum : sum_to l d ≡ s) where
   pub does_reach : j ≤ l t → reaches d t s j (rank l d) ≡ 1
   unfolding reaches
-  does_reach h = rw (le-leb j (level_of d s (rank l d) t) (omega (arith, level_is)))
+  does_reach h = rw (le-leb j (level_of d s (rank l d) t) (omega (arith, level_is l d t s axis sum)))
 
   pub does_not_reach : l t < j → reaches d t s j (rank l d) ≡ 0
   unfolding reaches
-  does_not_reach h = rw (lt-leb j (level_of d s (rank l d) t) (omega (arith, level_is)))
+  does_not_reach h = rw (lt-leb j (level_of d s (rank l d) t) (omega (arith, level_is l d t s axis sum)))
 
 module _ (d t s j : ℕ) (axis : t < d) (low : j ≤ s) where
   -- The level j on the axis, 0 elsewhere.

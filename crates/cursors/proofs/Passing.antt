@@ -137,5 +137,5 @@ module _ {v : Subspace} {s : ℕ} (seen : Seen v) (sum : sum_to (at v.vector.lev
           start_suc v.facet.axes (s - j),
           start_small v.facet.axes (omega (arith, seen.axis)) seen.few (suc (s - j)) (omega (arith, sum_le)),
           v.facet.sits.inside,
-          v.facet.sits.small,
+          v.facet.line.small,
         )

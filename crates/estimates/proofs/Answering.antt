@@ -92,6 +92,7 @@ module _ (s : State) (xs : List ℤ) (cs : List ℕ) (passed : check_estimate un
         some = in_range.low;
         low = in_range.top;
         most = most_bordered in_range;
+        small = in_range.small;
         long = stands.long;
         contents = λ p lt. all_at (content_at xs) (length xs) contents p (omega (arith, stands));
         listed = listed;

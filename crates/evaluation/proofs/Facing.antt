@@ -13,10 +13,11 @@ use Rattle.naturals.proofs.Sums.{sum_to_zero, sum_to_suc, sum_to_mono}
 use Rattle.numbering.specs.Count.{vectors, points}
 use Rattle.numbering.specs.Point.{at}
 use Rattle.faces.specs.Faces.{faces, mark_of}
+use Rattle.faces.specs.Marked.{border_points}
 use Rattle.faces.specs.Row.{all_faces, marks_of, inner_of, row}
 use Rattle.faces.proofs.Row.{all_faces_is, borders_of_is, row_zero, row_suc, row_ends, mark_of_low, inner_of_is}
 use Rattle.shapes.specs.declared.Shape.{Shape}
-use Rattle.shapes.specs.Shapes.{points_of}
+use Rattle.shapes.specs.Shapes.{most_points, most_terms, points_of}
 use Rattle.shapes.proofs.Layers.{points_bordered}
 use Rattle.grids.specs.Faces.{faces_of}
 use Rattle.grids.proofs.Faces.{FaceOf, face_of_row}
@@ -112,14 +113,17 @@ module _ {s : Shape} {xs : List ℤ} {cs : List ℕ} (asks : Evaluable s xs cs) 
   face_here : FaceOf s m k (row s.axes s.level f)
   face_here = rw (o.marks, o.inner) (face_of_row s f (rw (face_count s on) o.in_row))
 
-  room_here : lists_before s.axes s.level f + sum_to (vectors w) (suc top) ≤ 12870
+  few_points : border_points s.axes s.level ≤ most_points
+  few_points = omega (arith, points_bordered s on, asks.small)
+
+  room_here : lists_before s.axes s.level f + sum_to (vectors w) (suc top) ≤ most_terms
   room_here =
       omega (
         arith,
         o.walks.lists,
         ap (λ (c : ℕ). sum_to (vectors c) (suc s.level)) o.inner,
         lists_suc s.axes s.level f,
-        most_lists s.axes s.level (suc f) (asks.most on) asks.low o.in_row,
+        most_lists s.axes s.level (suc f) (asks.most on) asks.low o.in_row few_points,
       )
 
   pub marks_here : (t : ℕ) → t < s.axes → m t ≤ 2
@@ -146,7 +150,7 @@ module _ {s : Shape} {xs : List ℤ} {cs : List ℕ} (asks : Evaluable s xs cs) 
       record {
         reached =
             omega (arith, vector_ends o.here past, o.walks.ends, ap (λ (c : ℕ). points c s.level) o.inner, row_suc s.axes s.level f);
-        summed = summed_more o.summed count (most_lists s.axes s.level (suc f) (asks.most on) asks.low o.in_row);
+        summed = summed_more o.summed count (most_lists s.axes s.level (suc f) (asks.most on) asks.low o.in_row few_points);
         tallied = tallied_more o.tallied count;
       }
 

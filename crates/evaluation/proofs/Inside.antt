@@ -41,6 +41,6 @@ next_inside {s = s} {first = first} {vector} asks off here more summed tallied =
     (vector_low here (omega (arith, more, asks.long, points_plain s off)))
     (whole_unmarked s.axes (at vector.levels) (vector_in here).rest)
     (omega arith)
-    (omega (arith, most_vectors s.axes s.level asks.some asks.listed.few asks.low))
+    (omega (arith, most_vectors s.axes s.level asks.some asks.listed.few asks.low (omega (arith, points_plain s off, asks.small))))
     summed
     tallied

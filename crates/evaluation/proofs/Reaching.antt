@@ -1,5 +1,5 @@
 -- S along the walk, where it is asked for: after each level list it is the sum over all points passed, since of the points of a list only the one taken can be
--- reached. With at most 12,870 lists and coefficients of at most 2^47 it stays below 2^61, and fits 64 bits.
+-- reached. With at most 1,287 lists and coefficients of at most 2^47 it stays below 2^58, and fits 64 bits.
 -- Assumes nothing.
 use mathlib.Core.Bool.{Bool, true, false}
 use mathlib.Core.List.{List}
@@ -15,7 +15,7 @@ use Rattle.integers.specs.Half.{in_limit}
 use Rattle.integers.proofs.Sizes.{limit_size}
 use Rattle.hierarchy.specs.Turns.{value_at}
 use Rattle.shapes.specs.declared.Shape.{Shape}
-use Rattle.shapes.specs.Shapes.{points_of}
+use Rattle.shapes.specs.Shapes.{most_terms, points_of}
 use Rattle.surfaces.specs.Weights.{unit}
 use Rattle.surfaces.specs.Surface.{weight_on}
 use Rattle.surfaces.specs.Margin.{is_reached, absolute_reached, absolute_sum, absolute_sum_in, absolute_sum_at}
@@ -57,7 +57,7 @@ tallied_starts true s xs x = record { sum = sym (sum_to_zero (size_at s xs x)); 
 tallied_starts false s xs x = record { sum = refl; small = omega arith }
 
 module _ {asked : Bool} {s : Shape} {xs : List ℤ} {x : ℕ → ℕ} {total first count : ℕ} (r : Tallied asked s xs x total first count) where
-  pub tallied_room : count ≤ 12870 → total ≤ 12870 * 2 ^ 47
+  pub tallied_room : count ≤ most_terms → total ≤ most_terms * 2 ^ 47
   tallied_room few = omega (arith, r.small, mul-le-mul_right (2 ^ 47) few)
 
   pub tallied_more : {count' : ℕ} → count ≤ count' → Tallied asked s xs x total first count'

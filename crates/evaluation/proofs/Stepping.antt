@@ -23,8 +23,7 @@ use Rattle.numbering.specs.Point.{at}
 use Rattle.hierarchy.specs.Turns.{value_at}
 use Rattle.hierarchy.proofs.Values.{value_suc}
 use Rattle.shapes.specs.declared.Shape.{Shape}
-use Rattle.shapes.specs.Shapes.{points_of}
-use Rattle.shapes.proofs.Layers.{points_at_most, border_points_small, points_plain, points_bordered}
+use Rattle.shapes.specs.Shapes.{most_points, most_terms, points_of}
 use Rattle.grids.proofs.Faces.{FaceOf}
 use Rattle.surfaces.specs.Weights.{unit}
 use Rattle.surfaces.specs.Surface.{weight_on, joint_at}
@@ -53,7 +52,7 @@ pub record Next (asked : Bool) (s : Shape) (xs : List ℤ) (cs : List ℕ) (m l 
   pub list : ListAt s m l first
   pub size : sum_to l s.axes ≡ sum
   pub small : sum ≤ 8
-  pub room : suc count ≤ 12870
+  pub room : suc count ≤ most_terms
   pub summed : Summed s xs (at cs) high low first count
   pub tallied : Tallied asked s xs (at cs) total first count
 
@@ -61,7 +60,7 @@ pub record Next (asked : Bool) (s : Shape) (xs : List ℤ) (cs : List ℕ) (m l 
 module _ {asked : Bool} {s : Shape} {xs : List ℤ} {cs : List ℕ} {m l : ℕ → ℕ} {k base w top : ℕ} (before : ℕ) {high : ℤ}
     {low total first count : ℕ} {vector : LevelVector} (asks : Evaluable s xs cs) (f : FaceOf s m k base) (walks : Walks k s.level w top) (here : VectorAt w top base first vector) (in_face : vector.sum ≤ top)
     (is : whole s.axes m (at vector.levels) ≡ l) where
-  pub next_on_face : count ≡ before + vectors_before w (at vector.levels) → before + sum_to (vectors w) (suc top) ≤ 12870 →
+  pub next_on_face : count ≡ before + vectors_before w (at vector.levels) → before + sum_to (vectors w) (suc top) ≤ most_terms →
       Summed s xs (at cs) high low first count → Tallied asked s xs (at cs) total first count →
       Next asked s xs cs m l high low total first count vector.sum
   next_on_face counted room summed tallied =
@@ -90,12 +89,6 @@ module _ {asked : Bool} {s : Shape} {xs : List ℤ} {cs : List ℕ} {m l : ℕ �
   same_size : 2 ^ sum_to l s.axes ≡ 2 ^ sum
   same_size = ap (λ (k : ℕ). 2 ^ k) n.size
 
-  pub table_small : points_of s < 4294967296
-  table_small =
-      true_or_false s.border
-      (λ on. rw (points_bordered s on) (border_points_small s.axes s.level (n.asks.most on) n.asks.low))
-      (λ off. rw (points_plain s off) (points_at_most s.axes s.level n.asks.listed.few n.asks.low))
-
   pub list_within : first + 2 ^ sum ≤ length xs
   list_within =
       let last : 2 ^ sum - 1 < 2 ^ sum_to l s.axes = omega (arith, same_size, pow_pos sum) in
@@ -112,8 +105,8 @@ module _ {asked : Bool} {s : Shape} {xs : List ℤ} {cs : List ℕ} {m l : ℕ �
       pub place_read : first + term.position < length xs
       place_read = omega (arith, taken, taken_here n.summed n.list inside, n.asks.long)
 
-      pub place_small : first + term.position < 4294967296
-      place_small = omega (arith, place_read, n.asks.long, table_small)
+      pub place_small : first + term.position < most_points
+      place_small = omega (arith, place_read, n.asks.long, n.asks.small)
 
       weight_read : term.joint ≡ joint_at s (at cs) (first + term.position)
       weight_read =

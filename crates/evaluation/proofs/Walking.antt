@@ -1,5 +1,5 @@
 -- The walk over the level lists of all faces: after each it has both parts of the sum over all points passed, since of the points of a list only the one taken has a
--- joint weight above 0. There are at most 12,870 lists, of either sort of shape, so neither sum leaves 64 bits; and the sums of the two parts make the estimate.
+-- joint weight above 0. There are at most 1,287 lists, of either sort of shape, so neither sum leaves 64 bits; and the sums of the two parts make the estimate.
 -- Assumes nothing.
 use mathlib.Core.Bool.{Bool, true}
 use mathlib.Core.List.{List}
@@ -8,9 +8,10 @@ use Prim.Native.Nat.{ℕ, zero, suc, ◌+◌, ◌-◌, ◌*◌, ◌^◌, ◌≤�
 use native.Mathlib.Nat.{mul_comm, mul-zero, mul-le-mul_right, suc-mul}
 use native.Mathlib.Omega.{arith}
 use lib.Dec.{leb}
+use Rattle.std.specs.Prelude.{if◌then◌else◌}
 use Rattle.std.proofs.lemmas.Int.{ints}
 use lib.IntN.{ℤ, pos, nat_abs, ◌+ℤ◌, ◌*ℤ◌, *ℤ-zero}
-use borrow.Author.Tests.{leb-true}
+use borrow.Author.Tests.{leb-true, le-leb}
 use Rattle.naturals.specs.Sum.{sum_to}
 use Rattle.naturals.specs.Test.{all}
 use Rattle.naturals.proofs.Sums.{sum_to_zero, sum_to_suc, sum_to_mono, sum_block}
@@ -23,13 +24,14 @@ use Rattle.integers.proofs.Products.{times_times, plus_times}
 use Rattle.integers.proofs.Sizes.{sum_size}
 use Rattle.integers.proofs.Totals.{total_zero, total_suc, total_block}
 use Rattle.numbering.specs.Binomial.{choose}
-use Rattle.numbering.specs.Count.{vectors}
+use Rattle.numbering.specs.Count.{vectors, shell, start, points}
 use Rattle.numbering.specs.Inverse.{block}
 use Rattle.hierarchy.specs.Turns.{value_at}
 use Rattle.faces.specs.Faces.{faces}
+use Rattle.faces.specs.Marked.{layer, border_points}
 use Rattle.faces.specs.Row.{all_faces, borders_of, inner_of}
 use Rattle.shapes.specs.declared.Shape.{Shape}
-use Rattle.shapes.specs.Shapes.{points_of}
+use Rattle.shapes.specs.Shapes.{most_points, most_terms, points_of}
 use Rattle.grids.specs.Grids.{mark_on, level_on, index_on}
 use Rattle.interpolation.specs.Weighted.{weighted, weighted_sum}
 use Rattle.surfaces.specs.Weights.{unit}
@@ -42,22 +44,23 @@ use Rattle.wide_sums.proofs.Parts.{high_size, low_size}
 
 -- ---- how many level lists there are
 
-enough : ℕ → Bool
-enough k = leb (sum_to (vectors (suc k)) 9) 12870
+-- With a zero border: two tests for each shape, which antt computes.
+enough : ℕ → ℕ → Bool
+enough k n = if leb (points (suc k) n) most_points then leb (sum_to (vectors (suc k)) (suc n)) most_terms else true
 
-all_enough : all enough 8 ≡ true
-unfolding all enough vectors sum_to choose
+every_enough : ℕ → Bool
+every_enough k = all (enough k) 9
+
+all_enough : all every_enough 8 ≡ true
+unfolding all every_enough enough points start shell vectors sum_to choose
 all_enough = refl
 
-pub most_vectors : (d n : ℕ) → 1 ≤ d → d ≤ 8 → n ≤ 8 → sum_to (vectors d) (suc n) ≤ 12870
-unfolding enough
-most_vectors d n low high few =
+pub most_vectors : (d n : ℕ) → 1 ≤ d → d ≤ 8 → n ≤ 8 → points d n ≤ most_points → sum_to (vectors d) (suc n) ≤ most_terms
+unfolding every_enough enough
+most_vectors d n low high few small =
     let axes : suc (d - 1) ≡ d = omega arith in
-    omega (
-      arith,
-      sum_to_mono (vectors d) (suc n) 9 (omega arith),
-      rw axes at (leb-true (sum_to (vectors (suc (d - 1))) 9) 12870 (all_at enough 8 all_enough (d - 1) (omega arith))),
-    )
+    let tested = all_at (enough (d - 1)) 9 (all_at every_enough 8 all_enough (d - 1) (omega arith)) n (omega arith) in
+    leb-true (sum_to (vectors d) (suc n)) most_terms (rw (axes, le-leb (points d n) most_points small) at tested)
 
 -- On face number f of d axes and top level n; and on all faces before it. Of a sort with values on the border there are up to 4 axes.
 pub lists_on : ℕ → ℕ → ℕ → ℕ
@@ -74,26 +77,25 @@ pub lists_suc : (d n f : ℕ) → lists_before d n (suc f) ≡ lists_before d n 
 unfolding lists_before lists_on
 lists_suc d n f = sum_to_suc (lists_on d n) f
 
-enough_on_faces : ℕ → Bool
-enough_on_faces d = leb (lists_before d 8 (all_faces d)) 12870
+-- The same two tests.
+enough_on_faces : ℕ → ℕ → Bool
+enough_on_faces d n = if leb (border_points d n) most_points then leb (lists_before d n (all_faces d)) most_terms else true
 
-all_enough_on_faces : all enough_on_faces 5 ≡ true
-unfolding all enough_on_faces lists_before lists_on all_faces inner_of borders_of faces block vectors sum_to choose
+every_enough_on_faces : ℕ → Bool
+every_enough_on_faces d = all (enough_on_faces d) 9
+
+all_enough_on_faces : all every_enough_on_faces 5 ≡ true
+unfolding all every_enough_on_faces enough_on_faces lists_before lists_on all_faces inner_of borders_of faces block border_points layer points start shell vectors sum_to choose
 all_enough_on_faces = refl
 
-lower_lists : (d n m : ℕ) → n ≤ 8 → lists_before d n m ≤ lists_before d 8 m
-lower_lists d n zero low = omega (arith, lists_start d n)
-lower_lists d n (suc m) low =
-    omega (arith, lists_suc d n m, lists_suc d 8 m, lower_lists d n m low, sum_to_mono (vectors (inner_of d m)) (suc n) 9 (omega arith))
-
-pub most_lists : (d n f : ℕ) → d ≤ 4 → n ≤ 8 → f ≤ all_faces d → lists_before d n f ≤ 12870
-unfolding lists_before enough_on_faces
-most_lists d n f few low le =
+pub most_lists : (d n f : ℕ) → d ≤ 4 → n ≤ 8 → f ≤ all_faces d → border_points d n ≤ most_points → lists_before d n f ≤ most_terms
+unfolding lists_before every_enough_on_faces enough_on_faces
+most_lists d n f few low le small =
+    let tested = all_at (enough_on_faces d) 9 (all_at every_enough_on_faces 5 all_enough_on_faces d (omega arith)) n (omega arith) in
     omega (
       arith,
       sum_to_mono (lists_on d n) f (all_faces d) le,
-      lower_lists d n (all_faces d) low,
-      leb-true (lists_before d 8 (all_faces d)) 12870 (all_at enough_on_faces 5 all_enough_on_faces d (omega arith)),
+      leb-true (lists_before d n (all_faces d)) most_terms (rw (le-leb (border_points d n) most_points small) at tested),
     )
 
 -- ---- both parts of the sum
@@ -157,7 +159,7 @@ module _ (s : Shape) (xs : List ℤ) (x : ℕ → ℕ) where
 pub record Summed (s : Shape) (xs : List ℤ) (x : ℕ → ℕ) (high : ℤ) (low first count : ℕ) : Type 0 where
   pub highs : high ≡ total (high_term s xs x) first
   pub lows : low ≡ sum_to (low_term s xs x) first
-  pub few : count ≤ 12870
+  pub few : count ≤ most_terms
   pub high_small : nat_abs high ≤ count * 2 ^ 47
   pub low_small : low ≤ count * 2 ^ (unit_bits + unit_bits)
 
@@ -203,7 +205,7 @@ module _ {s : Shape} {xs : List ℤ} {x : ℕ → ℕ} {high : ℤ} {low first c
         ∙ ap (λ (k : ℕ). k + low_term s xs x (first + taken_at x m l s.axes)) (sym w.lows)
 
     -- One list more.
-    pub summed_steps : suc count ≤ 12870 → in_limit (value_at xs (suc (first + taken_at x m l s.axes))) ≡ true →
+    pub summed_steps : suc count ≤ most_terms → in_limit (value_at xs (suc (first + taken_at x m l s.axes))) ≡ true →
         Summed s xs x (high +ℤ high_term s xs x (first + taken_at x m l s.axes)) (low + low_term s xs x (first + taken_at x m l s.axes))
         (first + 2 ^ sum_to l s.axes) (suc count)
     summed_steps room limited =
@@ -218,7 +220,7 @@ module _ {s : Shape} {xs : List ℤ} {x : ℕ → ℕ} {high : ℤ} {low first c
         }
 
   -- A larger count bounds them as well.
-  pub summed_more : {count' : ℕ} → count ≤ count' → count' ≤ 12870 → Summed s xs x high low first count'
+  pub summed_more : {count' : ℕ} → count ≤ count' → count' ≤ most_terms → Summed s xs x high low first count'
   summed_more le few =
       record {
         highs = w.highs;

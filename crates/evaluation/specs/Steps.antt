@@ -8,7 +8,7 @@ use Rattle.numbering.specs.Point.{at}
 use Rattle.hierarchy.specs.Turns.{value_at}
 use Rattle.faces.specs.Packing.{before}
 use Rattle.shapes.specs.declared.Shape.{Shape}
-use Rattle.shapes.specs.Shapes.{points_of}
+use Rattle.shapes.specs.Shapes.{most_points, points_of}
 use Rattle.surfaces.specs.Weights.{unit, axis_weight, joint}
 use Rattle.surfaces.specs.Surface.{estimate_at}
 use Rattle.surfaces.specs.Margin.{absolute_sum_at}
@@ -148,6 +148,7 @@ pub record Evaluable (s : Shape) (xs : List ℤ) (cs : List ℕ) : Type 0 where
   pub some : 1 ≤ s.axes
   pub low : s.level ≤ 8
   pub most : s.border ≡ true → s.axes ≤ 4
+  pub small : points_of s ≤ most_points
   pub long : length xs ≡ points_of s
   pub contents : (p : ℕ) → p < points_of s → in_limit (value_at xs (suc p)) ≡ true
   pub listed : Listed s.axes cs

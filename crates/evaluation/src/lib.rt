@@ -5,6 +5,7 @@ ghost use Rattle.std.specs.Prelude.{true, ◌≡◌, ◌&&◌, ◌*◌, ◌^◌,
 ghost use Rattle.numbering.specs.Point.{at};
 ghost use Rattle.hierarchy.specs.Turns.{value_at};
 ghost use Rattle.surfaces.specs.Surface.{estimate_at};
+ghost use Rattle.shapes.specs.Shapes.{most_terms};
 ghost use Rattle.evaluation.specs.Steps.{hat_at, hats_of, AxisHats, Tabulated, MarkedHats, MarkedTable, none_passed, Room, passed_with, term_passed, Found, Bounded, MarksAt, levels_on, face_hats, Listed, Evaluable, evaluated_at};
 
 use axis_weights::Coordinate;
@@ -225,7 +226,7 @@ pub struct Evaluated {
 fn summed_over_faces(asked: bool, shape: Shape, table: &[i64], coordinates: &[u32]) -> Evaluated
     requires { Evaluable shape table.now coordinates.now × (shape.border ≡ true) }
     ensures value { result ≡ evaluated_at asked shape (value_at table.now) (at coordinates.now) }
-    ensures room { result.absolute_sum ≤ 12870 * 2 ^ 47 }
+    ensures room { result.absolute_sum ≤ most_terms * 2 ^ 47 }
 {
     let hats = marked_table(coordinates);
     let rows = Rows::new();
@@ -258,12 +259,12 @@ fn summed_over_faces(asked: bool, shape: Shape, table: &[i64], coordinates: &[u3
     }
 }
 
-// Those at these coordinates. S is of at most 12,870 points. (Inlined, so that an estimate alone does not look which points are reached.)
+// Those at these coordinates. S is of at most 1,287 points. (Inlined, so that an estimate alone does not look which points are reached.)
 #[inline(always)]
 fn summed(asked: bool, shape: Shape, table: &[i64], coordinates: &[u32]) -> Evaluated
     requires { Evaluable shape table.now coordinates.now }
     ensures value { result ≡ evaluated_at asked shape (value_at table.now) (at coordinates.now) }
-    ensures room { result.absolute_sum ≤ 12870 * 2 ^ 47 }
+    ensures room { result.absolute_sum ≤ most_terms * 2 ^ 47 }
 {
     if shape.border {
         return summed_over_faces(asked, shape, table, coordinates);
@@ -300,7 +301,7 @@ pub fn evaluate(shape: Shape, table: &[i64], coordinates: &[u32]) -> i64
 pub fn evaluate_with_sum(shape: Shape, table: &[i64], coordinates: &[u32]) -> Evaluated
     requires { Evaluable shape table.now coordinates.now }
     ensures value { result ≡ evaluated_at true shape (value_at table.now) (at coordinates.now) }
-    ensures room { result.absolute_sum ≤ 12870 * 2 ^ 47 }
+    ensures room { result.absolute_sum ≤ most_terms * 2 ^ 47 }
 {
     summed(true, shape, table, coordinates)
 }

@@ -16,39 +16,13 @@ use Rattle.naturals.proofs.Sums.{sum_to_zero, sum_to_suc}
 use Rattle.numbering.specs.Point.{at}
 use Rattle.numbering.specs.Inverse.{block}
 use Rattle.faces.specs.Faces.{faces, bit, borders, having, face_rank, last_mark, mark_of}
-use Rattle.faces.proofs.Ranks.{faces_over, having_inner, having_none, having_border, borders_zero, borders_le, borders_suc, face_rank_zero, face_rank_suc, face_rank_lt, mark_last, mark_before, mark_past, rest_lt, last_enough}
+use Rattle.faces.proofs.Ranks.{faces_over, borders_zero, borders_le, borders_suc, face_rank_zero, face_rank_suc, face_rank_lt, mark_last, mark_before, mark_past, rest_lt, last_enough}
 use Rattle.shapes.proofs.Layers.{faces_few}
 
 -- ---- counts of faces
 
 faces_small : (d b : ℕ) → d ≤ 4 → faces d b < 128
 faces_small d b few = le_or_lt b d (λ le. faces_few d b few le) (λ over. omega (arith, faces_over d b over))
-
--- Those with the mark of a border on the last axis, where there is a border axis.
-pub having_marked : (k b a : ℕ) → 0 < b → 0 < a → having k b a ≡ faces k (b - 1)
-having_marked k zero a some mark = omega arith
-having_marked k (suc b) zero some mark = omega arith
-having_marked k (suc b) (suc a) some mark = having_border k b a ∙ ap (faces k) (omega arith)
-
-pub having_unmarked : (k a : ℕ) → 0 < a → having k 0 a ≡ 0
-having_unmarked k zero mark = omega arith
-having_unmarked k (suc a) mark = having_none k a
-
-having_small : (k b a : ℕ) → k ≤ 4 → having k b a < 128
-having_small k b zero few = omega (arith, having_inner k b, faces_small k b few)
-having_small k zero (suc a) few = omega (arith, having_none k a)
-having_small k (suc b) (suc a) few = omega (arith, having_border k b a, faces_small k b few)
-
-pub below_small : (k b a : ℕ) → k ≤ 4 → sum_to (having k b) a ≤ a * 128
-below_small k b zero few = omega (arith, sum_to_zero (having k b))
-below_small k b (suc a) few = omega (arith, sum_to_suc (having k b) a, below_small k b a few, having_small k b a few)
-
--- Below the marks of the borders are the inner faces, and below that of the upper border those of the lower too.
-pub below_one : (k b : ℕ) → sum_to (having k b) 1 ≡ having k b 0
-below_one k b = omega (arith, sum_to_suc (having k b) 0, sum_to_zero (having k b))
-
-pub below_two : (k b : ℕ) → sum_to (having k b) 2 ≡ having k b 0 + having k b 1
-below_two k b = omega (arith, sum_to_suc (having k b) 1, below_one k b)
 
 -- ---- the rank
 

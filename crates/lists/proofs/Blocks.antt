@@ -39,7 +39,7 @@ on_line line long = record { few = line.few; low = line.top; place = line.axis; 
 
 -- It is small.
 pub table_small : (v : Subspace) (xs : List ℤ) → OnAxis v.facet.line.shape v.facet.line.place xs → length xs < 2 ^ 32
-table_small v xs on = omega (arith, on.long, v.facet.sits.small)
+table_small v xs on = omega (arith, on.long, v.facet.line.small)
 
 -- ---- the numbers that the code computes: no shift loses a bit
 
@@ -318,7 +318,7 @@ module _ {v : Subspace} {starts : List ℕ} {first beyond width : ℕ} {xs : Lis
       omega (
         arith,
         run_within (seen v) h.block 0 first digit place Left _ (border_parents (first_left (seen v) h.block 0 first digit place refl) _ block_some),
-        v.facet.sits.small,
+        v.facet.line.small,
       )
 
   upper_small : r.upper + beyond * 2 ^ v.low < 2 ^ 32
@@ -331,7 +331,7 @@ module _ {v : Subspace} {starts : List ℕ} {first beyond width : ℕ} {xs : Lis
         arith,
         run_within (seen v) h.block e (first + e * 2 ^ v.low) digit refl Right _
             (border_parents (last_right (seen v) h.block e (first + e * 2 ^ v.low) digit refl last) _ block_some),
-        v.facet.sits.small,
+        v.facet.line.small,
       )
 
   pub rims_small : (r.lower + beyond * 2 ^ v.low < 2 ^ 64) × (r.upper + beyond * 2 ^ v.low < 2 ^ 64)

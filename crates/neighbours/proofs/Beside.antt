@@ -109,7 +109,7 @@ module _ {v : Subspace} {starts : List ℕ} (s : Seen v) (held : Below v starts)
         held.first j some most,
         block_below v.facet.axes v.facet.line.shape.level lowered lowered_rest (omega (arith, lowered_sum, s.sum)) 0 (pow_pos (sum_to lowered v.facet.axes)),
         v.facet.sits.inside,
-        v.facet.sits.small,
+        v.facet.line.small,
       )
 
 -- Point number p of a level vector.

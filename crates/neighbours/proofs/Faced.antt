@@ -20,7 +20,7 @@ use Rattle.faces.specs.Row.{all_faces, marks_of, inner_of, row}
 use Rattle.faces.proofs.Row.{mark_of_low, inner_of_is, face_inside}
 use Rattle.shapes.specs.declared.Shape.{Shape}
 use Rattle.shapes.specs.Shapes.{most_axes, points_of}
-use Rattle.shapes.proofs.Layers.{points_bordered, border_points_small}
+use Rattle.shapes.proofs.Layers.{points_bordered}
 use Rattle.grids.specs.Grids.{neighbour}
 use Rattle.grids.proofs.Facets.{facet_place, facet_inside, facet_parent, facet_across, facet_behind, facet_still}
 use Rattle.numbering.specs.Point.{at}
@@ -88,7 +88,6 @@ module _ (line : Line) (on : line.shape.border ≡ true) (f : ℕ) (in_row : f <
   pub faced : Sits s t (inner_of s.axes f) (before m t) (row s.axes s.level f) (Some rims_there)
   faced =
       record {
-        small = omega (arith, points_bordered s on, border_points_small s.axes s.level few line.top);
         inside = facet_inside s on f in_row t line.axis inside;
         low = λ r e. rw (← some_is r e) (rim_within 1 (omega arith), rim_within 2 (omega arith));
         inner = facet_parent s on f in_row t line.axis inside;

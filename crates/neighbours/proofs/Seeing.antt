@@ -71,5 +71,5 @@ module _ (facet : Facet) (v : LevelVector) (start : ℕ) (same : v.axes ≡ face
         pow_mono {i = v.sum} {j = 8} (omega (arith, facet.line.top)),
         block_below facet.axes facet.line.shape.level (at v.levels) vector.rest (omega (arith, vector.total)) 0 (pow_pos (sum_to (at v.levels) facet.axes)),
         facet.sits.inside,
-        facet.sits.small,
+        facet.line.small,
       )

@@ -12,10 +12,8 @@ use Rattle.numbering.specs.Count.{points}
 use Rattle.numbering.specs.Number.{number}
 use Rattle.numbering.specs.Inverse.{level_at, index_at}
 use Rattle.numbering.specs.Parent.{numerator, is_border, parent_level, parent_index, update}
-use Rattle.numbering.proofs.Numbering.{points_is}
 use Rattle.shapes.specs.declared.Shape.{Shape}
 use Rattle.shapes.specs.Shapes.{points_of}
-use Rattle.shapes.proofs.Totals.{start_small}
 use Rattle.grids.specs.Grids.{mark_on, level_on, neighbour}
 use Rattle.shapes.proofs.Layers.{points_plain}
 use Rattle.grids.proofs.Points.{number_plain, marks_plain, levels_plain, indices_plain}
@@ -70,7 +68,6 @@ module _ (line : Line) (plain : line.shape.border ≡ false) where
   unfolding across
   whole =
       record {
-        small = omega (arith, count, points_is s.axes s.level, start_small s.axes (omega (arith, line.axis)) line.few (suc s.level) (omega (arith, line.top)));
         inside = omega (arith, count);
         low = λ r e. absurd (nothing_there r e);
         inner = off_border;

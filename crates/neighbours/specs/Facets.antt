@@ -65,7 +65,6 @@ Apart nb t base lo hi q = 0 < q → (base < q) × (lo < q → (hi < q) × Still 
 -- In the shape s, a face of k inner axes from number `base` on, with the axis of place t in place j among them and so first numbers across the border. Off the
 -- border the neighbours are the parents inside the face; across it they are the same points without the axis, where there are any, and do not move.
 pub record Sits (s : Shape) (t k j base : ℕ) (rims : Option Rims) : Type 0 where
-  pub small : points_of s < 2 ^ 32
   pub inside : base + points k s.level ≤ points_of s
   pub low : (r : Rims) → rims ≡ Some r → (r.lower ≤ points_of s) × (r.upper ≤ points_of s)
   pub inner : (q : ℕ) → q < points k s.level → (b : Side) → on_border j b (level_at k s.level q) (index_at k s.level q) ≡ false →

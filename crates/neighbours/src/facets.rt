@@ -1,6 +1,6 @@
 // The axis that a turn works on, and the faces of the table that it meets.
 ghost use Rattle.std.specs.Prelude.{true, false, ℕ, ◌≡◌, ◌+◌, ◌^◌, ◌≤◌, ◌<◌};
-ghost use Rattle.shapes.specs.Shapes.{most_axes};
+ghost use Rattle.shapes.specs.Shapes.{most_axes, most_points, points_of};
 ghost use Rattle.numbering.specs.Point.{at};
 ghost use Rattle.numbering.specs.Parent.{update};
 ghost use Rattle.faces.specs.Packing.{before};
@@ -19,6 +19,7 @@ pub struct Line {
     ghost few: { shape.axes ≤ 8 },
     ghost top: { shape.level ≤ 8 },
     ghost most: { shape.axes ≤ most_axes shape.border },
+    ghost small: { points_of shape ≤ most_points },
     ghost axis: { place < shape.axes },
 }
 

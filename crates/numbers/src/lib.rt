@@ -207,14 +207,14 @@ fn indices_of(vector: &LevelVector, position: u64) -> [u32; 8]
 
 // The level vector that a point lies in, and how many points of it come before the point.
 #[derive(Clone, Copy)]
-pub struct Placed {
-    pub vector: LevelVector,
-    pub position: u64,
+struct Placed {
+    vector: LevelVector,
+    position: u64,
 }
 
 // Where point number `number` of these axes and top level lies. (Two numbers and no `CheckedShape`: a face of a table with values on the border is a sparse table of
 // fewer axes.)
-pub fn vector_at(axes: u32, level: u32, number: u64) -> Placed
+fn vector_at(axes: u32, level: u32, number: u64) -> Placed
     requires { (1 ≤ axes) × (axes ≤ 8) × (level ≤ 8) × (number < points axes level) }
     ensures { (result.vector.axes ≡ axes) × (result.vector.sum ≡ sum_at axes level number) × (result.vector.levels ≡ eight (level_at axes level number)) × (result.position ≡ within axes level number % 2 ^ sum_at axes level number) }
 {

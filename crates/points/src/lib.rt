@@ -1,7 +1,7 @@
 // Points by value, and the check of a point that is handed in as three lists.
 #![tactic(auto)]
 
-ghost use Rattle.std.specs.Prelude.{◌≡◌, ℕ, ◌≤◌, ◌<◌, false, IfOk};
+ghost use Rattle.std.specs.Prelude.{◌≡◌, ◌≤◌, IfOk};
 ghost use Rattle.numbering.specs.Point.{at, is_index};
 ghost use Rattle.points.specs.Points.{mark_fits, eight, check_lists, bare_point, point_in, point_from};
 
@@ -127,14 +127,6 @@ pub fn point_from(
     ensures { result ≡ point_from shape marks.now levels.now indices.now }
 {
     point_in(shape.check()?, marks, levels, indices)
-}
-
-// The marks of a point by value. (Without values on the border all are 0, and the list is not read again.)
-pub fn marks_from(border: bool, marks: &[u32]) -> [u32; 8]
-    requires { border ≡ false → (t : ℕ) → t < 8 → at marks.now t ≡ 0 }
-    ensures { result ≡ eight (at marks.now) }
-{
-    if border { padded(marks) } else { [0; 8] }
 }
 
 // What a list holds at a place, and 0 past its end.

@@ -14,7 +14,7 @@ use Rattle.hierarchy.specs.Turns.{value_at, values_of, sum_on, forward}
 use Rattle.hierarchy.specs.Sets.{scaled, swept, table_of}
 use Rattle.numbered.specs.Neighbours.{move, moved, beside, code_of}
 use Rattle.numbered.specs.Neighbours as numbered_points
-use Rattle.shapes.specs.Shapes.{check_shape, points_of}
+use Rattle.shapes.specs.Shapes.{check_limits, check_size, check_shape, points_of}
 use Rattle.grids.specs.Grids.{number_of, mark_on, level_on, index_on, neighbour}
 use Rattle.whole.specs.Whole.{coefficients_of}
 use Rattle.house_numbers.specs.Numbers.{below, groups, largest, limited, read_number, rate_of}
@@ -36,5 +36,5 @@ abbrev pub Cut : Type 0
 Cut = report (9 ∷ []) ≡ 114 ∷ 101 ∷ 102 ∷ 117 ∷ 115 ∷ 101 ∷ 100 ∷ 32 ∷ 49 ∷ 49 ∷ 10 ∷ []
 
 pub worked_reports : Example × Negative × Cut
-unfolding digits_of decimal signed heading_of point_line point_lines refused_line table_text report sum_to choose vectors shell start points points_of check_shape number_of mark_on level_on index_on block last_level level_of sum_at within level_at index_of index_at ending rank digit position first_of number is_border twos parent_level parent_index update count_trailing_zeros half value_at values_of sum_on forward scaled swept table_of numbered_points.across move moved beside code_of numbered_points.neighbour neighbour coefficients_of below groups largest limited read_number rate_of prepended read_rates ended read_table read_contents read_head
+unfolding digits_of decimal signed heading_of point_line point_lines refused_line table_text report sum_to choose vectors shell start points points_of check_limits check_size check_shape number_of mark_on level_on index_on block last_level level_of sum_at within level_at index_of index_at ending rank digit position first_of number is_border twos parent_level parent_index update count_trailing_zeros half value_at values_of sum_on forward scaled swept table_of numbered_points.across move moved beside code_of numbered_points.neighbour neighbour coefficients_of below groups largest limited read_number rate_of prepended read_rates ended read_table read_contents read_head
 worked_reports = (refl, refl, refl)

@@ -4,12 +4,13 @@
 use house_file::deciding_bytes;
 use refusals::Refusal;
 use reports::LINE;
+use shapes::MOST_POINTS;
 use streams::{print, read_stdin};
 
 const NAME: &str = "rewrite";
 
-// The most points of a table.
-const PLACES: usize = 32768;
+// Those of the largest table that is run.
+const PLACES: usize = MOST_POINTS as usize;
 
 // So many bytes of a file decide.
 const BYTES: usize = deciding_bytes!(PLACES);

@@ -121,10 +121,3 @@ module _ (s : Shape) where
 -- Tables with values on the border have at most 4 axes.
 pub most_bordered : {s : Shape} → InRange s → s.border ≡ true → s.axes ≤ 4
 most_bordered {s} r on = omega (arith, r.most, ap most_axes on)
-
--- The points of a shape that the check passes.
-pub points_in_range : (s : Shape) → InRange s → points_of s < 4294967296
-points_in_range s r =
-    true_or_false s.border
-    (λ on. omega (arith, points_bordered s on, border_points_small s.axes s.level (most_bordered r on) r.top))
-    (λ off. omega (arith, points_plain s off, points_is s.axes s.level, start_small s.axes r.low r.high (suc s.level) (omega (arith, r.top))))

@@ -1,4 +1,5 @@
 pub mod Binomials
+pub mod Bordered
 pub mod Totals
 pub mod Starts
 pub mod Layers

@@ -2,7 +2,7 @@
 -- Assumes nothing.
 use Rattle.refusals.specs.declared.Refusal.{Refusal}
 use Rattle.std.specs.Prelude.{Bool, true, false, ◌&&◌, ℕ, leb, eqb, if◌then◌else◌, Result, Ok, Err}
-use Rattle.refusals.specs.declared.Refusal.TheVariants.{Axes, Level, TableLength, Axis}
+use Rattle.refusals.specs.declared.Refusal.TheVariants.{Axes, Level, TooManyPoints, TableLength, Axis}
 use Rattle.refusals.specs.Checks.{unless, ◌and_then◌, answer, Verdict}
 use Rattle.numbering.specs.Count.{points}
 use Rattle.faces.specs.Marked.{border_points}
@@ -22,16 +22,28 @@ most_axes true = 4
 most_axes false = 8
 
 -- A shape has from 1 to the most axes, else refused with 1, and a top level of at most 8, else with 2.
-unfoldable pub check_shape : Shape → Verdict
-check_shape s = unless (leb 1 s.axes && leb s.axes (most_axes s.border)) Axes and_then unless (leb s.level 8) Level
+unfoldable pub check_limits : Shape → Verdict
+check_limits s = unless (leb 1 s.axes && leb s.axes (most_axes s.border)) Axes and_then unless (leb s.level 8) Level
 
--- The largest number of points that is run (document 02, c).
+-- The largest number of points that is run, of a table of either sort and of a component grid (document 02, h and c).
 abbrev pub most_points : ℕ
 most_points = 32768
+
+-- The most level lists that a shape of so many points has, of d = 8 and n = 5: an estimate sums one point for each (document 02, k).
+abbrev pub most_terms : ℕ
+most_terms = 1287
 
 -- N, the number of points of a shape.
 unfoldable pub points_of : Shape → ℕ
 points_of s = if s.border then border_points s.axes s.level else points s.axes s.level
+
+-- A shape has at most so many points, else refused with 19.
+unfoldable pub check_size : Shape → Verdict
+check_size s = unless (leb (points_of s) most_points) TooManyPoints
+
+-- A shape is refused with 1, 2 or 19. (With a state it is not one check: 14 stands between 2 and 19.)
+unfoldable pub check_shape : Shape → Verdict
+check_shape s = check_limits s and_then check_size s
 
 -- A table of a shape has N places, else refused with 3.
 unfoldable pub check_length : Shape → ℕ → Verdict

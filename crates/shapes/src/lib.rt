@@ -7,8 +7,8 @@ ghost use Rattle.naturals.specs.Sum.{sum_to};
 ghost use Rattle.numbering.specs.Count.{vectors, start, points};
 ghost use Rattle.faces.specs.Faces.{faces};
 ghost use Rattle.faces.specs.Marked.{layer, border_points};
-ghost use Rattle.shapes.specs.Shapes.{sparse, most_axes, check_shape, check_axis, points_of, check_length, counted};
-ghost use Rattle.shapes.specs.Rows.{Binomials, Starts};
+ghost use Rattle.shapes.specs.Shapes.{sparse, most_axes, most_points, check_limits, check_size, check_shape, check_axis, points_of, check_length, counted};
+ghost use Rattle.shapes.specs.Rows.{Binomials, Starts, Bordered};
 
 use refusals::Refusal;
 
@@ -20,7 +20,7 @@ pub struct Shape {
     pub border: bool,
 }
 
-// The largest number of points that is run (document 02, c).
+// The largest number of points that is run, of a table of either sort and of a component grid (document 02, h and c).
 pub const MOST_POINTS: u64 = 32768;
 
 // C(d − 1 + j, j), how many level vectors of d axes have the level sum j: a row for each d from 1 to 8, j from 0 to 8.
@@ -48,7 +48,26 @@ const STARTS: [[u32; 10]; 9] = [
     [0, 1, 17, 161, 1121, 6401, 31745, 141569, 580865, 2228225],
 ];
 
-// A shape that the check passes: 1 to 8 axes, no more than its sort may have, and a top level of at most 8.
+// How many points a table with values on the border has: a row for each d from 0 to 4, n from 0 to 8.
+const BORDERED: [[u32; 9]; 5] = [
+    [1, 1, 1, 1, 1, 1, 1, 1, 1],
+    [3, 5, 9, 17, 33, 65, 129, 257, 513],
+    [9, 21, 49, 113, 257, 577, 1281, 2817, 6145],
+    [27, 81, 225, 593, 1505, 3713, 8961, 21249, 49665],
+    [81, 297, 945, 2769, 7681, 20481, 52993, 133889, 331777],
+];
+
+// A shape whose number of axes and top level pass: 1 to 8 axes, no more than its sort may have, and a top level of at most 8.
+#[derive(Clone, Copy)]
+pub struct LimitedShape {
+    pub shape: Shape,
+    ghost some: { 1 ≤ shape.axes },
+    ghost few: { shape.axes ≤ 8 },
+    ghost top: { shape.level ≤ 8 },
+    ghost most: { shape.axes ≤ most_axes shape.border },
+}
+
+// A shape that the whole check passes: such a one of no more points than are run.
 #[derive(Clone, Copy)]
 pub struct CheckedShape {
     pub shape: Shape,
@@ -56,6 +75,7 @@ pub struct CheckedShape {
     ghost few: { shape.axes ≤ 8 },
     ghost top: { shape.level ≤ 8 },
     ghost most: { shape.axes ≤ most_axes shape.border },
+    ghost small: { points_of shape ≤ most_points },
 }
 
 impl Shape {
@@ -78,9 +98,9 @@ impl Shape {
     }
 
     // Refused with 1 or 2.
-    pub fn check(self) -> Result<CheckedShape, Refusal>
-        ensures verdict { verdict result ≡ check_shape self }
-        ensures shape { IfOk result (λ checked. checked.shape ≡ self) }
+    pub fn check_limits(self) -> Result<LimitedShape, Refusal>
+        ensures verdict { verdict result ≡ check_limits self }
+        ensures shape { IfOk result (λ limited. limited.shape ≡ self) }
     {
         let Shape { axes, level, .. } = self;
         if !(1..=self.most_axes()).contains(&axes) {
@@ -89,7 +109,16 @@ impl Shape {
         if 8 < level {
             return Err(Refusal::Level);
         }
-        Ok(CheckedShape { shape: self })
+        Ok(LimitedShape { shape: self })
+    }
+
+    // Refused with 1, 2 or 19.
+    #[tactic(auto, unfolding(crate::specs::Shapes::check_shape))]
+    pub fn check(self) -> Result<CheckedShape, Refusal>
+        ensures verdict { verdict result ≡ check_shape self }
+        ensures shape { IfOk result (λ checked. checked.shape ≡ self) }
+    {
+        self.check_limits()?.check_size()
     }
 
     // Refused with 5.
@@ -111,13 +140,15 @@ impl Shape {
     }
 }
 
-// The two constant tables that counts are read from, lent. (A constant that is named without `&` is built on the stack each time.)
+// The three constant tables that counts are read from, lent. (A constant that is named without `&` is built on the stack each time.)
 #[derive(Clone, Copy)]
 pub struct Rows {
     binomials: &'static [[u16; 9]; 8],
     starts: &'static [[u32; 10]; 9],
+    bordered: &'static [[u32; 9]; 5],
     ghost right: { Binomials binomials.now },
     ghost added: { Starts starts.now },
+    ghost summed: { Bordered bordered.now },
 }
 
 impl Rows {
@@ -125,6 +156,7 @@ impl Rows {
         Rows {
             binomials: &ROWS,
             starts: &STARTS,
+            bordered: &BORDERED,
         }
     }
 
@@ -185,11 +217,11 @@ impl Rows {
         requires { (axes ≤ 4) × (level ≤ 8) }
         ensures { result ≡ border_points axes level }
     {
-        self.layers(axes, level, axes + 1)
+        u64::from(self.bordered[axes as usize][level as usize])
     }
 }
 
-impl CheckedShape {
+impl LimitedShape {
     // How many points it has.
     pub fn points(self) -> u64
         ensures { result ≡ points_of self.shape }
@@ -205,6 +237,26 @@ impl CheckedShape {
         } else {
             rows.start(axes, level + 1)
         }
+    }
+
+    // Refused with 19.
+    pub fn check_size(self) -> Result<CheckedShape, Refusal>
+        ensures verdict { verdict result ≡ check_size self.shape }
+        ensures shape { IfOk result (λ checked. checked.shape ≡ self.shape) }
+    {
+        if MOST_POINTS < self.points() {
+            return Err(Refusal::TooManyPoints);
+        }
+        Ok(CheckedShape { shape: self.shape })
+    }
+}
+
+impl CheckedShape {
+    // How many points it has.
+    pub fn points(self) -> u64
+        ensures { result ≡ points_of self.shape }
+    {
+        LimitedShape { shape: self.shape }.points()
     }
 
     // Refused with 3.

@@ -14,8 +14,8 @@ use Rattle.refusals.specs.declared.Refusal.{Refusal}
 use Rattle.refusals.specs.declared.Refusal.TheVariants.{StrayBit}
 use Rattle.refusals.specs.Checks.{◌and_then◌}
 use Rattle.refusals.proofs.Passing.{first_passed, next_passed, test_passed}
-use Rattle.shapes.specs.Shapes.{check_shape, points_of, check_length}
-use Rattle.shapes.proofs.Checked.{InRange, passed_in_range, in_range_passed, length_passed, length_passes}
+use Rattle.shapes.specs.Shapes.{check_limits, check_size, points_of, check_length}
+use Rattle.shapes.proofs.Checked.{InRange, parts_in_range, limits_in_range, size_passes, length_passed, length_passes}
 use Rattle.states.specs.declared.State.{State}
 use Rattle.states.specs.States.{has, is_other, first_axis, check_axes, check_bits, check_state}
 
@@ -36,17 +36,29 @@ module _ (s : State) where
   pub state_passed : (places : ℕ) → check_state s places ≡ Ok tt → Stands s places
   unfolding check_state
   state_passed places e =
+      let limits = check_limits s.shape in
+      let size = check_size s.shape in
       let long = check_length s.shape places in
-      let rest = next_passed (check_shape s.shape) (check_bits s and_then long) e in
+      let after_limits = next_passed limits (check_bits s and_then size and_then long) e in
+      let after_bits = next_passed (check_bits s) (size and_then long) after_limits in
       record {
-        range = passed_in_range s.shape (first_passed (check_shape s.shape) (check_bits s and_then long) e);
-        few = few_bits (first_passed (check_bits s) long rest);
-        long = length_passed s.shape places (next_passed (check_bits s) long rest);
+        range =
+            parts_in_range s.shape
+            (first_passed limits (check_bits s and_then size and_then long) e)
+            (first_passed size long after_bits);
+        few = few_bits (first_passed (check_bits s) (size and_then long) after_limits);
+        long = length_passed s.shape places (next_passed size long after_bits);
       }
 
   pub state_passes : (places : ℕ) → Stands s places → check_state s places ≡ Ok tt
   unfolding check_state
-  state_passes places h = rw (in_range_passed s.shape h.range, bits_pass h.few, length_passes s.shape places h.long)
+  state_passes places h =
+      rw (
+        limits_in_range s.shape h.range,
+        bits_pass h.few,
+        size_passes s.shape h.range.small,
+        length_passes s.shape places h.long,
+      )
 
 -- A bit that is not the one looked for is the other.
 other_bit : (b bit : Bool) → not (beq b bit) ≡ true → b ≡ not bit

@@ -6,7 +6,7 @@ use Rattle.naturals.specs.FirstFailing.{first_failing}
 use Rattle.refusals.specs.declared.Refusal.{Refusal}
 use Rattle.refusals.specs.declared.Refusal.TheVariants.{StrayBit}
 use Rattle.refusals.specs.Checks.{unless, ◌and_then◌, Verdict}
-use Rattle.shapes.specs.Shapes.{check_shape, check_length}
+use Rattle.shapes.specs.Shapes.{check_limits, check_size, check_length}
 use Rattle.states.specs.declared.State.{State}
 
 -- The set has place t (axis t + 1): bit t of the byte.
@@ -44,6 +44,6 @@ check_axes bit refusal s = unless (leb s.shape.axes (first_axis bit s)) (refusal
 unfoldable pub check_bits : State → Verdict
 check_bits s = unless (ltb s.forward (2 ^ s.shape.axes)) StrayBit
 
--- A state and a table of that many places: refused with 1, 2, 14 or 3.
+-- A state and a table of that many places: refused with 1, 2, 14, 19 or 3.
 unfoldable pub check_state : State → ℕ → Verdict
-check_state s places = check_shape s.shape and_then check_bits s and_then check_length s.shape places
+check_state s places = check_limits s.shape and_then check_bits s and_then check_size s.shape and_then check_length s.shape places

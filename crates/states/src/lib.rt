@@ -3,7 +3,7 @@
 
 ghost use Rattle.std.specs.Prelude.{◌≡◌, ◌≤◌, ◌<◌, ◌^◌, IfOk};
 ghost use Rattle.refusals.specs.Checks.{verdict};
-ghost use Rattle.shapes.specs.Shapes.{most_axes};
+ghost use Rattle.shapes.specs.Shapes.{most_axes, most_points, points_of};
 ghost use Rattle.states.specs.States.{has, toggled, found_axis, check_bits, check_state};
 
 use refusals::Refusal;
@@ -16,7 +16,7 @@ pub struct State {
     pub forward: u8,
 }
 
-// A state that the check passes: its shape is within the limits, and no bit is set above its axes.
+// A state that the check passes: its shape passes, and no bit is set above its axes.
 #[derive(Clone, Copy)]
 pub struct CheckedState {
     pub state: State,
@@ -24,6 +24,7 @@ pub struct CheckedState {
     ghost few: { state.shape.axes ≤ 8 },
     ghost top: { state.shape.level ≤ 8 },
     ghost most: { state.shape.axes ≤ most_axes state.shape.border },
+    ghost small: { points_of state.shape ≤ most_points },
     ghost bits: { state.forward < 2 ^ state.shape.axes },
 }
 
@@ -58,15 +59,15 @@ impl State {
         Ok(())
     }
 
-    // Refused with 1, 2, 14 or 3.
+    // Refused with 1, 2, 14, 19 or 3.
     #[tactic(auto, unfolding(crate::specs::States::check_state))]
     pub fn check(self, places: usize) -> Result<CheckedState, Refusal>
         ensures verdict { verdict result ≡ check_state self places }
         ensures state { IfOk result (λ checked. checked.state ≡ self) }
     {
-        let shape = self.shape.check()?;
+        let limited = self.shape.check_limits()?;
         self.check_bits()?;
-        shape.check_length(places)?;
+        limited.check_size()?.check_length(places)?;
         Ok(CheckedState { state: self })
     }
 }

@@ -72,7 +72,7 @@ module _ (facet : Facet) (xs : List ℤ) (long : length xs ≡ points_of facet.l
     -- No more sums are odd than there are points.
     pub lowering_few : odd < 2 ^ 32
     lowering_few =
-        omega (arith, s.odds, odds_few facet.line.shape facet.line.place xs (facet_end facet), facet.sits.inside, facet.sits.small)
+        omega (arith, s.odds, odds_few facet.line.shape facet.line.place xs (facet_end facet), facet.sits.inside, facet.line.small)
 
     -- Where no list of the sum is left, all of the sum below are.
     lowering_sum : (sum' : ℕ) → sum ≡ suc sum' → b ≡ 0 → Lowering facet xs sum' (vectors facet.axes sum') k odd ys

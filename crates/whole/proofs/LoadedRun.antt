@@ -9,17 +9,17 @@ use mathlib.Core.List.{List, [], map}
 use Prim.Native.Nat.{ℕ, ◌-◌, ◌^◌, ◌≤◌}
 use lib.IntN.{ℤ}
 use lib.ListN.{length}
-use borrow.Author.Tests.{lt-ltb, eq-eqb}
 use Rattle.hierarchy.specs.declared.Turn.{Turn}
 use Rattle.hierarchy.specs.Turns.{value_at}
 use Rattle.hierarchy.specs.Sets.{no_axis}
 use Rattle.hierarchy.proofs.Values.{values_length}
 use Rattle.shapes.specs.declared.Shape.{Shape}
-use Rattle.shapes.specs.Shapes.{points_of, check_length}
-use Rattle.shapes.proofs.Checked.{InRange, in_range_passed}
+use Rattle.shapes.specs.Shapes.{points_of}
+use Rattle.shapes.proofs.Checked.{InRange}
 use Rattle.states.specs.declared.State.{State}
 use Rattle.states.specs.After.{after}
-use Rattle.states.specs.States.{has, check_bits, check_state}
+use Rattle.states.specs.States.{has, check_state}
+use Rattle.states.proofs.Checked.{state_passes}
 use Rattle.tables.specs.Tables.{times, load}
 use Rattle.runs.specs.Model.{model_answers}
 use Rattle.runs.specs.Runs.{Ran, run}
@@ -67,16 +67,16 @@ forward_where s xs ys st e calls axis l =
 
 -- A loaded state and table pass the checks of every call.
 loaded_passes : (s : Shape) (xs ys : List ℤ) (st : State) → load s xs ≡ after (Ok st) ys → check_state st (length ys) ≡ Ok tt
-unfolding check_state check_bits check_length run
+unfolding run
 loaded_passes s xs ys st e =
     let here = demand_3_of_load s xs ys st e [] in
     let m = here.model in
-    rw (
-      m.shape,
-      in_range_passed s here.range,
-      lt-ltb st.forward (2 ^ s.axes) m.few,
-      eq-eqb (length ys) (points_of s) (ap length m.table ∙ values_length (points_of s) _),
-    )
+    state_passes st (length ys)
+    (record {
+      range = rw m.shape here.range;
+      few = rw m.shape m.few;
+      long = rw m.shape (ap length m.table ∙ values_length (points_of s) _);
+    })
 
 -- The call that runs a list reports exactly the model's answers.
 pub record Reported (s : Shape) (calls : List Turn) (r : Report) (ran : Ran) : Type 0 where

@@ -19,7 +19,7 @@ use Rattle.numbering.specs.Point.{at, is_index, indexed, is_point}
 use Rattle.numbering.specs.Number.{ending, rank, digit, position, first_of, number}
 use Rattle.numbering.specs.Inverse.{block, last_level, level_of, sum_at, within, level_at, index_of, index_at}
 use Rattle.hierarchy.specs.Turns.{value_at}
-use Rattle.shapes.specs.Shapes.{sparse, check_shape, points_of, check_length}
+use Rattle.shapes.specs.Shapes.{sparse, check_limits, check_size, check_shape, points_of, check_length}
 use Rattle.grids.specs.Grids.{mark_on, level_on, index_on}
 use Rattle.interpolation.specs.Weighted.{weighted, weighted_sum}
 use Rattle.surfaces.specs.Weights.{unit, is_coordinate, distance, weight, axis_weight, joint}
@@ -59,5 +59,5 @@ NearlyAttained =
     × (99 * (unit ^ 2 + 2 * (2 ^ 47 * unit)) ≤ 100 * (2 * apart (unit ^ 2) (exact 2 (pos (2 ^ 47)) (1 ∷ 262143 ∷ [])) (pos 0)))
 
 pub margins : JointWeightZero × HalfAttained × NearlyAttained
-unfolding above_zero is_reached absolute_reached absolute_sum margin absolute_sum_in surface_in product_in prod_to estimate_with_margin sum_to all choose vectors shell start points is_index indexed is_point ending rank digit position first_of number check_shape points_of check_length mark_on level_on index_on block last_level level_of sum_at within level_at index_of index_at value_at first_failing total nearest_up nearest in_limit weighted weighted_sum unit is_coordinate distance weight axis_weight weight_in joint joint_in joint_sum_in rounded estimate_in has is_other first_axis check_axes check_bits check_state content_at check_forward inside_at first_outside check_coordinates check_estimate
+unfolding above_zero is_reached absolute_reached absolute_sum margin absolute_sum_in surface_in product_in prod_to estimate_with_margin sum_to all choose vectors shell start points is_index indexed is_point ending rank digit position first_of number check_limits check_size check_shape points_of check_length mark_on level_on index_on block last_level level_of sum_at within level_at index_of index_at value_at first_failing total nearest_up nearest in_limit weighted weighted_sum unit is_coordinate distance weight axis_weight weight_in joint joint_in joint_sum_in rounded estimate_in has is_other first_axis check_axes check_bits check_state content_at check_forward inside_at first_outside check_coordinates check_estimate
 margins = ((refl, refl), (refl, refl), (refl, omega arith))

@@ -16,7 +16,7 @@ use Rattle.numbering.specs.Point.{is_index, indexed, is_point}
 use Rattle.numbering.specs.Number.{ending, rank, digit, position, first_of, number}
 use Rattle.numbering.specs.Inverse.{block, last_level, level_of, sum_at, within, level_at, index_of, index_at}
 use Rattle.hierarchy.specs.Turns.{value_at}
-use Rattle.shapes.specs.Shapes.{sparse, check_shape, points_of, check_length}
+use Rattle.shapes.specs.Shapes.{sparse, check_limits, check_size, check_shape, points_of, check_length}
 use Rattle.grids.specs.Grids.{mark_on, level_on, index_on}
 use Rattle.interpolation.specs.Weighted.{weighted, weighted_sum}
 use Rattle.surfaces.specs.Weights.{unit, is_coordinate, distance, weight, axis_weight, joint}
@@ -33,5 +33,5 @@ pub may_differ :
     × (estimate (adopted (sparse 2 0)) (pos 7 ∷ []) (each_times 16 (5900 ∷ 13000 ∷ [])) ≡ Ok (pos 1))
     × (estimate_in_unit old_unit (adopted (sparse 3 0)) (pos 22 ∷ []) (5000 ∷ 8000 ∷ 20000 ∷ []) ≡ Ok (pos 0))
     × (estimate (adopted (sparse 3 0)) (pos 22 ∷ []) (each_times 16 (5000 ∷ 8000 ∷ 20000 ∷ [])) ≡ Ok (pos 1))
-unfolding old_unit each_times sum_to all choose vectors shell start points is_index indexed is_point ending rank digit position first_of number check_shape points_of check_length mark_on level_on index_on block last_level level_of sum_at within level_at index_of index_at value_at first_failing total nearest_up nearest in_limit weighted weighted_sum unit is_coordinate distance weight axis_weight weight_in joint joint_in joint_sum_in rounded estimate_in has is_other first_axis check_axes check_bits check_state content_at check_forward inside_at first_outside check_coordinates check_estimate estimate_in_unit
+unfolding old_unit each_times sum_to all choose vectors shell start points is_index indexed is_point ending rank digit position first_of number check_limits check_size check_shape points_of check_length mark_on level_on index_on block last_level level_of sum_at within level_at index_of index_at value_at first_failing total nearest_up nearest in_limit weighted weighted_sum unit is_coordinate distance weight axis_weight weight_in joint joint_in joint_sum_in rounded estimate_in has is_other first_axis check_axes check_bits check_state content_at check_forward inside_at first_outside check_coordinates check_estimate estimate_in_unit
 may_differ = (refl, refl, refl, refl)

@@ -1,9 +1,10 @@
--- The starred lines of document 01, "Worked tables", with the cases of document 02, b), at the coordinates of e), and of g): a sort of example for each sort of
--- line, what it says, and the list of them.
+-- The starred lines of document 01, "Worked tables", with the cases of document 02, b), at the coordinates of e), of g) and of h): a sort of example for each sort
+-- of line, what it says, and the list of them.
 -- Assumes nothing.
-use Rattle.std.specs.Prelude.{◌≡◌, List, [], ◌∷◌, map, ℕ, ℤ, pos, negsuc, replicate, Ok}
+use Rattle.std.specs.Prelude.{◌≡◌, List, [], ◌∷◌, map, ℕ, ℤ, pos, negsuc, replicate, Ok, Err}
+use Rattle.refusals.specs.declared.Refusal.TheVariants.{TooManyPoints}
 use Rattle.shapes.specs.declared.Shape.{Shape}
-use Rattle.shapes.specs.Shapes.{sparse, with_border, counted}
+use Rattle.shapes.specs.Shapes.{sparse, with_border, points_of, counted}
 use Rattle.numbers.specs.Numbers.{number_of_point}
 use Rattle.states.specs.After.{left}
 use Rattle.tables.specs.Tables.{adopted, adopt}
@@ -13,6 +14,8 @@ use Rattle.estimates.specs.Estimates.{estimate as estimate_of}
 pub data Example : Type 0 where
   -- a shape has this many points
   count : Shape → ℕ → Example
+  -- a shape is refused as too large, and its formula gives this many points
+  too_large : Shape → ℕ → Example
   -- in a shape, the point of these marks, levels and indices has this number
   number : Shape → List ℕ → List ℕ → List ℕ → ℕ → Example
   -- rates of a shape have these coefficients
@@ -23,6 +26,7 @@ pub data Example : Type 0 where
 -- What an example says: the call's definition gives the value.
 abbrev pub Holds : Example → Type 0
 Holds (count s n) = counted s ≡ Ok n
+Holds (too_large s n) = (counted s ≡ Err TooManyPoints) × (points_of s ≡ n)
 Holds (number s ms ls is k) = number_of_point s ms ls is ≡ Ok k
 Holds (coefficients s rates xs) = rates_to_coefficients s rates ≡ left (Ok tt) xs
 Holds (estimate s xs x v) = (adopt s xs ≡ Ok (adopted s)) × (estimate_of (adopted s) xs x ≡ Ok v)
@@ -66,4 +70,24 @@ examples =
     ∷ estimate (with_border 1 1) (negsuc 3 ∷ pos 6 ∷ pos 2 ∷ pos 2 ∷ pos 18 ∷ []) (1048576 ∷ []) (pos 18)
     ∷ coefficients (with_border 2 0) (map pos (5 ∷ 2 ∷ 7 ∷ 3 ∷ 1 ∷ 4 ∷ 8 ∷ 6 ∷ 9 ∷ [])) nine_coefficients
     ∷ estimate (with_border 2 0) nine_coefficients (131072 ∷ 786432 ∷ []) (pos 15)
+    ∷ count (sparse 1 8) 511
+    ∷ count (sparse 2 8) 4097
+    ∷ count (sparse 3 8) 18943
+    ∷ count (sparse 4 7) 23297
+    ∷ too_large (sparse 4 8) 65537
+    ∷ count (sparse 5 6) 18943
+    ∷ too_large (sparse 5 7) 61183
+    ∷ count (sparse 6 5) 10625
+    ∷ too_large (sparse 6 6) 40193
+    ∷ count (sparse 7 5) 18943
+    ∷ too_large (sparse 7 6) 78079
+    ∷ count (sparse 8 5) 31745
+    ∷ too_large (sparse 8 6) 141569
+    ∷ too_large (sparse 8 8) 2228225
+    ∷ count (with_border 1 8) 513
+    ∷ count (with_border 2 8) 6145
+    ∷ count (with_border 3 7) 21249
+    ∷ too_large (with_border 3 8) 49665
+    ∷ count (with_border 4 5) 20481
+    ∷ too_large (with_border 4 6) 52993
     ∷ []

@@ -8,7 +8,7 @@ pub mod turns;
 #[cfg(test)]
 mod oracle;
 
-use super::grid::BINOMIAL;
+use super::grid::{BINOMIAL, MOST_POINTS};
 
 /// The most axes, and the most faces.
 pub const AXES: usize = 4;
@@ -138,12 +138,14 @@ pub fn start(axes: usize, level: u32, face: &Face) -> u32 {
     LAYERS[axes][level as usize][axes - face.count] + face.rank * points_on(face.count, level)
 }
 
-/// Refusal 1 or 2, else nothing.
+/// Refusal 1, 2 or 19, else nothing.
 pub fn check_shape(axes: u32, level: u32) -> Option<u32> {
     if axes == 0 || axes > AXES as u32 {
         Some(1)
     } else if level > 8 {
         Some(2)
+    } else if u64::from(count(axes as usize, level)) > MOST_POINTS {
+        Some(19)
     } else {
         None
     }

@@ -10,7 +10,7 @@ use Rattle.evaluation.proofs.Lists.{Walks, walks_inner, walks_none, whole_border
 use Rattle.evaluation.proofs.Tabulating.{HatsAt, marked_hats}
 use Rattle.evaluation.proofs.Walking.{high_room, low_room, summed_ends}
 use Rattle.evaluation.proofs.Reaching.{tallied_ends}
-use Rattle.evaluation.proofs.Stepping.{Next, levels_small, list_size, list_within, table_small, bounded, place_read, place_small, weight_in_lem, value_in, value_fits, stepped, counted}
+use Rattle.evaluation.proofs.Stepping.{Next, levels_small, list_size, list_within, bounded, place_read, place_small, weight_in_lem, value_in, value_fits, stepped, counted}
 use Rattle.evaluation.proofs.Facing.{face_of, face_in_row, face_inner, face_marks, next_layer, first_face, past_faces, lists_passed, to_first, face_starts, marks_here, face_next, count_next, face_ends, all_faces_end}
 use Rattle.evaluation.proofs.summed_over_faces.Goals.{then-inner-eq0, else-inner-eq0, After-first-vector, In-loop-vector}
 use Rattle.evaluation.proofs.summed_over_faces.Goals as goal
@@ -102,7 +102,7 @@ add-requires c =
 pub overflow_add-first : goal.overflow_add-first
 overflow_add-first c =
     let n = next (goal.at.overflow_add-first c).In-loop-vector in
-    record { fits = omega (arith, list_size n, list_within n, c.requires.0.long, table_small n) }
+    record { fits = omega (arith, list_size n, list_within n, c.requires.0.long, c.requires.0.small) }
 
 pub loop-vector-smaller : goal.loop-vector-smaller
 loop-vector-smaller c =

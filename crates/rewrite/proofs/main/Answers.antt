@@ -5,6 +5,7 @@ use Rattle.refusals.specs.declared.Refusal.{Refusal}
 use mathlib.Core.Path.{◌≡◌, sym, ap, ◌∙◌}
 use Prim.Native.Nat.{◌≤◌}
 use lib.ListN.{length, take}
+use Rattle.shapes.specs.Shapes.{most_points}
 use Rattle.house_writer.specs.Writing.{AfterWriting, after_writing}
 use Rattle.house_writer.specs.Rewriting.{rewrite_file}
 use Rattle.house_writer.proofs.OneForm.{form_within}
@@ -19,9 +20,9 @@ within : (c : In-Ok) →
 within c =
     let size = c.in-Ok.size in
     let called = c.rewrite in
-    let left : after_writing (Ok size) called.new.out ≡ rewrite_file 32768 _ _ =
+    let left : after_writing (Ok size) called.new.out ≡ rewrite_file most_points _ _ =
     ap (λ (a : Result ℕ Refusal). after_writing a called.new.out) (sym c.in-Ok.is) ∙ called.ensures in
-    rw (ap (λ (a : AfterWriting). a.out) left) (form_within 32768 _ _ size (sym (ap (λ (a : AfterWriting). a.answer) left)))
+    rw (ap (λ (a : AfterWriting). a.out) left) (form_within most_points _ _ size (sym (ap (λ (a : AfterWriting). a.answer) left)))
 
 pub slice_bounds-out-end : goal.slice_bounds-out-end
 slice_bounds-out-end c = (within (goal.at.slice_bounds-out-end c).In-Ok).0

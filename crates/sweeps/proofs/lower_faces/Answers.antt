@@ -83,7 +83,7 @@ overflow_add-odd c =
           (down_face c.args.line c.args.table.now c.requires.1.0 c.requires.0 (c.loop-f.f - 1) (below seen) (so_far seen) c.in-Some.facet (there seen)
           c.lower_face-odd.result c.lower_face-odd.new.table
           c.lower_face-odd.ensures.walked c.lower_face-odd.ensures.turned c.lower_face-odd.ensures.odds),
-      rw (there seen).1 at c.in-Some.facet.sits.small,
+      rw (there seen).1 at c.in-Some.facet.line.small,
     )
 
 pub loop-f-preserved-in-Some : goal.loop-f-preserved-in-Some

@@ -67,7 +67,7 @@ overflow_add-odd c =
       raising_few facet _ c.requires.0 (done (goal.at.overflow_add-odd c).After-work-odd),
       raising_inside facet _ c.requires.0 s.0 s.2,
       facet.sits.inside,
-      facet.sits.small,
+      facet.line.small,
     )
 
 -- ---- after the last

@@ -46,7 +46,7 @@ overflow_add-odd c =
           c.raise_face-odd.result c.raise_face-odd.new.table
           c.raise_face-odd.ensures.walked c.raise_face-odd.ensures.turned c.raise_face-odd.ensures.odds)
           (below seen),
-      rw (there seen).1 at c.in-Some.facet.sits.small,
+      rw (there seen).1 at c.in-Some.facet.line.small,
     )
 
 pub loop-f-preserved : goal.loop-f-preserved

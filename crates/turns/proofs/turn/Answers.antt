@@ -61,7 +61,7 @@ overflow_sub-line g c = (may g (goal.at.overflow_sub-line g c).In_ok-check_turn)
 pub invariant_of-line : goal.invariant_of-line
 invariant_of-line g c =
     let m = may g (goal.at.invariant_of-line g c).In_ok-check_turn in
-    record { few = m.range.high; top = m.range.top; most = m.range.most; axis = place_of m }
+    record { few = m.range.high; top = m.range.top; most = m.range.most; small = m.range.small; axis = place_of m }
 
 pub try_on-requires : goal.try_on-requires
 try_on-requires g c =

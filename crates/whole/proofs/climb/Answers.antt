@@ -19,7 +19,7 @@ lower-requires c =
 pub invariant_of-line : goal.invariant_of-line
 invariant_of-line c =
     let range = passed_in_range c.args.shape c.requires.shape in
-    record { few = range.high; top = range.top; most = range.most; axis = c.loop-k-test.true }
+    record { few = range.high; top = range.top; most = range.most; small = range.small; axis = c.loop-k-test.true }
 
 pub loop-k-preserved : goal.loop-k-preserved
 loop-k-preserved c =

@@ -10,7 +10,7 @@ use Rattle.whole.proofs.descend.Goals as goal
 pub invariant_of-line : goal.invariant_of-line
 invariant_of-line c =
     let range = passed_in_range c.args.shape c.requires.shape in
-    record { few = range.high; top = range.top; most = range.most; axis = omega (arith, c.loop-k.auto.k, c.loop-k-test.true) }
+    record { few = range.high; top = range.top; most = range.most; small = range.small; axis = omega (arith, c.loop-k.auto.k, c.loop-k-test.true) }
 
 pub returns-then-not-try_on : goal.returns-then-not-try_on
 returns-then-not-try_on c =

@@ -16,7 +16,7 @@ pub overflow_add-places : goal.overflow_add-places
 overflow_add-places c =
     let f = c.args.facet in
     let small = start_small f.axes (omega (arith, f.inner)) f.few c.loop-s.s (omega (arith, f.line.top)) in
-    omega (arith, small, c.start.ensures, f.sits.inside, f.sits.small)
+    omega (arith, small, c.start.ensures, f.sits.inside, f.line.small)
 
 pub loop-s-preserved : goal.loop-s-preserved
 loop-s-preserved c =

@@ -11,7 +11,7 @@ pub further-requires : goal.further-requires
 further-requires c =
     let v = c.args.v in
     let low = v.facet.sits.low c.in-Some.rims c.in-Some.is in
-    let small = v.facet.sits.small in
+    let small = v.facet.line.small in
     let first = left_small v in
     (omega (arith, low.0, small, first, c.first_without.ensures), omega (arith, low.1, small, first, c.first_without.ensures))
 

@@ -15,7 +15,7 @@ use Rattle.faces.proofs.Packing.{before_borders, place_lt}
 use Rattle.faces.proofs.Row.{mark_of_low, inner_of_marks, face_inside}
 use Rattle.layouts.proofs.Upper.{upper_start}
 use Rattle.shapes.specs.Shapes.{most_axes}
-use Rattle.shapes.proofs.Layers.{border_points_small}
+use Rattle.shapes.proofs.Layers.{points_bordered}
 use Rattle.layouts.specs.Layouts.{IsFace}
 use Rattle.neighbours.proofs.Faced.{faced_by, placed_by, few_inner}
 use Rattle.neighbours.proofs.facets.Facet.of_face.Goals.{After-face-face, After-inner_before-place, After-lower_to_upper}
@@ -124,7 +124,8 @@ overflow_add-upper c =
         arith,
         upper_is seen.After-lower_to_upper,
         face_inside s.axes s.level (update (at c.face-face.result.marks) c.args.line.place 2) marks,
-        border_points_small s.axes s.level (few seen.After-face-face) c.args.line.top,
+        points_bordered s c.requires.0,
+        c.args.line.small,
       );
     }
 

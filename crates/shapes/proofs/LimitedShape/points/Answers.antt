@@ -1,11 +1,11 @@
--- `CheckedShape::points` meets its contract: N counts the points of all faces, or those with a level sum up to the top level.
+-- `LimitedShape::points` meets its contract: N counts the points of all faces, or those with a level sum up to the top level.
 -- Assumes nothing.
 use mathlib.Core.Path.{ap, sym, ◌∙◌}
 use native.Mathlib.Numerals.{add-one}
 use Rattle.numbering.specs.Count.{start}
 use Rattle.numbering.proofs.Numbering.{points_is}
 use Rattle.shapes.proofs.Layers.{points_plain, points_bordered}
-use Rattle.shapes.proofs.CheckedShape.points.Goals as goal
+use Rattle.shapes.proofs.LimitedShape.points.Goals as goal
 
 pub returns-else-border : goal.returns-else-border
 returns-else-border c =
