@@ -8,6 +8,7 @@ from math import prod
 
 LIMIT = 2 ** 47
 LEAST, MOST = -2 ** 31, 2 ** 31 - 1
+MOST_POINTS = 32768  # of a table of either sort, as request h has it
 UNIT = 2 ** 20  # of coordinates and weights
 OLD_UNIT = 2 ** 16  # the same before request e
 
@@ -79,9 +80,15 @@ def choose(n, k):
 
 
 def size(d, n, border=False):
+    """N of any shape, also of one that is too large; with border values the sum over its faces, by how many inner axes they have."""
     if border:
-        return len(points(d, n, True))
+        return sum(choose(d, k) * 2 ** (d - k) * (size(k, n) if k else 1) for k in range(d + 1))
     return sum(2 ** j * choose(d - 1 + j, j) for j in range(n + 1))
+
+
+def too_large(d, n, border=False):
+    """Request h, of d and n that are in range: a table of more points is refused with 19."""
+    return size(d, n, border) > MOST_POINTS
 
 
 # ---- turns

@@ -1,12 +1,12 @@
 #!/usr/bin/env python3
 """The sample files of crates/house_files (its data/) and what the program has to print of them (its stdout), made without its code: document 01's
-rules for house files, word by word. `house_files.py FOLDER` writes both; the seed is fixed, so that it writes the same each time. For rewriting.py:
+rules for house files, word by word, and request h's limit. `house_files.py FOLDER` writes both; the seed is fixed, so that it writes the same each time. For rewriting.py:
 the one form of a house file, by document 02's words."""
 import os
 import random
 import sys
 
-from grid import LEAST, MOST, points, size, table_of_set
+from grid import LEAST, MOST, MOST_POINTS, points, size, table_of_set, too_large
 
 PLACES = 8192
 TOP = 2 ** 32 - 1
@@ -43,6 +43,8 @@ def table(data, places=PLACES):
         raise Refused(1)
     if n > 8:
         raise Refused(2)
+    if too_large(d, n):
+        raise Refused(19)
     if size(d, n) > places:
         raise Refused(3)
     rates = []
@@ -206,9 +208,19 @@ def large(draw):
     yield EXAMPLE + bytes(40965) + hexed("80 80 80 80 80 80")
 
 
+def limit():
+    """More than 32,768 points: 19, where the file ends after d and n and where it does not. With a top level less it is 3, as some of shapes() have it."""
+    for d, n in [(4, 8), (6, 6), (8, 6)]:
+        assert too_large(d, n) and PLACES < size(d, n - 1) <= MOST_POINTS
+        yield groups(d) + groups(n)
+    yield groups(8) + groups(8)
+    yield groups(7, 5) + groups(6, 5) + hexed("80")
+    yield groups(5) + groups(7) + bytes(300)
+
+
 def samples():
     draw = random.Random(20261116)
-    for kind in [told(), cut(), damaged(), shapes(), left_over(), extremes(), drawn(draw), spoilt(draw), large(draw)]:
+    for kind in [told(), cut(), damaged(), shapes(), left_over(), extremes(), drawn(draw), spoilt(draw), large(draw), limit()]:
         yield from kind
 
 

@@ -7,10 +7,9 @@ import subprocess
 import sys
 import tempfile
 
-from grid import LEAST, MOST, size
+from grid import LEAST, MOST, MOST_POINTS as PLACES, size
 from house_files import TOO_LONG, file_of, groups, rewritten
 
-PLACES = 32768
 FOLDER = os.path.join(os.path.dirname(os.path.abspath(__file__)), "..", "crates", "house_files", "data")
 SHAPES = [(d, n) for d in range(1, 9) for n in range(9)]
 
@@ -100,6 +99,8 @@ if __name__ == "__main__":
     refused = accepted = 0
     for name, data in files():
         expected = rewritten(data, PLACES)
+        # there is a place for each point of every table that is not too large
+        assert expected[1] != b"refused 3\n"
         why = wrong(sys.argv[1], data, expected)
         if why:
             raise SystemExit("tests/rewriting.py: %s (%d bytes): %s" % (name, len(data), why))

@@ -1,6 +1,6 @@
 #!/usr/bin/env python3
 """The calls that crates/sample_calls is handed (its stdin) and what it has to print (its stdout), made without its code by the rules of documents 01 and 02
-and requests e and g (grid.py): the worked values, the edges of the types, then pseudo-random calls, and the same on tables with border values.
+and requests e, g and h (grid.py): the worked values, the edges of the types, then pseudo-random calls, and the same on tables with border values.
 `sample_calls.py FOLDER` writes both files.
 
 A state is read as s and d, n, the flag, the set and the lengths of four lists, and printed as the set, d, n and the flag. The four lists are marks m, levels
@@ -14,8 +14,8 @@ from functools import lru_cache
 from itertools import product
 from math import ceil
 
-from grid import (LEAST, LIMIT, MOST, OLD_UNIT, UNIT, back, estimate, forward, joint, key, level, margin, mark, points, position, rates_of, size, table_of_set,
-                  vectors)
+from grid import (LEAST, LIMIT, MOST, OLD_UNIT, UNIT, back, estimate, forward, joint, key, level, margin, mark, points, position, rates_of, size,
+                  table_of_set, too_large, vectors)
 
 PAST = LIMIT + 1
 # what a division leaves: nothing, a half, and one to either side of both
@@ -25,7 +25,7 @@ MIN, MAX = -2 ** 63, 2 ** 63 - 1
 WIDE = 2 ** 64 - 1
 
 
-# ---- points by number, also of shapes with too many to list
+# ---- points by number, also of shapes with many
 
 @lru_cache(None)
 def first_numbers(d, n):
@@ -42,6 +42,7 @@ def first_numbers(d, n):
 def numbered(d, n):
     """The points of a table with border values, by what names them, and the other way."""
     named = [([mark(c) for c in at], [0 if mark(c) else level(c) for c in at], [1 if mark(c) else c.numerator for c in at]) for at in points(d, n, True)]
+    assert len(named) == size(d, n, True)
     return named, {tuple(map(tuple, lists)): k for k, lists in enumerate(named)}
 
 
@@ -72,12 +73,19 @@ for shape in [(1, 4), (2, 3), (3, 3), (8, 1)]:
 
 # ---- answers: text, or (number, place) of a refusal
 
-def no_shape(d, n, border):
-    return (1, 0) if not 1 <= d <= (4 if border else 8) else (2, 0) if n > 8 else None
+def no_shape(d, n, border, bits=0):
+    """1, 2, of a state 14, and 19."""
+    if not 1 <= d <= (4 if border else 8):
+        return 1, 0
+    if n > 8:
+        return 2, 0
+    if bits >> d:
+        return 14, 0
+    return (19, 0) if too_large(d, n, border) else None
 
 
 def no_state(d, n, border, bits, table):
-    return no_shape(d, n, border) or ((14, 0) if bits >> d else None) or ((3, 0) if len(table) != size(d, n, border) else None)
+    return no_shape(d, n, border, bits) or ((3, 0) if len(table) != size(d, n, border) else None)
 
 
 def no_table(d, n, border, table):
@@ -300,10 +308,11 @@ def worked(sheet):
     def printed(text):
         assert sheet.printed[-2:] == [" " + text, "\n"], sheet.printed[-2:]
 
-    for d, n, count in [(1, 0, 1), (2, 2, 17), (3, 2, 31), (1, 8, 511), (2, 3, 49), (8, 4, 6401), (8, 5, 31745), (8, 8, 2228225)]:
+    for d, n, count in [(1, 0, 1), (2, 2, 17), (3, 2, 31), (1, 8, 511), (2, 3, 49), (8, 4, 6401), (8, 5, 31745), (8, 6, "refused 19 0")]:
         sheet.state(d, n)
         sheet.count()
         printed(str(count))
+    assert size(8, 8) == 2228225
     sheet.named(2, 3, [1, 2], [3, 1])
     sheet.number()
     printed("34")
@@ -359,11 +368,11 @@ def edges_of_points(sheet):
         sheet.state(d, n)
         sheet.count()
         sheet.point(WIDE)
-    last, ones = [0] * 7 + [8], [1] * 7
+    last, ones = [0] * 7 + [5], [1] * 7
     for d, n, levels, indices in [
             (2, 3, [0, 0], [1, 1]), (2, 3, [0, 2], [1, 7]), (2, 3, [1, 2], [3, 7]), (2, 3, [0, 3], [1, 15]), (1, 8, [8], [511]), (1, 8, [8], [257]),
-            (8, 8, last, ones + [509]), (8, 8, last, ones + [511]), (1, 0, [0], [1]), (8, 0, [0] * 8, [1] * 8),
-            (2, 3, [1], [3, 1]), (2, 3, [1, 2], [3]), (2, 3, [1, 2, 0], [3, 1, 1]), (2, 3, [], [0, TOP]), (2, 3, [TOP, 1], [0]), (8, 8, [0] * 9, [1] * 9),
+            (8, 5, last, ones + [61]), (8, 5, last, ones + [63]), (1, 0, [0], [1]), (8, 0, [0] * 8, [1] * 8),
+            (2, 3, [1], [3, 1]), (2, 3, [1, 2], [3]), (2, 3, [1, 2, 0], [3, 1, 1]), (2, 3, [], [0, TOP]), (2, 3, [TOP, 1], [0]), (8, 5, [0] * 9, [1] * 9),
             (2, 3, [2, 2], [1, 1]), (2, 3, [200, 0], [1, 1]), (2, 3, [TOP, 4], [1, 1]), (2, 3, [2 ** 31, 2 ** 31], [1, 1]), (1, 8, [9], [1]), (1, 8, [32], [1]),
             (2, 3, [1, 2], [2, 1]), (2, 3, [1, 2], [3, 0]), (2, 3, [1, 2], [5, 1]), (2, 3, [1, 2], [3, TOP]), (1, 8, [8], [513]), (2, 3, [0, 0], [3, 1]),
             (0, 3, [], []), (9, 9, [200], [0]), (2, 9, [200], [0])]:
@@ -375,7 +384,7 @@ def edges_of_points(sheet):
     sheet.named(2, 3, [200], [0, 0, 0])
     for axis in (0, 3, TOP):
         sheet.parents(axis)
-    for d, n, number in [(2, 3, 0), (2, 3, 48), (2, 3, 49), (2, 3, 2 ** 32 + 34), (1, 0, 0), (1, 0, 1), (8, 8, 2228224), (8, 8, 2228225), (8, 8, 2 ** 32)]:
+    for d, n, number in [(2, 3, 0), (2, 3, 48), (2, 3, 49), (2, 3, 2 ** 32 + 34), (1, 0, 0), (1, 0, 1), (8, 5, 31744), (8, 5, 31745), (8, 5, 2 ** 32)]:
         sheet.state(d, n)
         sheet.point(number)
     full = [TOP] * 8
@@ -448,6 +457,58 @@ def edges_of_estimates(sheet):
                 for sign in 1, -1:
                     sheet.state(d, 0, 2 ** d - 1, at, (), [sign * (whole * UNIT + left)])
                     sheet.estimate()
+
+
+def edges_of_the_limit(sheet):
+    """Every call on tables that are too large, with later refusals matching too, and with 14, which comes before; the largest that are not."""
+    for border, tops in [(0, [8, 8, 8, 7, 6, 5, 5, 5]), (255, [8, 8, 7, 5])]:
+        for d, top in enumerate(tops, 1):
+            for n in range(top, 9):
+                sheet.state(d, n, border=border)
+                sheet.count()
+                assert (sheet.printed[-2] == " refused 19 0") == (n > top)
+                assert size(d, n, border) % 2 == 1  # so that none has 32,768 points
+            sheet.state(d, top, border=border)
+            sheet.point(size(d, top, border) - 1)
+            sheet.point(size(d, top, border))
+    for d, n, border in [(8, 6, 0), (8, 8, 0), (6, 6, 0), (4, 8, 0), (3, 8, 1), (4, 6, 128)]:
+        for number in 0, WIDE:
+            sheet.state(d, n, border=border)
+            sheet.point(number)
+        for levels, indices, axis in ([0] * d, [1] * d, 1), ([TOP], [], 0):
+            sheet.named(d, n, levels, indices, None, border)
+            sheet.number()
+            sheet.successor()
+            sheet.parents(axis)
+        # one place: what 16 bits hold of 65,537 points
+        for bits, table in [(0, [1]), (2 ** d - 1, [PAST] * 3)] + ([(1 << d, [PAST] * 3), (128 + 1, [1])] if d < 8 else []):
+            sheet.state(d, n, bits, [UNIT + 1], (), table, border)
+            sheet.forward(1)
+            sheet.back(0)
+            sheet.unload()
+            sheet.estimate()
+            sheet.run([0, 0, 1, 255], [1, 1, 2, 2][bits % 2:])
+            sheet.show()
+        for table in [0], [PAST] * 3:
+            sheet.state(d, n, 0, (), (), table, border)
+            for call in Sheet.load, Sheet.adopt, Sheet.to_coefficients, Sheet.to_rates, Sheet.show:
+                call(sheet)
+        # 1 and 2 come before
+        for other in (9, n), (d, 9):
+            sheet.state(*other, 255, [UNIT + 1], (), [PAST], border)
+            sheet.count()
+            sheet.forward(0)
+    # 3 next, where all that comes later matches too
+    for d, n, border in [(8, 5, 0), (4, 7, 0), (3, 7, 1), (4, 5, 1)]:
+        sheet.state(d, n, 2 ** d - 1, [UNIT + 1], (), [PAST], border)
+        sheet.forward(0)
+        sheet.back(0)
+        sheet.unload()
+        sheet.estimate()
+        sheet.load()
+        sheet.adopt()
+        sheet.to_coefficients()
+        sheet.to_rates()
 
 
 # ---- pseudo-random calls
@@ -729,10 +790,11 @@ if __name__ == "__main__":
         from_rates(draw, sheet, d, n)
         for kind in "wide", "fours", "ends":
             from_contents(draw, sheet, d, n, kind)
-    random_points(draw, sheet, 8, 8)
+    random_points(draw, sheet, 8, 5)
     for d, n in [(2, 0), (2, 1), (2, 2), (3, 1), (5, 1), (8, 1)]:
         about_halves(draw, sheet, d, n)
     bordered(sheet, Drawn(6364136223846793005))
+    edges_of_the_limit(sheet)
     for name, text in ("stdin", sheet.asked), ("stdout", sheet.printed):
         with open(os.path.join(sys.argv[1], name), "w") as out:
             out.write("".join(text))

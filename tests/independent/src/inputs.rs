@@ -4,6 +4,7 @@ use crate::draw::Draw;
 use crate::model::estimates::{OLD_UNIT, UNIT};
 use crate::model::grid::{count, grid};
 use crate::model::turns::{forward_of, turn_table};
+use crate::model::{self, MOST_POINTS};
 
 pub const LIMIT: i64 = 1 << 47;
 
@@ -21,7 +22,17 @@ pub fn good_shape(draw: &mut Draw, most: u64) -> (u32, u32) {
     }
 }
 
-/// A shape that is mostly one.
+/// A shape of more than 32,768 points.
+pub fn too_large(draw: &mut Draw) -> (u32, u32) {
+    loop {
+        let (axes, level) = (1 + draw.below(8) as u32, draw.below(9) as u32);
+        if count(axes, level) > MOST_POINTS {
+            return (axes, level);
+        }
+    }
+}
+
+/// A shape that is mostly one, and now and then too large.
 pub fn shape(draw: &mut Draw, most: u64) -> (u32, u32) {
     let (axes, level) = good_shape(draw, most);
     let bad_axes = [0, 9, 10, 16, 255, 256, 256 + axes, 65_536 + axes, 1 << 31, (1 << 31) + axes, u32::MAX];
@@ -30,15 +41,17 @@ pub fn shape(draw: &mut Draw, most: u64) -> (u32, u32) {
         0 => (draw.of(&bad_axes), level),
         1 => (axes, draw.of(&bad_level)),
         2 if draw.one_in(3) => (draw.of(&bad_axes), draw.of(&bad_level)),
+        3 => too_large(draw),
         _ => (axes, level),
     }
 }
 
+/// Whether a shape is none of refusals 1, 2 and 19.
 pub fn is_shape(axes: u32, level: u32) -> bool {
-    (1..=8).contains(&axes) && level <= 8
+    model::shape(axes, level).is_ok()
 }
 
-/// How many places a table of this shape is handed in with: mostly N.
+/// How many places a table of this shape is handed in with: mostly N, and a few where the shape is refused.
 pub fn places(draw: &mut Draw, axes: u32, level: u32) -> usize {
     if !is_shape(axes, level) {
         return draw.index(40);
@@ -47,7 +60,7 @@ pub fn places(draw: &mut Draw, axes: u32, level: u32) -> usize {
     if !draw.one_in(10) {
         return n;
     }
-    let other = |a: u32, l: u32| if is_shape(a, l) && count(a, l) <= 40_000 { count(a, l) as usize } else { 0 };
+    let other = |a: u32, l: u32| if is_shape(a, l) { count(a, l) as usize } else { 0 };
     let near = [0, 1, n - 1, n + 1, n / 2, 2 * n, n + 8];
     let of_others = [other(axes + 1, level), other(axes - 1, level), other(axes, level + 1)];
     if draw.one_in(3) {

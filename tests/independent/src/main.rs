@@ -15,8 +15,8 @@ mod report;
 mod wrapper;
 
 use checks::{
-    border, bordered, components, edges, estimates, exhaustive, faults, files, finer, lists, margin_misreadings, margins,
-    misreadings, orders, points, rates, rounding, runs, threads, turns, walks, worked, writes,
+    border, bordered, components, edges, estimates, exhaustive, faults, files, finer, lists, margin_misreadings,
+    margins, misreadings, orders, points, rates, rounding, runs, threads, turns, walks, worked, writes,
 };
 use draw::Draw;
 use report::Report;
@@ -35,26 +35,26 @@ fn setting(name: &str, usual: u64) -> u64 {
 /// What each call can answer on shapes without border values, as refusal numbers, 0 for success: all of it has to have been
 /// met.
 const ANSWERS: [(&str, &[u32]); 20] = [
-    ("count", &[0, 1, 2]),
-    ("number", &[0, 1, 2, 7, 9]),
-    ("successor", &[0, 1, 2, 7, 9]),
-    ("point", &[0, 1, 2, 6]),
-    ("parent", &[0, 1, 2, 5, 7, 9]),
-    ("load", &[0, 1, 2, 3, 4]),
-    ("adopt", &[0, 1, 2, 3, 10]),
-    ("forward", &[0, 1, 2, 14, 3, 5, 15, 10]),
-    ("back", &[0, 1, 2, 14, 3, 5, 16, 10]),
-    ("unload", &[0, 1, 2, 14, 3, 18, 10]),
-    ("whole forward", &[0, 1, 2, 3, 4]),
-    ("whole back", &[0, 1, 2, 3, 10]),
+    ("count", &[0, 1, 2, 19]),
+    ("number", &[0, 1, 2, 19, 7, 9]),
+    ("successor", &[0, 1, 2, 19, 7, 9]),
+    ("point", &[0, 1, 2, 19, 6]),
+    ("parent", &[0, 1, 2, 19, 5, 7, 9]),
+    ("load", &[0, 1, 2, 19, 3, 4]),
+    ("adopt", &[0, 1, 2, 19, 3, 10]),
+    ("forward", &[0, 1, 2, 14, 19, 3, 5, 15, 10]),
+    ("back", &[0, 1, 2, 14, 19, 3, 5, 16, 10]),
+    ("unload", &[0, 1, 2, 14, 19, 3, 18, 10]),
+    ("whole forward", &[0, 1, 2, 19, 3, 4]),
+    ("whole back", &[0, 1, 2, 19, 3, 10]),
     ("component", &[0, 1, 2, 19, 3, 4]),
-    ("run", &[0, 1, 2, 14, 3, 7]),
-    ("estimate", &[0, 1, 2, 14, 3, 17, 7, 8, 10]),
-    ("margin", &[0, 1, 2, 14, 3, 17, 7, 8, 10]),
-    ("read", &[0, 11, 12, 1, 2, 3, 13]),
-    ("write", &[0, 1, 2, 3, 4]),
-    ("rewrite", &[0, 11, 12, 1, 2, 3, 13]),
-    ("file shape", &[0, 11, 12, 1, 2]),
+    ("run", &[0, 1, 2, 14, 19, 3, 7]),
+    ("estimate", &[0, 1, 2, 14, 19, 3, 17, 7, 8, 10]),
+    ("margin", &[0, 1, 2, 14, 19, 3, 17, 7, 8, 10]),
+    ("read", &[0, 11, 12, 1, 2, 19, 3, 13]),
+    ("write", &[0, 1, 2, 19, 3, 4]),
+    ("rewrite", &[0, 11, 12, 1, 2, 19, 3, 13]),
+    ("file shape", &[0, 11, 12, 1, 2, 19]),
 ];
 
 fn main() {
@@ -84,6 +84,7 @@ fn main() {
     edges::of_writes(&mut draw, &mut report);
     edges::of_rewrites(&mut draw, &mut report);
     edges::of_file_shapes(&mut draw, &mut report);
+    writes::too_large(&mut draw, &mut report);
     step(&clock, "each call at its edges");
 
     faults::all(&mut Draw::new(seed ^ 0x6661_756c_7473), &mut report, with_large);
@@ -157,7 +158,7 @@ fn main() {
         & misreadings_shown(&report, "a margin", margin_misreadings::names())
         & orders::print(&shown)
         & lists::print(&listed)
-        & misreadings_shown(&report, "the request for border values", bordered::readings());
+        & misreadings_shown(&report, "the requests for border values and for a limit", bordered::readings());
     if count >= COUNT {
         met &= all_met(&report, &ANSWERS) & all_met(&report, &bordered::ANSWERS);
     }
@@ -309,7 +310,7 @@ fn component_grids(draw: &mut Draw, report: &mut Report, rounds: u64) -> Vec<ord
 
 /// Tables that are too large to be drawn often.
 fn large(draw: &mut Draw, report: &mut Report) {
-    for (axes, level) in [(8, 5), (4, 7), (3, 8), (6, 6)] {
+    for (axes, level) in [(8, 5), (4, 7), (3, 8), (5, 6), (7, 5)] {
         let all = inputs::all_bits(axes);
         let coefficients = inputs::contents(draw, axes, level, all);
         rates::coefficients_to_rates(draw, report, axes, level, &coefficients);
@@ -326,23 +327,28 @@ fn large(draw: &mut Draw, report: &mut Report) {
         let table = inputs::contents(draw, axes, level, all);
         turns::turn(draw, report, true, axes, level, all, &table, axis);
         for _ in 0..400 {
-            points::random(draw, report, 40_000);
+            points::random(draw, report, model::MOST_POINTS as u64);
         }
     }
-    writes::large_shapes(draw, report, 7_000);
+    for axes in 1..=8 {
+        for level in (0..=8).filter(|&level| inputs::is_shape(axes, level)) {
+            if model::grid::count(axes, level) > 7_000 {
+                walks::walk(report, axes, level);
+                writes::large_shape(draw, report, axes, level);
+            }
+        }
+    }
     largest(draw, report);
     components::large(draw, report);
-    for (axes, level) in [(8, 5), (4, 7), (3, 8), (6, 6)] {
+    for (axes, level) in [(8, 5), (4, 7), (3, 8), (5, 6), (6, 5), (7, 5)] {
         components::beside_sparse(report, axes, level, &components::lists_within(axes as usize, level));
     }
-    components::beside_sparse(report, 8, 8, &[vec![1; 8], vec![0, 2, 0, 2, 0, 2, 0, 2], vec![8, 0, 0, 0, 0, 0, 0, 0]]);
 }
 
-/// The largest table of all, 2,228,225 points.
+/// The largest table, 31,745 points: what is not done with it above.
 fn largest(draw: &mut Draw, report: &mut Report) {
-    let (axes, level) = (8, 8);
+    let (axes, level) = (8, 5);
     let n = model::grid::count(axes, level) as usize;
-    walks::walk(report, axes, level);
     let rates = inputs::rates(draw, n);
     rates::load(draw, report, axes, level, &rates);
     let loaded: Vec<i64> = rates.iter().map(|&r| r << axes).collect();
@@ -359,16 +365,16 @@ fn largest(draw: &mut Draw, report: &mut Report) {
     largest_sum(draw, report);
 }
 
-/// The largest S: 12,870 points, one for each level list, with 2^47 each; (d − 1) × S has 64 bits.
+/// The largest S: 1,287 points, one for each level list, with 2^47 each; (d − 1) × S has 61 bits.
 fn largest_sum(draw: &mut Draw, report: &mut Report) {
-    let (axes, level) = (8, 8);
+    let (axes, level) = (8, 5);
     let n = model::grid::count(axes, level) as usize;
     let ends = [inputs::LIMIT, -inputs::LIMIT];
     let either: Vec<i64> = (0..n).map(|_| draw.of(&ends)).collect();
     for table in [vec![ends[0]; n], either] {
         let thirds: Vec<u32> = (0..axes).map(|_| draw.of(&[inputs::END / 3, inputs::END - inputs::END / 3])).collect();
         let got = estimates::answered(draw, report, axes, level, 255, &table, &thirds).with_margin;
-        let want = Ok((12_870 << 47, (7 * 12_870 << 27) + 1));
+        let want = Ok((1_287 << 47, (7 * 1_287 << 27) + 1));
         let say = || format!("axes {axes} level {level} coordinates {thirds:?}");
         report.same("margin", "the largest S", &want, &got.map(|found| (found.absolute_sum, found.margin)), &say);
     }

@@ -10,13 +10,11 @@ use crate::lent::Lent;
 use crate::model::component as model;
 use crate::model::component::{count, Grid};
 use crate::model::grid::{count as sparse_count, grid as sparse_grid};
+use crate::model::MOST_POINTS as LIMIT;
 use crate::report::Report;
 use numolefays::{component_coefficients, Shape};
 
 const CALL: &str = "component";
-
-/// The most points that a grid may have.
-const LIMIT: u128 = 32_768;
 
 pub fn component(draw: &mut Draw, report: &mut Report, levels: &[u32], table: &[i64]) {
     let want = model::coefficients(levels, table);

@@ -42,7 +42,11 @@ pub fn of_points(draw: &mut Draw, report: &mut Report) {
         (1, 8),
         (8, 4),
         (8, 5),
+        (4, 7),
+        // 19
+        (8, 6),
         (8, 8),
+        (4, 8),
     ];
     for (axes, level) in shapes {
         points::count_of(draw, report, axes, level);
@@ -66,9 +70,16 @@ pub fn of_points(draw: &mut Draw, report: &mut Report) {
         (1, 0, 0),
         (1, 0, 1),
         (1, 8, 510),
+        (8, 5, 31_744),
+        (8, 5, 31_745),
+        (8, 5, 1 << 32),
+        // 19, where 6 matches too or nothing else does
+        (8, 8, 0),
         (8, 8, 2_228_224),
         (8, 8, 2_228_225),
-        (8, 8, 1 << 32),
+        (8, 6, 31_744),
+        (4, 8, 1),
+        (4, 8, u64::MAX),
         (0, 3, 0),
         (9, 9, u64::MAX),
         (2, 9, u64::MAX),
@@ -90,8 +101,8 @@ pub fn lists() -> Vec<(u32, u32, &'static [u32], &'static [u32])> {
         (1, 8, &[8], &[511]),
         (1, 8, &[8], &[257]),
         (8, 0, &[0; 8], &[1; 8]),
-        (8, 8, &[0, 0, 0, 0, 0, 0, 0, 8], &[1, 1, 1, 1, 1, 1, 1, 509]),
-        (8, 8, &[0, 0, 0, 0, 0, 0, 0, 8], &[1, 1, 1, 1, 1, 1, 1, 511]),
+        (8, 5, &[0, 0, 0, 0, 0, 0, 0, 5], &[1, 1, 1, 1, 1, 1, 1, 61]),
+        (8, 5, &[0, 0, 0, 0, 0, 0, 0, 5], &[1, 1, 1, 1, 1, 1, 1, 63]),
         // 7, also where the lists name nothing
         (2, 3, &[1], &[3, 1]),
         (2, 3, &[1, 2], &[3]),
@@ -103,7 +114,7 @@ pub fn lists() -> Vec<(u32, u32, &'static [u32], &'static [u32])> {
         (2, 3, &[200], &[0, 0]),
         (2, 3, &[200, 0], &[1]),
         (2, 3, &[TOP, 1], &[0]),
-        (8, 8, &[0; 9], &[1; 9]),
+        (8, 5, &[0; 9], &[1; 9]),
         // 9: a level or a sum too large, also where a sum of 32 bits would come out small
         (2, 2, &[1, 2], &[3, 1]),
         (2, 3, &[2, 2], &[1, 1]),
@@ -137,6 +148,17 @@ pub fn lists() -> Vec<(u32, u32, &'static [u32], &'static [u32])> {
         (2, 9, &[1, 2], &[3, 1]),
         (2, 9, &[200], &[0]),
         (2, TOP, &[200], &[0, 0]),
+        // 19 after both, and before 7 and 9
+        (9, 8, &[0; 9], &[1; 9]),
+        (8, 9, &[0; 8], &[1; 8]),
+        (8, 8, &[0; 8], &[1; 8]),
+        (8, 8, &[0, 0, 0, 0, 0, 0, 0, 8], &[1, 1, 1, 1, 1, 1, 1, 511]),
+        (8, 8, &[0; 9], &[1; 9]),
+        (8, 6, &[0; 8], &[1, 1, 1, 1, 1, 1, 1, 2]),
+        (6, 6, &[6, 1, 0, 0, 0, 0], &[1; 6]),
+        (5, 7, &[], &[]),
+        (4, 8, &[0; 4], &[1; 4]),
+        (4, 8, &[TOP; 4], &[0; 3]),
     ]
 }
 
@@ -165,7 +187,15 @@ pub fn of_turns(draw: &mut Draw, report: &mut Report) {
         (2, 3, 1, 17, 1),
         (2, 2, 1, 49, 1),
         (1, 8, 1, 512, 1),
+        (8, 5, 0, 512, 0),
+        // 19 after 14 and before 3
+        (7, 6, 128, 512, 0),
+        (4, 8, 16, 1, 0),
         (8, 8, 0, 512, 0),
+        (8, 6, 255, 0, 1),
+        (7, 6, 127, 2, 8),
+        (4, 8, 0, 1, 1),
+        (4, 8, 15, 1, 1),
         // 5
         (2, 1, 3, 5, 0),
         (2, 1, 3, 5, 3),
@@ -236,7 +266,7 @@ pub fn of_turns(draw: &mut Draw, report: &mut Report) {
 // ---- tables
 
 pub fn of_tables(draw: &mut Draw, report: &mut Report) {
-    // 1, 2 and 3, where 4 or 10 matches too
+    // 1, 2, 19 and 3, where 4 or 10 matches too
     let refused = [
         (0, 9, 0),
         (9, 9, 0),
@@ -244,13 +274,19 @@ pub fn of_tables(draw: &mut Draw, report: &mut Report) {
         (1, 9, 0),
         (8, 9, 512),
         (8, TOP, 17),
+        (8, 6, 0),
+        (7, 6, 17),
+        (6, 6, 512),
+        (5, 7, 1),
+        (4, 8, 1),
+        (8, 8, 1),
         (2, 1, 0),
         (2, 1, 4),
         (2, 1, 6),
         (2, 3, 17),
         (2, 2, 49),
         (1, 8, 512),
-        (8, 8, 512),
+        (8, 5, 512),
         (9, 0, 1),
     ];
     for (axes, level, places) in refused {
@@ -334,7 +370,7 @@ pub fn of_tables(draw: &mut Draw, report: &mut Report) {
         rates::rates_to_coefficients(draw, report, axes, level, table);
         rates::coefficients_to_rates(draw, report, axes, level, table);
     }
-    // unload: 1, 2, 14, 3 and 18, where all that comes later matches too
+    // unload: 1, 2, 14, 19, 3 and 18, where all that comes later matches too
     let states = [
         (0, 9, 255, 0),
         (9, 9, 255, 0),
@@ -351,7 +387,12 @@ pub fn of_tables(draw: &mut Draw, report: &mut Report) {
         (2, 1, 3, 0),
         (2, 1, 0, 6),
         (8, 1, 255, 16),
+        (8, 5, 0, 512),
+        (7, 8, 128, 1),
         (8, 8, 0, 512),
+        (8, 6, 255, 0),
+        (7, 6, 1, 17),
+        (4, 8, 0, 1),
         (2, 1, 1, 5),
         (2, 1, 2, 5),
         (2, 1, 3, 5),
@@ -407,6 +448,11 @@ pub fn of_runs(draw: &mut Draw, report: &mut Report) {
         (1, 1, 2, 2),
         (7, 0, 128, 1),
         (8, 0, 255, 1),
+        (7, 6, 128, 5),
+        (7, 6, 0, 5),
+        (8, 8, 255, 0),
+        (4, 8, 0, 1),
+        (8, 5, 0, 5),
     ];
     for (axes, level, bits, places) in states {
         let table = &padded(&[16, 12, 20, 8, 24], 6)[..places];
@@ -425,7 +471,7 @@ pub fn of_runs(draw: &mut Draw, report: &mut Report) {
 // ---- estimates
 
 pub fn of_estimates(draw: &mut Draw, report: &mut Report) {
-    // 1, 2, 14 and 3, where all that comes later matches too
+    // 1, 2, 14, 19 and 3, where all that comes later matches too
     let worst = [
         (0, 9, 255),
         (9, 9, 255),
@@ -438,8 +484,13 @@ pub fn of_estimates(draw: &mut Draw, report: &mut Report) {
         (2, 1, 128),
         (7, 0, 255),
         (7, 8, 128),
-        (2, 1, 0),
+        (4, 8, 16),
         (8, 8, 0),
+        (8, 6, 255),
+        (7, 6, 0),
+        (5, 7, 31),
+        (2, 1, 0),
+        (8, 5, 0),
     ];
     for (axes, level, bits) in worst {
         estimates::estimate(draw, report, axes, level, bits, &[PAST, -PAST], &[END + 1]);
@@ -588,7 +639,7 @@ pub const NO_RATES: [i64; 16] = [
 ];
 
 pub fn of_writes(draw: &mut Draw, report: &mut Report) {
-    // 1, 2 and 3, where 4 and a short output buffer match too
+    // 1, 2, 19 and 3, where 4 and a short output buffer match too
     let refused = [
         (0, 9, 0),
         (9, 9, 0),
@@ -608,7 +659,11 @@ pub fn of_writes(draw: &mut Draw, report: &mut Report) {
         (1, 8, 0),
         (1, 8, 510),
         (1, 8, 512),
-        (8, 8, 512),
+        (8, 5, 512),
+        (8, 6, 512),
+        (7, 6, 1),
+        (4, 8, 1),
+        (8, 8, 0),
         (1, 0, 0),
         (1, 0, 2),
     ];

@@ -30,10 +30,7 @@ pub fn walk(report: &mut Report, axes: u32, level: u32) {
             Some((l.map(u32::from), i.map(u32::from)))
         };
         report.same("successor", "walk", &Ok(want), &next, &say);
-        // on every axis, or of the largest tables on one axis after the other
-        let axis = 1 + number as u32 % axes;
-        let turned = if last < 7_000 { 1..=axes } else { axis..=axis };
-        for (axis, side) in turned.flat_map(|axis| [(axis, 0), (axis, 1)]) {
+        for (axis, side) in (1..=axes).flat_map(|axis| [(axis, 0), (axis, 1)]) {
             let (mut found, mut border, mut place) = ([[0; 8]; 2], 7, 7);
             let [pl, pi] = &mut found;
             let got = boundary::parent(axes, level, l, i, axis, side, pl, pi, &mut border, &mut place);

@@ -18,12 +18,13 @@ pub fn worked(report: &mut Report) {
         report.same(kind, "separate code", &want, &separate, &|| format!("worked: {want:?}"));
         report.same(kind, "library", &want, &library, &|| format!("worked: {want:?}"));
     };
-    let sizes =
-        [(1, 0, 1), (2, 2, 17), (3, 2, 31), (1, 8, 511), (2, 3, 49), (8, 4, 6_401), (8, 5, 31_745), (8, 8, 2_228_225)];
-    for (axes, level, n) in sizes {
+    for (axes, level, n) in [(1, 0, 1), (2, 2, 17), (3, 2, 31), (1, 8, 511), (2, 3, 49), (8, 4, 6_401), (8, 5, 31_745)]
+    {
         let library = Shape::new(axes, level).points().map_or(-1, |n| n as i64);
         paper("count", vec![n], vec![model::grid::count(axes, level) as i64], vec![library]);
     }
+    // the formula of N has no limit; the call has
+    assert_eq!(model::grid::count(8, 8), 2_228_225, "document 01's N at d=8, n=8");
     let separate = model::points::number_of(2, 3, &[1, 2], &[3, 1]).map_or(-1, |n| n as i64);
     let library = wrapper::number_of(2, 3, &[1, 2], &[3, 1]).map_or(-1, |n| n as i64);
     paper("number", vec![34], vec![separate], vec![library]);
@@ -110,7 +111,11 @@ pub fn worked(report: &mut Report) {
     // the ends of what passes, as refusal numbers, 0 for none
     let library = |r: Result<u64, Refusal>| r.map_or_else(|r| i64::from(r.number()), |_| 0);
     let separate = |r: Result<u64, model::Refused>| r.map_or_else(|r| i64::from(r.0), |_| 0);
-    for (axes, level, want) in [(8, 0, 0), (9, 0, 1), (1, 9, 2), (0, 9, 1)] {
+    let mut ends = vec![(8, 0, 0), (9, 0, 1), (1, 9, 2), (0, 9, 1), (9, 8, 1), (8, 9, 2)];
+    for (axes, top) in (1..).zip([8, 8, 8, 7, 6, 5, 5, 5]) {
+        ends.extend((0..=8).map(|level| (axes, level, if level <= top { 0 } else { 19 })));
+    }
+    for (axes, level, want) in ends {
         paper(
             "count",
             vec![want],
@@ -219,8 +224,11 @@ fn margins(report: &mut Report) {
         let answer = [0, 1 << 47, i64::from(axes - 1) * lost + 1];
         for coefficient in [1 << 47, -1 << 47] {
             let there = margin_and_share(report, axes, 0, &[coefficient], &at, answer, 1_048_575 - 2 * u64::from(axes));
-            let hundredth_less =
-                Estimated { estimate: 0, absolute_sum: answer[1] as u64 / 100 * 99, margin: answer[2] as u64 / 100 * 99 };
+            let hundredth_less = Estimated {
+                estimate: 0,
+                absolute_sum: answer[1] as u64 / 100 * 99,
+                margin: answer[2] as u64 / 100 * 99,
+            };
             let exact = there.exact();
             let within = (exact.within_margin(&hundredth_less), exact.within_bound(axes, &hundredth_less));
             let say = || format!("worked: coordinates {at:?} coefficient {coefficient}");

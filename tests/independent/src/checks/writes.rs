@@ -1,6 +1,6 @@
 //! House files written, rewritten, and asked for their shape.
 
-use super::files::{any_file, file};
+use super::files::{any_file, file, read};
 use super::{answer, short};
 use crate::boundary;
 use crate::draw::Draw;
@@ -8,7 +8,7 @@ use crate::inputs;
 use crate::lent;
 use crate::model::files as model;
 use crate::model::grid::count;
-use crate::model::Refused;
+use crate::model::{Refused, MOST_POINTS};
 use crate::report::Report;
 
 const WRITE: &str = "write";
@@ -193,18 +193,78 @@ fn tables(draw: &mut Draw, report: &mut Report, axes: u32, level: u32, points: u
     }
 }
 
-/// One table of every shape with more points than that: written, and rewritten.
-pub fn large_shapes(draw: &mut Draw, report: &mut Report, least: usize) {
+/// One table of a shape: written, and rewritten.
+pub fn large_shape(draw: &mut Draw, report: &mut Report, axes: u32, level: u32) {
+    let points = count(axes, level) as usize;
+    let rates = inputs::filed_rates(draw, points);
+    let bytes = file(draw, axes, level, &rates, 5);
+    write(draw, report, axes, level, &rates, bytes.len());
+    rewrite(draw, report, &bytes, points, bytes.len());
+}
+
+/// Every shape of more than 32,768 points: 19 before all that comes after the shape, whatever the lengths of files and
+/// buffers. The smallest also with whole files and tables of N rates. And with 31,745 points, which pass, what comes next.
+pub fn too_large(draw: &mut Draw, report: &mut Report) {
+    let by_hand = |report: &mut Report, axes: u32, level: u32, answer: Option<Refused>| {
+        let say = || format!("axes {axes} level {level}");
+        report.same("separate code with itself", "a file too large", &Some((19, 0)), &answer, &say);
+    };
     for axes in 1..=8 {
-        for level in 0..=8 {
-            let points = count(axes, level) as usize;
-            if points > least {
-                let rates = inputs::filed_rates(draw, points);
-                let bytes = file(draw, axes, level, &rates, 5);
-                write(draw, report, axes, level, &rates, bytes.len());
-                rewrite(draw, report, &bytes, points, bytes.len());
+        for level in (0..=8).filter(|&level| count(axes, level) > MOST_POINTS) {
+            let n = count(axes, level) as usize;
+            // the number of points as 16 bits have it, and no more than a few
+            let few = (n % 65_536).min(20);
+            // nothing, a number cut off, one of six bytes, one too large, and zeros
+            let rests: [&[u8]; 6] = [&[], &[0x80], &[0x80; 6], &[0xff, 0xff, 0xff, 0xff, 0x1f], &[0], &[0; 300]];
+            for rest in rests {
+                let needless = draw.of(&[1000, 2, 1]);
+                let bytes = [&file(draw, axes, level, &[], needless)[..], rest].concat();
+                file_shape(draw, report, &bytes);
+                by_hand(report, axes, level, model::shape_of(&bytes).err());
+                for places in [0, 1, few, 300] {
+                    read(draw, report, &bytes, places);
+                    by_hand(report, axes, level, model::read(&bytes, places).err());
+                }
+                for most_points in [0, few, MOST_POINTS as usize, n, usize::MAX] {
+                    let room = draw.of(&[0, 2, 20]);
+                    rewrite(draw, report, &bytes, most_points, room);
+                    by_hand(report, axes, level, model::rewrite(&bytes, most_points, room).err());
+                }
+            }
+            for rates in [vec![], vec![0], vec![1 << 31; few], vec![-1; few + 1]] {
+                for room in [0, 1, 2, rates.len() + 2, 300] {
+                    write(draw, report, axes, level, &rates, room);
+                    by_hand(report, axes, level, model::write(axes, level, &rates, room).err());
+                }
             }
         }
+    }
+    for (axes, level) in [(6, 6), (5, 7), (4, 8)] {
+        let n = count(axes, level) as usize;
+        let mut rates = inputs::filed_rates(draw, n);
+        let bytes = file(draw, axes, level, &rates, 1000);
+        file_shape(draw, report, &bytes);
+        for places in [n - 1, n, n + 1, MOST_POINTS as usize] {
+            read(draw, report, &bytes, places);
+            rewrite(draw, report, &bytes, places, bytes.len());
+        }
+        for room in [bytes.len(), bytes.len() - 1, 0] {
+            write(draw, report, axes, level, &rates, room);
+        }
+        rates[n / 2] = 1 << 31;
+        write(draw, report, axes, level, &rates, bytes.len());
+    }
+    let head = file(draw, 8, 5, &[], 2);
+    file_shape(draw, report, &head);
+    for (places, rest) in
+        [(31_744, 0), (31_745, 0), (31_745, 31_744), (31_745, 31_745), (31_744, 31_745), (31_746, 31_746)]
+    {
+        let bytes = [&head[..], &vec![0; rest]].concat();
+        read(draw, report, &bytes, places);
+        rewrite(draw, report, &bytes, places, bytes.len());
+    }
+    for places in [31_744, 31_745, 31_746, MOST_POINTS as usize] {
+        write(draw, report, 8, 5, &vec![0; places], 32_000);
     }
 }
 

@@ -2,7 +2,7 @@
 //! a parent is looked for among the coordinates of the axis; a sweep reads a table and makes another.
 
 use super::rates::all_rates;
-use super::{within, Refused};
+use super::{not_too_large, within, Refused};
 use std::cmp::Ordering;
 use std::collections::HashMap;
 
@@ -84,9 +84,7 @@ pub fn count(levels: &[u32]) -> u128 {
 /// A call: the table afterwards.
 pub fn coefficients(levels: &[u32], table: &[i64]) -> Result<Vec<i64>, Refused> {
     lists(levels)?;
-    if count(levels) > 32_768 {
-        return Err((19, 0));
-    }
+    not_too_large(count(levels))?;
     if table.len() as u128 != count(levels) {
         return Err((3, 0));
     }

@@ -1,7 +1,7 @@
 //! Estimates: the sum over all points, to the nearest unit.
 
 use super::grid::{grid, level_and_index, At};
-use super::{bits as check_bits, is_forward, places, shape, within, Refused};
+use super::{is_forward, places, state, within, Refused};
 use std::cmp::Reverse;
 
 /// What a coordinate runs to, and what an axis weight and a joint weight count in: change request e.
@@ -23,8 +23,7 @@ pub fn estimate_in(
     table: &[i64],
     coordinates: &[u32],
 ) -> Result<i64, Refused> {
-    shape(axes, level)?;
-    check_bits(axes, bits)?;
+    state(axes, level, bits)?;
     places(axes, level, table.len())?;
     for t in 1..=axes {
         if !is_forward(bits, t) {

@@ -31,8 +31,19 @@ pub fn is_rate(v: i128) -> bool {
     (-2_147_483_648..=2_147_483_647).contains(&v)
 }
 
+/// The most points of a component grid, and since change request h of a table of either sort.
+pub const MOST_POINTS: u128 = 32_768;
+
+/// Refusal 19, of a table or a component grid with so many points.
+pub fn not_too_large(points: u128) -> Result<(), Refused> {
+    if points > MOST_POINTS {
+        return Err((19, 0));
+    }
+    Ok(())
+}
+
 /// Refusals 1 and 2.
-pub fn shape(axes: u32, level: u32) -> Result<(), Refused> {
+fn numbers(axes: u32, level: u32) -> Result<(), Refused> {
     if !(1..=8).contains(&axes) {
         return Err((1, 0));
     }
@@ -40,6 +51,19 @@ pub fn shape(axes: u32, level: u32) -> Result<(), Refused> {
         return Err((2, 0));
     }
     Ok(())
+}
+
+/// What a shape is refused with: 1, 2, 19.
+pub fn shape(axes: u32, level: u32) -> Result<(), Refused> {
+    numbers(axes, level)?;
+    not_too_large(grid::count(axes, level))
+}
+
+/// What a state is refused with: 1, 2, 14, 19.
+pub fn state(axes: u32, level: u32, set: u8) -> Result<(), Refused> {
+    numbers(axes, level)?;
+    bits(axes, set)?;
+    not_too_large(grid::count(axes, level))
 }
 
 /// Refusal 14: a bit above axis d. A bit is looked at as a digit of the number, axis by axis.

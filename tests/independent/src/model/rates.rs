@@ -2,7 +2,7 @@
 
 use super::grid::{grid, level_and_index, At, Values};
 use super::turns::{back_of, forward_of};
-use super::{bits as check_bits, is_forward, is_rate, places, shape, within, Refused};
+use super::{is_forward, is_rate, places, shape, state, within, Refused};
 
 /// Refusal 4.
 pub fn all_rates(table: &[i64]) -> Result<(), Refused> {
@@ -35,8 +35,7 @@ pub fn adopt(axes: u32, level: u32, table: &[i64]) -> Result<u8, Refused> {
 }
 
 pub fn unload(axes: u32, level: u32, bits: u8, table: &[i64]) -> Result<Vec<i64>, Refused> {
-    shape(axes, level)?;
-    check_bits(axes, bits)?;
+    state(axes, level, bits)?;
     places(axes, level, table.len())?;
     for t in 1..=axes {
         if is_forward(bits, t) {

@@ -2,7 +2,7 @@
 
 use super::grid::grid;
 use super::turns::{forward_of, turn};
-use super::{bits as check_bits, places as check_places, shape, Refused};
+use super::{places as check_places, state, Refused};
 use std::collections::BTreeSet;
 
 pub struct Run {
@@ -25,8 +25,7 @@ pub fn run(
     numbers: usize,
     places: usize,
 ) -> Result<Run, Refused> {
-    shape(axes, level)?;
-    check_bits(axes, bits)?;
+    state(axes, level, bits)?;
     check_places(axes, level, table.len())?;
     let count = directions.len();
     if turned.len() != count || numbers != count || places != count {

@@ -1,7 +1,7 @@
 //! Forward and back on one axis.
 
 use super::grid::{grid, At, Grid, Values};
-use super::{axis as check_axis, bits as check_bits, is_forward, places, shape, within, Refused};
+use super::{axis as check_axis, is_forward, places, state, within, Refused};
 
 /// The two neighbours of a coordinate i / 2^(l+1), at (i ± 1) / 2^(l+1), in 512ths.
 fn neighbours(coordinate: u16) -> [u16; 2] {
@@ -70,8 +70,7 @@ fn former_at(values: &Values, t: usize, at: At, former: &mut Values) -> Option<i
 
 /// A call: the table and the bits afterwards.
 pub fn turn(back: bool, axes: u32, level: u32, bits: u8, table: &[i64], axis: u32) -> Result<(Vec<i64>, u8), Refused> {
-    shape(axes, level)?;
-    check_bits(axes, bits)?;
+    state(axes, level, bits)?;
     places(axes, level, table.len())?;
     check_axis(axes, axis)?;
     if is_forward(bits, axis) != back {

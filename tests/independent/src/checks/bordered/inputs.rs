@@ -27,7 +27,17 @@ pub fn good_shape(draw: &mut Draw, most: u64) -> Shape {
     }
 }
 
-/// A shape that is mostly one.
+/// A shape of more than 32,768 points; of three, two with border values.
+fn too_large(draw: &mut Draw) -> Shape {
+    if draw.one_in(3) {
+        let (axes, level) = inputs::too_large(draw);
+        return Shape::new(axes, level, 0);
+    }
+    let (axes, level) = draw.of(&[(3, 8), (4, 6), (4, 7), (4, 8)]);
+    Shape::new(axes, level, flag(draw))
+}
+
+/// A shape that is mostly one, and now and then too large.
 pub fn shape(draw: &mut Draw, most: u64) -> Shape {
     let good = good_shape(draw, most);
     let Shape { axes, level, border } = good;
@@ -37,11 +47,12 @@ pub fn shape(draw: &mut Draw, most: u64) -> Shape {
         0 | 1 => Shape::new(draw.of(&many), level, border),
         2 => Shape::new(axes, draw.of(&high), border),
         3 => Shape::new(draw.of(&many), draw.of(&high), flag(draw)),
+        4 => too_large(draw),
         _ => good,
     }
 }
 
-/// How many places a table of this shape is handed in with: mostly N.
+/// How many places a table of this shape is handed in with: mostly N, and a few where the shape is refused.
 pub fn places(draw: &mut Draw, shape: Shape) -> usize {
     if shape.check().is_err() {
         return draw.index(40);

@@ -1,11 +1,12 @@
-//! Tables with border values, change request g: calls on shapes of either sort, each looked at by the separate code alone and
-//! compared with the library.
+//! Tables with border values, change request g, and the largest tables, change request h: calls on shapes of either sort, each
+//! looked at by the separate code alone and compared with the library.
 
 pub mod edges;
 pub mod inputs;
 pub mod itself;
 pub mod journeys;
 pub mod library;
+pub mod limit;
 pub mod random;
 pub mod walks;
 pub mod worked;
@@ -13,7 +14,7 @@ pub mod worked;
 use super::answer;
 use crate::draw::Draw;
 use crate::model::bordered::calls::{Answer, Call};
-use crate::model::bordered::readings::WRONG;
+use crate::model::bordered::readings::{Reading, RIGHT, WRONG};
 use crate::model::bordered::Shape;
 use crate::report::Report;
 
@@ -23,8 +24,11 @@ pub struct Desk<'a> {
     pub report: &'a mut Report,
 }
 
-/// Shapes of more points show no wrong reading that others do not.
+/// Shapes of more points show no wrong reading that others do not, but of the limit.
 const SMALL: usize = 1_200;
+
+/// By every reading of the limit, tables of fewer points are within it.
+const NEAR_THE_LIMIT: usize = 31_745;
 
 impl Desk<'_> {
     /// One call.
@@ -36,9 +40,7 @@ impl Desk<'_> {
     pub fn answered(&mut self, shape: Shape, call: &Call) -> Answer {
         let want = call.answer(shape);
         self.report.case(call.kind(shape), answer(&want).0);
-        if shape.check().is_err() || shape.count() <= SMALL {
-            wrong_readings(self.report, shape, call, &want);
-        }
+        wrong_readings(self.report, shape, call, &want);
         itself::looked_at(self.report, shape, call, &want);
         library::compare(&mut self.draw, self.report, shape, call, &want);
         want
@@ -54,8 +56,11 @@ impl Desk<'_> {
 
 /// The wrong readings that answer otherwise.
 fn wrong_readings(report: &mut Report, shape: Shape, call: &Call, want: &Answer) {
-    for reading in WRONG.iter().filter(|reading| call.concerned(shape, want, reading)) {
-        if call.answer_by(shape, reading).is_some_and(|other| other != *want) {
+    let small = shape.check().is_err() || shape.count() <= SMALL;
+    let large = RIGHT.check(shape).is_ok() && shape.count() >= NEAR_THE_LIMIT;
+    let looked_at = |reading: &&Reading| if reading.limit == RIGHT.limit { small } else { large };
+    for reading in WRONG.iter().filter(looked_at) {
+        if call.differs(shape, want, reading) {
             report.shown(reading.name);
         }
     }
@@ -74,8 +79,11 @@ pub fn all(seed: u64, rounds: u64, with_large: bool, report: &mut Report, step: 
     step("border values: worked tables, and the separate code with itself");
     edges::all(&mut desk);
     step("border values: each call at its edges");
+    limit::all(&mut desk, with_large);
+    step("both sorts: tables that are too large, and the largest that pass");
     walks::all(&mut desk, with_large);
-    step("border values: every point of every shape with up to 7,000 points");
+    let walked = if with_large { "that passes" } else { "with up to 7,000 points" };
+    step(&format!("border values: every point of every shape {walked}"));
     journeys::all(&mut desk, with_large);
     step("border values: loads, turns in any order with stops between, estimates and back, of every shape of the same");
     for round in 0..rounds / 4 {
@@ -88,21 +96,21 @@ pub fn all(seed: u64, rounds: u64, with_large: bool, report: &mut Report, step: 
 
 /// What each call can answer on shapes with border values.
 pub const ANSWERS: [(&str, &[u32]); 15] = [
-    ("bordered count", &[0, 1, 2]),
-    ("bordered number", &[0, 1, 2, 7, 9]),
-    ("bordered successor", &[0, 1, 2, 7, 9]),
-    ("bordered point", &[0, 1, 2, 6]),
-    ("bordered parent", &[0, 1, 2, 5, 7, 9]),
-    ("bordered load", &[0, 1, 2, 3, 4]),
-    ("bordered adopt", &[0, 1, 2, 3, 10]),
-    ("bordered forward", &[0, 1, 2, 14, 3, 5, 15, 10]),
-    ("bordered back", &[0, 1, 2, 14, 3, 5, 16, 10]),
-    ("bordered unload", &[0, 1, 2, 14, 3, 18, 10]),
-    ("bordered whole forward", &[0, 1, 2, 3, 4]),
-    ("bordered whole back", &[0, 1, 2, 3, 10]),
-    ("bordered run", &[0, 1, 2, 14, 3, 7]),
-    ("bordered estimate", &[0, 1, 2, 14, 3, 17, 7, 8, 10]),
-    ("bordered margin", &[0, 1, 2, 14, 3, 17, 7, 8, 10]),
+    ("bordered count", &[0, 1, 2, 19]),
+    ("bordered number", &[0, 1, 2, 19, 7, 9]),
+    ("bordered successor", &[0, 1, 2, 19, 7, 9]),
+    ("bordered point", &[0, 1, 2, 19, 6]),
+    ("bordered parent", &[0, 1, 2, 19, 5, 7, 9]),
+    ("bordered load", &[0, 1, 2, 19, 3, 4]),
+    ("bordered adopt", &[0, 1, 2, 19, 3, 10]),
+    ("bordered forward", &[0, 1, 2, 14, 19, 3, 5, 15, 10]),
+    ("bordered back", &[0, 1, 2, 14, 19, 3, 5, 16, 10]),
+    ("bordered unload", &[0, 1, 2, 14, 19, 3, 18, 10]),
+    ("bordered whole forward", &[0, 1, 2, 19, 3, 4]),
+    ("bordered whole back", &[0, 1, 2, 19, 3, 10]),
+    ("bordered run", &[0, 1, 2, 14, 19, 3, 7]),
+    ("bordered estimate", &[0, 1, 2, 14, 19, 3, 17, 7, 8, 10]),
+    ("bordered margin", &[0, 1, 2, 14, 19, 3, 17, 7, 8, 10]),
 ];
 
 /// The names of the wrong readings.

@@ -6,6 +6,7 @@ use crate::model::bordered::calls::Call;
 use crate::model::bordered::grid::grid;
 use crate::model::bordered::readings::RIGHT;
 use crate::model::bordered::Shape;
+use crate::model::MOST_POINTS;
 
 /// The shapes with border values that have at most so many points.
 pub fn shapes(most: usize) -> impl Iterator<Item = (u32, u32)> {
@@ -19,8 +20,11 @@ pub fn all(desk: &mut Desk, with_large: bool) {
         walk(desk, Shape::new(axes, level, flag));
     }
     if with_large {
-        for (axes, level) in [(4, 5), (3, 8), (4, 8)] {
-            walk(desk, Shape::new(axes, level, 1));
+        for (axes, level) in shapes(MOST_POINTS as usize) {
+            let shape = Shape::new(axes, level, 1);
+            if shape.count() > 7_000 {
+                walk(desk, shape);
+            }
         }
     }
 }

@@ -33,7 +33,19 @@ pub fn worked(desk: &mut Desk) {
     };
     let bordered = |axes, level| Shape::new(axes, level, 1);
     // how many points, and what is no shape
-    for (axes, level, n) in [(1, 0, 3), (1, 1, 5), (2, 0, 9), (2, 1, 21), (3, 3, 593), (4, 5, 20_481), (4, 0, 81)] {
+    let sizes = [
+        (1, 0, 3),
+        (1, 1, 5),
+        (2, 0, 9),
+        (2, 1, 21),
+        (3, 3, 593),
+        (4, 0, 81),
+        (4, 5, 20_481),
+        (3, 7, 21_249),
+        (2, 8, 6_145),
+        (1, 8, 513),
+    ];
+    for (axes, level, n) in sizes {
         by_hand(bordered(axes, level), Call::Count, number(n));
     }
     for (axes, level, border, refused) in [
@@ -47,6 +59,13 @@ pub fn worked(desk: &mut Desk) {
         (5, 0, 128, 1),
         (9, 0, 0, 1),
         (5, 9, 0, 2),
+        (3, 8, 1, 19),
+        (4, 6, 255, 19),
+        (4, 7, 2, 19),
+        (4, 8, 128, 19),
+        (5, 8, 1, 1),
+        (3, 9, 1, 2),
+        (4, 8, 0, 19),
     ] {
         by_hand(Shape::new(axes, level, border), Call::Count, Err((refused, 0)));
     }

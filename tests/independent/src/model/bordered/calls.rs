@@ -2,11 +2,13 @@
 
 use super::estimates::Seen;
 use super::grid::grid;
-use super::readings::{Names, Reading, RIGHT};
+use super::readings::{Limit, Names, Reading, RIGHT};
 use super::turns::{as_rates, back_of, forward_of, loaded, narrow, rates_of, table_of_set, wide};
 use super::{Eights, Lists, Shape};
 use crate::model::estimates::UNIT;
-use crate::model::{axis as check_axis, bits as check_bits, is_forward, rates::all_rates, within, Refused};
+use crate::model::{
+    axis as check_axis, bits as check_bits, is_forward, rates::all_rates, within, Refused, MOST_POINTS,
+};
 
 /// One call.
 #[derive(Clone, Debug, PartialEq, Eq)]
@@ -80,9 +82,17 @@ impl Call {
         }
     }
 
-    /// Whether a reading that is wrong in one thing can answer otherwise than this; of the flag and the number of axes small
-    /// cases.
-    pub fn concerned(&self, shape: Shape, answer: &Answer, reading: &Reading) -> bool {
+    /// Whether a reading that is wrong in one thing answers otherwise than this. Of the limit that shows before contents are
+    /// looked at: what comes after 19 and 3 is read as it should be.
+    pub fn differs(&self, shape: Shape, answer: &Answer, reading: &Reading) -> bool {
+        if reading.limit != RIGHT.limit {
+            return self.refused_for_size(shape, reading) != self.refused_for_size(shape, &RIGHT);
+        }
+        self.concerned(shape, answer, reading) && self.answer_by(shape, reading).is_some_and(|other| other != *answer)
+    }
+
+    /// Whether a reading can answer otherwise; of the flag and the number of axes small cases.
+    fn concerned(&self, shape: Shape, answer: &Answer, reading: &Reading) -> bool {
         if reading.flag != RIGHT.flag {
             return reading.of(shape) != RIGHT.of(shape) && self.places() <= 30;
         }
@@ -125,7 +135,7 @@ impl Call {
     }
 
     /// The answer by a reading; none where a wrong one has none, as its turns leave halves or its back turns go in circles.
-    pub fn answer_by(&self, shape: Shape, reading: &Reading) -> Option<Answer> {
+    fn answer_by(&self, shape: Shape, reading: &Reading) -> Option<Answer> {
         if reading.circles() && matches!(self, Call::Turn { back: true, .. } | Call::ToRates(_) | Call::Run { .. }) {
             return None;
         }
@@ -178,22 +188,67 @@ impl Call {
         }))
     }
 
+    /// The set that it is handed.
+    pub fn bits(&self) -> Option<u8> {
+        match self {
+            Call::Turn { bits, .. }
+            | Call::Unload { bits, .. }
+            | Call::Run { bits, .. }
+            | Call::Estimate { bits, .. }
+            | Call::Margin { bits, .. } => Some(*bits),
+            _ => None,
+        }
+    }
+
+    /// Whether it is handed no table but names a point or its number.
+    pub fn is_of_points(&self) -> bool {
+        matches!(self, Call::Number(_) | Call::Point(_) | Call::Successor(_) | Call::Parent { .. })
+    }
+
+    /// Refusal 19.
+    fn too_large(&self, shape: Shape, reading: &Reading) -> Result<(), Refused> {
+        let points = u128::from(count(shape, reading));
+        let passes = match reading.limit {
+            Limit::BorderedAlone if !shape.flagged() => true,
+            Limit::UnborderedAlone if shape.flagged() => true,
+            Limit::NotOfCounts if *self == Call::Count => true,
+            Limit::NotOfPoints if self.is_of_points() => true,
+            Limit::InnerPoints => crate::model::grid::count(shape.axes, shape.level) <= MOST_POINTS,
+            Limit::Below31745 => points < 31_745,
+            Limit::To65536 => points <= 65_536,
+            Limit::In16Bits => points % 65_536 <= MOST_POINTS,
+            _ => points <= MOST_POINTS,
+        };
+        if passes {
+            Ok(())
+        } else {
+            Err((19, 0))
+        }
+    }
+
+    /// Refusals 1, 2, 14, 19 and 3, the first that holds.
+    fn refused_for_size(&self, shape: Shape, reading: &Reading) -> Result<(), Refused> {
+        reading.check(shape)?;
+        let too_large = self.too_large(shape, reading);
+        if reading.limit == Limit::BeforeBits {
+            too_large?;
+        }
+        if let Some(bits) = self.bits() {
+            check_bits(shape.axes, bits)?;
+        }
+        if reading.limit != Limit::AfterPlaces {
+            too_large?;
+        }
+        let without_table = *self == Call::Count || self.is_of_points();
+        if !without_table && self.places() as u64 != count(shape, reading) {
+            return Err((3, 0));
+        }
+        too_large
+    }
+
     /// Every refusal but 10 of turns, of unload and of coefficients to rates, the first that holds in the papers' order.
     fn refused_before_contents(&self, shape: Shape, reading: &Reading) -> Result<(), Refused> {
-        reading.check(shape)?;
-        if let Call::Turn { bits, .. }
-        | Call::Unload { bits, .. }
-        | Call::Run { bits, .. }
-        | Call::Estimate { bits, .. }
-        | Call::Margin { bits, .. } = self
-        {
-            check_bits(shape.axes, *bits)?;
-        }
-        match self {
-            Call::Count | Call::Number(_) | Call::Point(_) | Call::Successor(_) | Call::Parent { .. } => (),
-            _ if self.places() as u64 == count(shape, reading) => (),
-            _ => return Err((3, 0)),
-        }
+        self.refused_for_size(shape, reading)?;
         let first = |with: bool, bits: u8| (1..=shape.axes).find(|&t| is_forward(bits, t) == with);
         match self {
             Call::Count | Call::Turn { .. } => Ok(()),
@@ -232,7 +287,7 @@ impl Call {
     }
 }
 
-/// N of a shape that is not refused.
+/// N of a shape that is none of refusals 1 and 2.
 pub fn count(shape: Shape, reading: &Reading) -> u64 {
     if shape.flagged() {
         grid(shape, reading).order.len() as u64

@@ -8,7 +8,7 @@ pub mod grid;
 pub mod readings;
 pub mod turns;
 
-use super::Refused;
+use super::{not_too_large, Refused};
 
 /// A shape of either sort: the flag is any number, and every one but 0 says yes.
 #[derive(Clone, Copy, Debug, PartialEq, Eq)]
@@ -27,12 +27,13 @@ impl Shape {
         self.border != 0
     }
 
-    /// Refusals 1 and 2.
+    /// What a shape is refused with: 1, 2, 19.
     pub fn check(self) -> Result<(), Refused> {
-        readings::RIGHT.check(self)
+        readings::RIGHT.check(self)?;
+        not_too_large(self.count() as u128)
     }
 
-    /// N of a shape that is not refused.
+    /// N of a shape that is none of refusals 1 and 2.
     pub fn count(self) -> usize {
         calls::count(self, &readings::RIGHT) as usize
     }

@@ -108,6 +108,29 @@ pub enum Flag {
     HighestBitIsNo,
 }
 
+/// Which tables are too large, and when that is looked at. That one of exactly 32,768 points is not, no call shows: N is odd
+/// for every shape of either sort.
+#[derive(Clone, Copy, PartialEq, Eq)]
+pub enum Limit {
+    Right,
+    /// Before 14, or after 3.
+    BeforeBits,
+    AfterPlaces,
+    /// Of tables with border values alone, or of those without.
+    BorderedAlone,
+    UnborderedAlone,
+    /// With the flag, by the inner points alone.
+    InnerPoints,
+    /// The count answers for every shape, or so do the calls that name a point.
+    NotOfCounts,
+    NotOfPoints,
+    /// The largest table there was is too large.
+    Below31745,
+    To65536,
+    /// By what 16 bits hold of N.
+    In16Bits,
+}
+
 #[derive(Clone, Copy)]
 pub struct Reading {
     pub name: &'static str,
@@ -120,6 +143,7 @@ pub struct Reading {
     pub flag: Flag,
     /// The most axes with the flag.
     pub most_axes: u32,
+    pub limit: Limit,
 }
 
 impl Reading {
@@ -162,6 +186,7 @@ pub const RIGHT: Reading = Reading {
     names: Names::Right,
     flag: Flag::Right,
     most_axes: 4,
+    limit: Limit::Right,
 };
 
 const fn order(name: &'static str, order: Order) -> Reading {
@@ -184,7 +209,11 @@ const fn names(name: &'static str, names: Names) -> Reading {
     Reading { name, names, ..RIGHT }
 }
 
-pub const WRONG: [Reading; 39] = [
+const fn limit(name: &'static str, limit: Limit) -> Reading {
+    Reading { name, limit, ..RIGHT }
+}
+
+pub const WRONG: [Reading; 49] = [
     order("faces by marks compared from the first axis", Order::MarksFromFirst),
     order("upper border before lower", Order::UpperFirst),
     order("faces by marks alone", Order::MarksAlone),
@@ -224,4 +253,14 @@ pub const WRONG: [Reading; 39] = [
     Reading { name: "flags above 127 for no", flag: Flag::HighestBitIsNo, ..RIGHT },
     Reading { name: "five axes with the flag", most_axes: 5, ..RIGHT },
     Reading { name: "three axes at most with the flag", most_axes: 3, ..RIGHT },
+    limit("19 before 14", Limit::BeforeBits),
+    limit("19 after 3", Limit::AfterPlaces),
+    limit("19 for shapes with the flag alone", Limit::BorderedAlone),
+    limit("19 for shapes without the flag alone", Limit::UnborderedAlone),
+    limit("19 by the inner points alone", Limit::InnerPoints),
+    limit("a count for every shape", Limit::NotOfCounts),
+    limit("no 19 where points are named or numbered", Limit::NotOfPoints),
+    limit("31,745 points refused with 19", Limit::Below31745),
+    limit("up to 65,536 points not refused with 19", Limit::To65536),
+    limit("19 by the number of points in 16 bits", Limit::In16Bits),
 ];
