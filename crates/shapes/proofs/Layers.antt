@@ -23,7 +23,6 @@ use Rattle.shapes.specs.declared.Shape.{Shape}
 use Rattle.shapes.specs.Shapes.{most_axes, points_of}
 use Rattle.shapes.proofs.Checked.{InRange}
 use Rattle.shapes.proofs.Totals.{start_small}
-use Rattle.naturals.proofs.Cases.{true_or_false}
 
 -- Without axes there is one point.
 pub points_none : (n : ℕ) → points 0 n ≡ 1

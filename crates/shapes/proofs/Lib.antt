@@ -1,5 +1,5 @@
 pub mod Binomials
-pub mod Bordered
+pub mod Counts
 pub mod Totals
 pub mod Starts
 pub mod Layers

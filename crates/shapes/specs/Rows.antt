@@ -1,7 +1,7 @@
 -- Tables that counts are read from, with a row for each number of axes.
 -- Assumes nothing.
-use Rattle.std.specs.Prelude.{◌≡◌, List, [], ℕ, ◌-◌, ◌≤◌, get_or}
-use Rattle.numbering.specs.Count.{vectors, start}
+use Rattle.std.specs.Prelude.{◌≡◌, List, [], ℕ, ◌+◌, ◌-◌, ◌≤◌, get_or}
+use Rattle.numbering.specs.Count.{vectors, start, points}
 use Rattle.faces.specs.Marked.{border_points}
 
 -- What a table has in a row and a column.
@@ -16,6 +16,7 @@ pub record Binomials (rows : List (List ℕ)) : Type 0 where
 pub record Starts (rows : List (List ℕ)) : Type 0 where
   pub holds : (d s : ℕ) → d ≤ 8 → s ≤ 9 → entry rows d s ≡ start d s
 
--- The points of tables with values on the border: row d, column n has the count of those of d axes and top level n.
-pub record Bordered (rows : List (List ℕ)) : Type 0 where
-  pub holds : (d n : ℕ) → d ≤ 4 → n ≤ 8 → entry rows d n ≡ border_points d n
+-- The points of each shape: with a zero border row d − 1, column n has the count of those of d axes and top level n, with values on the border row d + 8.
+pub record Counts (rows : List (List ℕ)) : Type 0 where
+  pub plain : (d n : ℕ) → 1 ≤ d → d ≤ 8 → n ≤ 8 → entry rows (d - 1) n ≡ points d n
+  pub bordered : (d n : ℕ) → d ≤ 4 → n ≤ 8 → entry rows (d + 8) n ≡ border_points d n

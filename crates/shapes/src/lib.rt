@@ -8,7 +8,7 @@ ghost use Rattle.numbering.specs.Count.{vectors, start, points};
 ghost use Rattle.faces.specs.Faces.{faces};
 ghost use Rattle.faces.specs.Marked.{layer, border_points};
 ghost use Rattle.shapes.specs.Shapes.{sparse, most_axes, most_points, check_limits, check_size, check_shape, check_axis, points_of, check_length, counted};
-ghost use Rattle.shapes.specs.Rows.{Binomials, Starts, Bordered};
+ghost use Rattle.shapes.specs.Rows.{Binomials, Starts, Counts};
 
 use refusals::Refusal;
 
@@ -48,8 +48,16 @@ const STARTS: [[u32; 10]; 9] = [
     [0, 1, 17, 161, 1121, 6401, 31745, 141569, 580865, 2228225],
 ];
 
-// How many points a table with values on the border has: a row for each d from 0 to 4, n from 0 to 8.
-const BORDERED: [[u32; 9]; 5] = [
+// How many points each shape has, n from 0 to 8: a row for each d from 1 to 8 with a zero border, then one for each d from 0 to 4 with values on the border.
+const COUNTS: [[u32; 9]; 13] = [
+    [1, 3, 7, 15, 31, 63, 127, 255, 511],
+    [1, 5, 17, 49, 129, 321, 769, 1793, 4097],
+    [1, 7, 31, 111, 351, 1023, 2815, 7423, 18943],
+    [1, 9, 49, 209, 769, 2561, 7937, 23297, 65537],
+    [1, 11, 71, 351, 1471, 5503, 18943, 61183, 187903],
+    [1, 13, 97, 545, 2561, 10625, 40193, 141569, 471041],
+    [1, 15, 127, 799, 4159, 18943, 78079, 297727, 1066495],
+    [1, 17, 161, 1121, 6401, 31745, 141569, 580865, 2228225],
     [1, 1, 1, 1, 1, 1, 1, 1, 1],
     [3, 5, 9, 17, 33, 65, 129, 257, 513],
     [9, 21, 49, 113, 257, 577, 1281, 2817, 6145],
@@ -145,10 +153,10 @@ impl Shape {
 pub struct Rows {
     binomials: &'static [[u16; 9]; 8],
     starts: &'static [[u32; 10]; 9],
-    bordered: &'static [[u32; 9]; 5],
+    counts: &'static [[u32; 9]; 13],
     ghost right: { Binomials binomials.now },
     ghost added: { Starts starts.now },
-    ghost summed: { Bordered bordered.now },
+    ghost summed: { Counts counts.now },
 }
 
 impl Rows {
@@ -156,7 +164,7 @@ impl Rows {
         Rows {
             binomials: &ROWS,
             starts: &STARTS,
-            bordered: &BORDERED,
+            counts: &COUNTS,
         }
     }
 
@@ -174,6 +182,19 @@ impl Rows {
         ensures { result ≡ start axes sum }
     {
         u64::from(self.starts[axes as usize][sum as usize])
+    }
+
+    // How many points a shape has.
+    fn count(&self, shape: Shape) -> u64
+        requires { (1 ≤ shape.axes) × (shape.axes ≤ most_axes shape.border) × (shape.level ≤ 8) }
+        ensures { result ≡ points_of shape }
+    {
+        let row = if shape.border {
+            shape.axes + 8
+        } else {
+            shape.axes - 1
+        };
+        u64::from(self.counts[row as usize][shape.level as usize])
     }
 
     // How many points a sparse table of these axes has: without axes one.
@@ -217,7 +238,7 @@ impl Rows {
         requires { (axes ≤ 4) × (level ≤ 8) }
         ensures { result ≡ border_points axes level }
     {
-        u64::from(self.bordered[axes as usize][level as usize])
+        u64::from(self.counts[axes as usize + 8][level as usize])
     }
 }
 
@@ -226,17 +247,7 @@ impl LimitedShape {
     pub fn points(self) -> u64
         ensures { result ≡ points_of self.shape }
     {
-        let Shape {
-            axes,
-            level,
-            border,
-        } = self.shape;
-        let rows = Rows::new();
-        if border {
-            rows.border_points(axes, level)
-        } else {
-            rows.start(axes, level + 1)
-        }
+        Rows::new().count(self.shape)
     }
 
     // Refused with 19.
