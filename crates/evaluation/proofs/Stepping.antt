@@ -13,7 +13,6 @@ use Rattle.std.specs.Prelude.{if◌then◌else◌}
 use mir.Syntax.{w64}
 use mir.Val.{SFits}
 use Rattle.naturals.specs.Sum.{sum_to}
-use Rattle.naturals.proofs.Cases.{true_or_false}
 use Rattle.naturals.proofs.Shifts.{one_shifted}
 use Rattle.integers.specs.Floor.{floor, remainder}
 use Rattle.integers.specs.Half.{in_limit}
@@ -23,7 +22,7 @@ use Rattle.numbering.specs.Point.{at}
 use Rattle.hierarchy.specs.Turns.{value_at}
 use Rattle.hierarchy.proofs.Values.{value_suc}
 use Rattle.shapes.specs.declared.Shape.{Shape}
-use Rattle.shapes.specs.Shapes.{most_points, most_terms, points_of}
+use Rattle.shapes.specs.Shapes.{most_points, most_terms}
 use Rattle.grids.proofs.Faces.{FaceOf}
 use Rattle.surfaces.specs.Weights.{unit}
 use Rattle.surfaces.specs.Surface.{weight_on, joint_at}

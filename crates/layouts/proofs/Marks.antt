@@ -4,7 +4,7 @@
 -- Assumes nothing.
 use mathlib.Core.Path.{◌≡◌, refl, ap, ap₂, sym, ◌∙◌, fun_ext}
 use mathlib.Core.List.{List}
-use Prim.Native.Nat.{ℕ, zero, suc, ◌+◌, ◌-◌, ◌*◌, ◌≤◌, ◌<◌}
+use Prim.Native.Nat.{ℕ, suc, ◌+◌, ◌-◌, ◌≤◌, ◌<◌}
 use native.Mathlib.Numerals.{add-one}
 use native.Mathlib.Omega.{arith}
 use lib.ListN.{length, set, replicate, length-set, get_or-replicate, get_or-eq_default}
@@ -12,7 +12,7 @@ use lib.Seq.{get_or-set_same, get_or-set_other}
 use borrow.Author.Tests.{le-leb, lt-leb}
 use Rattle.naturals.specs.Sum.{sum_to}
 use Rattle.naturals.proofs.Cases.{le_or_lt, eq_or_not}
-use Rattle.naturals.proofs.Sums.{sum_to_zero, sum_to_suc}
+use Rattle.naturals.proofs.Sums.{sum_to_zero}
 use Rattle.numbering.specs.Point.{at}
 use Rattle.numbering.specs.Inverse.{block}
 use Rattle.faces.specs.Faces.{faces, bit, borders, having, face_rank, last_mark, mark_of}

@@ -7,11 +7,9 @@ use mathlib.Core.List.{List}
 use Prim.Native.Nat.{ℕ, zero, suc, ◌<◌}
 use lib.IntN.{ℤ, pos, ◌+ℤ◌, ◌-ℤ◌}
 use lib.ListN.{get_or}
-use Rattle.naturals.proofs.Cases.{true_or_false}
 use Rattle.integers.specs.Half.{half}
 use Rattle.numbering.specs.declared.Side.{Side}
 use Rattle.numbering.specs.declared.Side.TheVariants.{Left, Right}
-use Rattle.numbering.specs.Parent.{is_border}
 use Rattle.numbering.proofs.Parents.{update_other}
 use Rattle.hierarchy.specs.Turns.{value_at, forward, backward}
 use Rattle.hierarchy.proofs.Inverse.{forward_is, backward_zero}
@@ -20,7 +18,7 @@ use Rattle.shapes.specs.declared.Shape.{Shape}
 use Rattle.shapes.specs.Shapes.{points_of}
 use Rattle.grids.specs.Grids.{number_of, mark_on, level_on, index_on, neighbour, depth, height}
 use Rattle.grids.proofs.Points.{PointOf, number_lt, marks_again, levels_again, indices_again}
-use Rattle.grids.proofs.Beside.{parent_levels, parent_indices, across_marks, across_levels, across_indices, to_across, to_parent, across_there, parent_there, none_or_point}
+use Rattle.grids.proofs.Beside.{to_across, to_parent, across_there, parent_there, none_or_point}
 use Rattle.grids.proofs.Instance.{grid}
 use Rattle.grids.specs.Turned.{turned_table, former_table}
 

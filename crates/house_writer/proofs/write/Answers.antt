@@ -2,7 +2,6 @@
 -- Assumes nothing.
 use mathlib.Core.Path.{sym, ◌∙◌, ap}
 use Rattle.shapes.proofs.Checked.{in_range_passed}
-use Rattle.shapes.specs.Shapes.{sparse}
 use Rattle.shapes.specs.declared.Shape.{Shape}
 use Rattle.house_file.specs.Written.{written_file}
 use Rattle.house_writer.specs.Writing.{put_file}

@@ -17,9 +17,9 @@ returns c =
     let read = λ (r : ℕ). entry rows.counts.now r s.level in
     elim c.if-shape.branch [
       | then-shape w ↦
-        let few : s.axes ≤ 4 = omega (arith, c.requires.1, ap most_axes w.if-shape.true) in
-        c.from.ensures ∙ ap read w.row-is ∙ rows.summed.bordered s.axes s.level few c.requires.2 ∙ sym (points_bordered s w.if-shape.true)
+          let few : s.axes ≤ 4 = omega (arith, c.requires.1, ap most_axes w.if-shape.true) in
+          c.from.ensures ∙ ap read w.row-is ∙ rows.summed.bordered s.axes s.level few c.requires.2 ∙ sym (points_bordered s w.if-shape.true)
       | else-shape w ↦
-        let few : s.axes ≤ 8 = omega (arith, c.requires.1, most_small s.border) in
-        c.from.ensures ∙ ap read w.row-is ∙ rows.summed.plain s.axes s.level c.requires.0 few c.requires.2 ∙ sym (points_plain s w.if-shape.false)
+          let few : s.axes ≤ 8 = omega (arith, c.requires.1, most_small s.border) in
+          c.from.ensures ∙ ap read w.row-is ∙ rows.summed.plain s.axes s.level c.requires.0 few c.requires.2 ∙ sym (points_plain s w.if-shape.false)
     ]
