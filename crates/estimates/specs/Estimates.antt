@@ -35,7 +35,7 @@ check_coordinates u d xs =
     unless (eqb (length xs) d) ListLength
     and_then unless (leb d (first_outside u d xs)) (Coordinate (suc (first_outside u d xs)))
 
--- The checks of an estimate: 1, 2, 14, 3, 17, 7, 8, and 10 where any value is past the content limit.
+-- The checks of an estimate: 1, 2, 14, 19, 3, 17, 7, 8, and 10 where any value is past the content limit.
 unfoldable pub check_estimate : ℕ → State → List ℤ → List ℕ → Verdict
 check_estimate u s table xs =
     check_state s (length table)

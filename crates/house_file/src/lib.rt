@@ -30,7 +30,7 @@ pub fn read_head(bytes: &[u8]) -> Result<(Shape, &[u8]), Refusal>
     Ok((Shape::sparse(axes, level), rest))
 }
 
-// Refused with 1, 2 or 3: the shape, and fewer than N places.
+// Refused with 1, 2, 19 or 3: the shape, and fewer than N places.
 #[tactic(auto, unfolding(crate::specs::Steps::check_places))]
 fn check_places(shape: Shape, places: usize) -> Result<CheckedShape, Refusal>
     ensures verdict { verdict result ≡ check_places shape places }

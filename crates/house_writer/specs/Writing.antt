@@ -32,7 +32,7 @@ filled_out file out = after_writing (Ok (length file)) (file ++ drop (length fil
 unfoldable pub put_file : List ℕ → List ℕ → AfterWriting
 put_file file out = answer (kept_out out) (check_room file out) (filled_out file out)
 
--- The writer, of the table of d axes and top level n with a zero border: refused with 1, 2, 3 (not N rates), 4 (smallest point number), then with 3 (the output
+-- The writer, of the table of d axes and top level n with a zero border: refused with 1, 2, 19, 3 (not N rates), 4 (smallest point number), then with 3 (the output
 -- buffer).
 unfoldable pub write_file : ℕ → ℕ → List ℤ → List ℕ → AfterWriting
 write_file d n rates out =

@@ -17,7 +17,7 @@ located nowhere = None
 located (somewhere m l i) = Some (point_of m l i)
 
 -- What lies beside a point on one side on an axis: with a zero border none across the border, with values on the border the border point there; beside a border
--- point on its axis none. Refused with 1, 2, 5, 7 or 9. Axis t of the paper is place t − 1.
+-- point on its axis none. Refused with 1, 2, 19, 5, 7 or 9. Axis t of the paper is place t − 1.
 unfoldable pub parent_of : Shape → List ℕ → List ℕ → List ℕ → ℕ → Side → Result (Option MarkedPoint) Refusal
 parent_of s ms ls is axis side =
     answer Err (check_shape s and_then check_axis s axis and_then check_lists s ms ls is)

@@ -26,7 +26,7 @@ check_lists s ms ls is =
     unless (eqb (length ms) s.axes && eqb (length ls) s.axes && eqb (length is) s.axes) ListLength
     and_then unless (is_point s.axes s.level (at ls) (at is) && all (fitting s.border (at ms) (at ls) (at is)) s.axes) NoPoint
 
--- A point handed in as three lists: refused with 1, 2, 7 or 9.
+-- A point handed in as three lists: refused with 1, 2, 19, 7 or 9.
 unfoldable pub check_point : Shape → List ℕ → List ℕ → List ℕ → Verdict
 check_point s ms ls is = check_shape s and_then check_lists s ms ls is
 

@@ -24,7 +24,7 @@ number_of (AlreadyForward axis) = 15  -- forward on an axis already forward; pla
 number_of (NotForward axis) = 16  -- back on an axis not forward; place: the axis
 number_of (StillSampled axis) = 17  -- estimate while an axis is not forward; place: first such axis
 number_of (StillForward axis) = 18  -- unload while an axis is forward; place: first such axis
-number_of TooManyPoints = 19  -- more than 32,768 points (document 02, c)
+number_of TooManyPoints = 19  -- more than 32,768 points (document 02, c and h)
 
 -- The place is 0 unless the row names one.
 abbrev pub place_of : Refusal → ℕ

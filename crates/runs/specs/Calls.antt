@@ -52,7 +52,7 @@ unfoldable pub check_lengths : List ℕ → List ℕ → List ℕ → List ℕ �
 check_lengths directions axes ns ps =
     unless (eqb (length axes) (length directions) && eqb (length ns) (length directions) && eqb (length ps) (length directions)) ListLength
 
--- The state and the table, refused with 1, 2, 14 or 3; then the lists; then the turns in order, each answer in its place.
+-- The state and the table, refused with 1, 2, 14, 19 or 3; then the lists; then the turns in order, each answer in its place.
 unfoldable pub run_calls : State → List ℤ → List ℕ → List ℕ → List ℕ → List ℕ → Report
 run_calls s xs directions axes ns ps =
     answer (unrun xs ns ps)

@@ -33,7 +33,7 @@ fn carry_out(state: State, table: &mut [i64], turn: Turn) -> Result<State, Refus
 
 // Carries out the turns of a list, one direction (0 forward, else back) and one axis for each, and reports the number and place of each refusal, 0 and 0 where
 // there is none. A refused turn leaves the state, and the next is carried out. The rest of a list can be handed in later, with the state that this call answers.
-// The run itself is refused with 1, 2, 14, 3 or 7, and then carries out no turn.
+// The run itself is refused with 1, 2, 14, 19, 3 or 7, and then carries out no turn.
 #[tactic(auto, using(crate::proofs::Appending::run_unchecked))]
 pub fn run(
     state: State,

@@ -37,7 +37,7 @@ most_terms = 1287
 unfoldable pub points_of : Shape → ℕ
 points_of s = if s.border then border_points s.axes s.level else points s.axes s.level
 
--- A shape has at most so many points, else refused with 19.
+-- A shape has at most the most points that are run, else refused with 19 (document 02, h).
 unfoldable pub check_size : Shape → Verdict
 check_size s = unless (leb (points_of s) most_points) TooManyPoints
 

@@ -14,6 +14,6 @@ use Rattle.points.specs.Points.{check_point, point_at}
 unfoldable pub after : Shape → ℕ → Option MarkedPoint
 after s p = if ltb (suc p) (points_of s) then Some (point_at s (suc p)) else None
 
--- The successor of a point: refused with 1, 2, 7 or 9.
+-- The successor of a point: refused with 1, 2, 19, 7 or 9.
 unfoldable pub successor_of : Shape → List ℕ → List ℕ → List ℕ → Result (Option MarkedPoint) Refusal
 successor_of s ms ls is = answer Err (check_point s ms ls is) (Ok (after s (number_of s (at ms) (at ls) (at is))))

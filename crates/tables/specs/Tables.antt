@@ -15,7 +15,7 @@ use Rattle.states.specs.declared.State.{State}
 use Rattle.states.specs.After.{After, after, kept, Left, left_by}
 use Rattle.states.specs.States.{check_axes, check_state}
 
--- A table handed in with a shape: refused with 1, 2 or 3.
+-- A table handed in with a shape: refused with 1, 2, 19 or 3.
 unfoldable pub check_table : Shape → List ℤ → Verdict
 check_table s xs = check_shape s and_then check_length s (length xs)
 
@@ -27,7 +27,7 @@ rate_at xs p = is_rate (value_at xs (suc p))
 unfoldable pub check_rates : List ℤ → Verdict
 check_rates xs = unless (nat_le (length xs) (first_failing (rate_at xs) (length xs))) (Rate (first_failing (rate_at xs) (length xs)))
 
--- A table of rates handed in with a shape: refused with 1, 2, 3 or 4.
+-- A table of rates handed in with a shape: refused with 1, 2, 19, 3 or 4.
 abbrev pub check_rated : Shape → List ℤ → Verdict
 check_rated s xs = check_table s xs and_then check_rates xs
 
@@ -66,7 +66,7 @@ scaled_at d xs p = is_scaled d (value_at xs (suc p))
 unfoldable pub check_sampled : State → Verdict
 check_sampled s = check_axes true StillForward s
 
--- Unload: a table with no axis forward becomes rates, each value divided by 2^d. Refused with 1, 2, 14, 3, 18 (first forward axis) or 10.
+-- Unload: a table with no axis forward becomes rates, each value divided by 2^d. Refused with 1, 2, 14, 19, 3, 18 (first forward axis) or 10.
 unfoldable pub unload : State → List ℤ → Left
 unload s xs =
     left_by xs

@@ -12,7 +12,7 @@ use refusals::Refusal;
 use shapes::Shape;
 use states::{CheckedState, State};
 
-// Refused with 1, 2 or 3.
+// Refused with 1, 2, 19 or 3.
 #[tactic(auto, unfolding(crate::specs::Tables::check_table))]
 fn check_table(shape: Shape, table: &[i64]) -> Result<(), Refusal>
     ensures { result ≡ check_table shape table.now }
@@ -48,7 +48,7 @@ fn first_rate(table: &[i64]) -> Result<(), Refusal>
     Ok(())
 }
 
-// A table of rates: refused with 1, 2, 3 or 4.
+// A table of rates: refused with 1, 2, 19, 3 or 4.
 #[tactic(auto, unfolding(crate::specs::Tables::check_rated))]
 pub fn check_rated(shape: Shape, table: &[i64]) -> Result<(), Refusal>
     ensures { result ≡ check_rated shape table.now }

@@ -16,7 +16,7 @@ use Rattle.states.specs.States.{has, marked, cleared, check_state}
 unfoldable pub is_accepted : Shape → ℕ → List ℤ → Bool
 is_accepted s t xs = accepted (neighbour s) (points_of s) t (value_at xs)
 
--- A state, a table of that many places and an axis: refused with 1, 2, 14, 3 or 5.
+-- A state, a table of that many places and an axis: refused with 1, 2, 14, 19, 3 or 5.
 unfoldable pub check_turn : State → ℕ → ℕ → Verdict
 check_turn s places axis = check_state s places and_then check_axis s.shape axis
 

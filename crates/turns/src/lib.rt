@@ -73,7 +73,7 @@ impl Turning for Back {
     }
 }
 
-// Refused with 1, 2, 14, 3 or 5.
+// Refused with 1, 2, 14, 19, 3 or 5.
 #[tactic(auto, unfolding(crate::specs::Turns::check_turn))]
 fn check_turn(state: State, places: usize, axis: u32) -> Result<(), Refusal>
     ensures { result ≡ check_turn state places axis }

@@ -16,7 +16,7 @@ use Rattle.tables.specs.Tables.{check_table, rate_at, check_rated, quotient}
 unfoldable pub coefficients_of : Shape → List ℤ → List ℤ
 coefficients_of s xs = values_of (points_of s) (table_of (neighbour s) s.axes every_axis (value_at xs))
 
--- Rates to coefficients: refused with 1, 2, 3 or 4.
+-- Rates to coefficients: refused with 1, 2, 19, 3 or 4.
 unfoldable pub rates_to_coefficients : Shape → List ℤ → Left
 rates_to_coefficients s xs = left_by xs (check_rated s xs) (coefficients_of s xs)
 
@@ -38,6 +38,6 @@ unfoldable pub has_rates : Shape → List ℤ → Bool
 has_rates s xs =
     all (rate_at (rates_of s xs)) (points_of s) && all (same_at (coefficients_of s (rates_of s xs)) xs) (points_of s)
 
--- Coefficients to rates: refused with 1, 2, 3, or with 10 where no accepted rates have these coefficients.
+-- Coefficients to rates: refused with 1, 2, 19, 3, or with 10 where no accepted rates have these coefficients.
 unfoldable pub coefficients_to_rates : Shape → List ℤ → Left
 coefficients_to_rates s xs = left_by xs (check_table s xs and_then unless (has_rates s xs) Contents) (rates_of s xs)
