@@ -273,7 +273,7 @@ uint32_t numolefays_write_house_file(uint32_t axes, uint32_t level, const int64_
 /*
  * A house file read and written again, without a table: the one form of all files of that shape and these rates.
  * It is never longer than the file, and rewriting it changes no byte; but the two buffers must not overlap [15].
- * A file of more than most_points points is refused as by a reader with that many places; 32,768 is no limit.
+ * A file of more than most_points points is refused as by a reader with that many places; 32,768 is always enough.
  * `*length` gets the form's length; the form goes to the first `*length` bytes of the output buffer, and the bytes
  * after them hold what they held.
  * Refused: 11 or 12 for d, 11 or 12 for n, 1, 2, 19, 3 (N above most_points), 11 or 12 for each rate, 13, 3 (output

@@ -14,9 +14,9 @@ const COLUMNS: [&str; 5] =
 const MARGIN_COLUMNS: [&str; 4] =
     ["library", "library, the estimate alone", "algorithm 7 and the test", "weights tabulated, and the test"];
 
-/// How many estimates make a round: fewer for the largest table.
+/// How many estimates make a round: fewer for larger tables.
 fn lists(points: usize) -> usize {
-    (4_000_000 / points).clamp(4, 400)
+    (4_000_000 / points).min(400)
 }
 
 pub fn print(shapes: &[(u32, u32)], seconds: f64) {

@@ -48,7 +48,7 @@ pub use shape::Shape;
 pub use state::{Estimated, State};
 pub use turn::Turn;
 
-/// The most axes and the highest top level that a shape may have.
+/// The most axes, and the highest top level, that a shape may have; not both at once, since it has at most 32,768 points.
 pub const MOST: u32 = 8;
 
 /// The most axes that a shape with values on the border may have.

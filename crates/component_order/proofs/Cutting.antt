@@ -11,6 +11,7 @@ use Rattle.naturals.proofs.Shifts.{one_shifted}
 use Rattle.numbering.specs.Point.{at}
 use Rattle.numbering.specs.Parent.{update}
 use Rattle.numbering.proofs.Parents.{update_same, update_other}
+use Rattle.shapes.specs.Shapes.{most_points}
 use Rattle.component_grids.specs.Component.{across}
 use Rattle.component_boxes.specs.Order.{widest, middle_of, half_of, away}
 use Rattle.component_boxes.specs.Boxes.{Fits}
@@ -69,7 +70,7 @@ module _ (b : GridBox) (more : 1 < across (at b.levels (widest (at b.levels) b.g
   pub away_left : 1 * 2 ^ (at ls r - 1) % 2 ^ 64 * at g.strides r ≤ c
   away_left = rw away_is (left_shift g.axes (tops_of g) (at ls) c b.fits r axis some).0
 
-  pub away_right : c + 1 * 2 ^ (at ls r - 1) % 2 ^ 64 * at g.strides r < 32768
+  pub away_right : c + 1 * 2 ^ (at ls r - 1) % 2 ^ 64 * at g.strides r < most_points
   away_right = rw away_is (omega (arith, (right_shift g.axes (tops_of g) (at ls) c b.fits r axis some).inside, g.small))
 
   -- The levels.

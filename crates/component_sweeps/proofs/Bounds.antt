@@ -6,6 +6,7 @@ use native.Mathlib.Nat.{mul-le-mul, mul-le-mul_right}
 use native.Mathlib.Omega.{arith}
 use lib.Pow.{pow_mono}
 use Rattle.numbering.specs.Point.{at}
+use Rattle.shapes.specs.Shapes.{most_points}
 use Rattle.component_grids.specs.Component.{points_to}
 use Rattle.component_boxes.proofs.Falling.{points_before}
 use Rattle.component_sweeps.specs.declared.grid.GridBox.{GridBox}
@@ -19,7 +20,7 @@ pub times_most : (a b m n : ℕ) → a ≤ m → b ≤ n → a * b ≤ m * n
 times_most a b m n one two = mul-le-mul one two
 
 module _ (g : Turn) (ground : Ground g) where
-  pub stride_most : (u : ℕ) → u < g.axes → points_to g.tops u ≤ 32768
+  pub stride_most : (u : ℕ) → u < g.axes → points_to g.tops u ≤ most_points
   stride_most u axis = omega (arith, points_before g.tops u g.axes (omega arith), ground.small)
 
   pub half_most : (u : ℕ) → u < g.axes → 2 ^ g.levels u ≤ 256
@@ -45,7 +46,7 @@ known w = ground w.on.of w.on.axis w.on.inside
 pub half_is : (w : Sweep) → w.half ≡ 2 ^ at w.on.of.levels w.on.axis
 half_is w = w.half_is ∙ ap (λ (k : ℕ). 2 ^ k) w.level_is
 
-pub unit_near : (box : GridBox) (t : ℕ) (b : Spread) → Covers box t b → b.unit ≤ 32768
+pub unit_near : (box : GridBox) (t : ℕ) (b : Spread) → Covers box t b → b.unit ≤ most_points
 unit_near box t b so =
     omega (
       arith,

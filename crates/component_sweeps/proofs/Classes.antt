@@ -12,6 +12,7 @@ use lib.Pow.{pow_pos, pow_mono}
 use Rattle.naturals.proofs.Cases.{le_or_lt, eq_or_not}
 use Rattle.naturals.proofs.Shifts.{one_shifted}
 use Rattle.numbering.specs.Parent.{twos}
+use Rattle.shapes.specs.Shapes.{most_points}
 use Rattle.component_grids.proofs.Places.{place_low}
 use Rattle.component_boxes.proofs.Fitting.{times_on, on_multiple}
 use Rattle.component_sweeps.specs.declared.Parents.{Parents}
@@ -81,16 +82,16 @@ module _ (w : Sweep) (q reach : ℕ) (xs : List ℤ) where
           pow_mono {i = level} {j = g.levels t} (omega (arith, of.finer)),
         )
 
-    pub stride_small : w.stride ≤ 32768
+    pub stride_small : w.stride ≤ most_points
     stride_small = omega (arith, w.stride_is, stride_most g (known w) t axis)
 
     pub high_most : high ≤ 512
     high_most = omega (arith, high_is, box_high g (known w) t axis, end_most g (known w) t)
 
     pub far_most : w.stride * reach ≤ 8388608
-    far_most = times_most w.stride reach 32768 256 stride_small reach_most
+    far_most = times_most w.stride reach most_points 256 stride_small reach_most
 
-    pub first_most : q < 32768
+    pub first_most : q < most_points
     first_most = omega (arith, of.from.first.near.inside, (known w).small)
 
     -- ---- the loop
@@ -157,7 +158,7 @@ module _ (w : Sweep) (q reach : ℕ) (xs : List ℤ) where
         inside = omega (arith, high_is)
 
         pub passing_most : (x - low - 1) * w.stride ≤ 16777216
-        passing_most = times_most (x - low - 1) w.stride 512 32768 (omega (arith, high_most)) stride_small
+        passing_most = times_most (x - low - 1) w.stride 512 most_points (omega (arith, high_most)) stride_small
 
         separate : Apart g.axes g.tops t (Along g w.spread.from q (Passed reach x)) (Along g w.spread.from q (λ y. y ≡ x))
         separate =

@@ -10,6 +10,7 @@ use lib.Pow.{pow_pos}
 use Rattle.naturals.proofs.Cases.{eq_or_not}
 use Rattle.naturals.proofs.Shifts.{one_shifted}
 use Rattle.numbering.specs.Point.{at}
+use Rattle.shapes.specs.Shapes.{most_points}
 use Rattle.component_grids.specs.Component.{points_to, place_at}
 use Rattle.component_grids.proofs.Places.{shift_down}
 use Rattle.component_boxes.specs.Order.{half_span}
@@ -36,7 +37,7 @@ module _ (g : Layout) (ls : List ℕ) (within : (t : ℕ) → t < g.axes → at 
         rw (add-one t)
         (ap₂ (λ (x y : ℕ). x + y) is (ap₂ (λ (x y : ℕ). (x - 1) * y) half_is (g.laid t axis)) ∙ sym (half_span_suc (tops_of g) (at ls) t))
 
-    pub spanned_fits : span + (half - 1) * at g.strides t < 32768
+    pub spanned_fits : span + (half - 1) * at g.strides t < most_points
     spanned_fits =
         omega (
           arith,

@@ -9,6 +9,7 @@ use native.Mathlib.Omega.{arith}
 use lib.Pow.{pow_mono}
 use Rattle.naturals.proofs.Cases.{eq_or_not}
 use Rattle.numbering.specs.Point.{at}
+use Rattle.shapes.specs.Shapes.{most_points}
 use Rattle.component_grids.specs.Component.{across, points_to}
 use Rattle.component_grids.proofs.Places.{across_is, across_pos, points_to_zero, points_to_suc, points_to_pos}
 use Rattle.component_sweeps.specs.declared.grid.GridBox.{GridBox}
@@ -81,10 +82,10 @@ module _ (on : BoxAxis) where
 
     -- ---- how large the numbers are
 
-    small : points_to tops u ≤ 32768
+    small : points_to tops u ≤ most_points
     small = omega (arith, points_before tops u box.grid.now.axes (omega arith), box.grid.now.small)
 
-    size_most : size ≤ 32768
+    size_most : size ≤ most_points
     size_most =
         omega (
           arith,
@@ -94,21 +95,21 @@ module _ (on : BoxAxis) where
           mul-le-mul_right {m = 1} {n = stride} size (omega (arith, stride_is, points_to_pos tops u)),
         )
 
-    pub run_most : b.width * b.unit ≤ 32768
+    pub run_most : b.width * b.unit ≤ most_points
     run_most = omega (arith, so.short, small)
 
-    pub lines_most : b.lines * b.apart ≤ 32768
+    pub lines_most : b.lines * b.apart ≤ most_points
     lines_most = omega (arith, so.low, small)
 
     pub lines_product : b.lines * size ≤ 1073741824
     lines_product =
-        times_most b.lines size 32768 32768
+        times_most b.lines size most_points most_points
         (omega (arith, lines_most, mul-le-mul_right {m = 1} {n = b.apart} b.lines so.far, mul_comm b.apart b.lines))
         size_most
 
     pub width_product : b.width * size ≤ 1073741824
     width_product =
-        times_most b.width size 32768 32768
+        times_most b.width size most_points most_points
         (omega (arith, run_most, mul-le-mul_right {m = 1} {n = b.unit} b.width so.step, mul_comm b.unit b.width))
         size_most
 

@@ -13,6 +13,7 @@ use lib.IntN.{ℤ}
 use lib.Pow.{pow_pos, pow_mono}
 use Rattle.naturals.proofs.Cases.{le_or_lt, eq_or_not}
 use Rattle.numbering.specs.Parent.{twos}
+use Rattle.shapes.specs.Shapes.{most_points}
 use Rattle.component_grids.proofs.Places.{place_low, place_high}
 use Rattle.component_grids.proofs.Beside.{reach_le}
 use Rattle.component_boxes.proofs.Reach.{reach_multiple}
@@ -65,16 +66,16 @@ module _ (w : Sweep) (q : ℕ) (xs : List ℤ) where
           reach_le w.place (omega (arith, w.place_is, place_low g.tops g.centre t)),
         )
 
-    pub stride_small : w.stride ≤ 32768
+    pub stride_small : w.stride ≤ most_points
     stride_small = omega (arith, w.stride_is, stride_most g (known w) t axis)
 
     pub far_most : w.stride * w.reach ≤ 16777216
-    far_most = times_most w.stride w.reach 32768 512 stride_small (omega (arith, own_most, half_fits))
+    far_most = times_most w.stride w.reach most_points 512 stride_small (omega (arith, own_most, half_fits))
 
     pub middle_most : (w.half - 1) * w.stride ≤ 8388608
-    middle_most = times_most (w.half - 1) w.stride 256 32768 (omega (arith, half_fits)) stride_small
+    middle_most = times_most (w.half - 1) w.stride 256 most_points (omega (arith, half_fits)) stride_small
 
-    pub first_most : q < 32768
+    pub first_most : q < most_points
     first_most = omega (arith, of.first.near.inside, (known w).small)
 
     -- ---- the loop

@@ -10,6 +10,7 @@ use native.Mathlib.Omega.{arith}
 use lib.IntN.{ℤ}
 use Rattle.naturals.proofs.Cases.{le_or_lt, eq_or_not}
 use Rattle.numbering.specs.Point.{at}
+use Rattle.shapes.specs.Shapes.{most_points}
 use Rattle.component_grids.specs.Component.{across}
 use Rattle.component_grids.proofs.Places.{Shifted, across_is, shift_up}
 use Rattle.component_grids.proofs.Beside.{beside}
@@ -185,7 +186,7 @@ module _ (w : Sweep) (j q : ℕ) (xs : List ℤ) where
                     most = omega (arith, u_axis);
                   }
 
-              pub next_fits : p < 32768
+              pub next_fits : p < most_points
               next_fits = omega (arith, shifted.inside, (known w).small)
 
               pub rowing_steps : (zs : List ℤ) → Turned g (InRows w u p) ys zs → Turned g (Upto g j q u (i + 1)) xs zs

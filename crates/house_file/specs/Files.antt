@@ -17,7 +17,7 @@ named d n rest = got (sparse d n) rest
 unfoldable pub read_head : List ℕ → Read Shape
 read_head bytes = read_number bytes next (λ d more. read_number more next named d)
 
--- Where both were read, refused with 1 or 2.
+-- Where both were read, refused with 1, 2 or 19.
 unfoldable pub head_checked : Shape → List ℕ → Read Shape
 head_checked s rest = check_shape s then_read got s rest
 
@@ -25,7 +25,7 @@ abbrev pub shape_read : Read Shape → Result Shape Refusal
 shape_read (got s rest) = Ok s
 shape_read (refused r) = Err r
 
--- The shape that a file names, from d and n alone: 11 or 12 for d, 11 or 12 for n, then 1 or 2.
+-- The shape that a file names, from d and n alone: 11 or 12 for d, 11 or 12 for n, then 1, 2 or 19.
 unfoldable pub shape_of_file : List ℕ → Result Shape Refusal
 shape_of_file bytes = shape_read (read_head bytes next head_checked)
 
@@ -38,7 +38,7 @@ pub record Contents : Type 0 where
 unfoldable pub ended : Shape → List ℤ → List ℕ → Read Contents
 ended s rates rest = all_read rest then_read got (record { shape = s; rates = rates }) rest
 
--- Once d and n are read: refused with 1 or 2, with 3 where the buffer has fewer than N places; then the rates.
+-- Once d and n are read: refused with 1, 2 or 19, with 3 where the buffer has fewer than N places; then the rates.
 unfoldable pub read_table : ℕ → Shape → List ℕ → Read Contents
 read_table places s rest =
     check_shape s

@@ -9,7 +9,7 @@ use streams::{print, read_stdin};
 
 const NAME: &str = "rewrite";
 
-// Those of the largest table that is run.
+// As many as a table may have points.
 const PLACES: usize = MOST_POINTS as usize;
 
 // So many bytes of a file decide.

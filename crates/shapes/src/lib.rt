@@ -1,4 +1,4 @@
-// Shapes: the check of a shape, the constant rows of binomials, the count of points, and the check of a table's length.
+// Shapes: the check of a shape, the constant tables of binomials, starts and counts, the count of points, and the check of a table's length.
 #![tactic(auto)]
 
 ghost use Rattle.std.specs.Prelude.{◌≡◌, suc, ◌≤◌, IfOk};

@@ -345,7 +345,7 @@ fn number_of(shape: Shape, lists: &Lists, reading: &Reading) -> Result<usize, Re
     grid(shape, reading).number.get(&at).copied().ok_or((9, 0))
 }
 
-/// A turn on a state and a table that are none of refusals 1, 2, 14 and 3.
+/// A turn on a state and a table that are none of refusals 1, 2, 14, 19 and 3.
 fn turned(
     shape: Shape,
     back: bool,
