@@ -23,7 +23,7 @@
  *
  * Pointers. C cannot check these, so here the caller is asked for something [15]:
  * - every pointer is aligned and not null, also where a length is 0;
- * - it points to as many items as the length beside it says, or to one, or to the 8 of an array;
+ * - it points to as many items as the length beside it says, or to one, or to the 8, 4 or 32 of an array;
  * - what a function writes overlaps nothing else that it is handed;
  * - nobody else reads or writes it until the function returns.
  * A call with a wrong pointer or length is outside of everything that is proved.
@@ -69,7 +69,12 @@ enum numolefays_refusal {
     NUMOLEFAYS_STILL_SAMPLED = 17,   /* estimate while an axis is not forward; place: first such axis */
     NUMOLEFAYS_STILL_FORWARD = 18,   /* unload while an axis is forward; place: first such axis */
     /* because of the input */
-    NUMOLEFAYS_TOO_MANY_POINTS = 19  /* a shape or a component grid of more than 32,768 points */
+    NUMOLEFAYS_TOO_MANY_POINTS = 19, /* a shape or a component grid of more than 32,768 points */
+    /* because of an account, or of what is asked of it */
+    NUMOLEFAYS_ALLOWANCE = 20,       /* an account that no calls leave; an opening would take the common points
+                                        above 49,152 */
+    NUMOLEFAYS_TAG = 21,             /* opening under an open tag, or closing one that is not open */
+    NUMOLEFAYS_NO_SLOT = 22          /* office outside 1 to 4, or tag above 7 */
 };
 
 /* ---- points [2] ---- */
@@ -241,6 +246,59 @@ uint32_t numolefays_estimate_with_margin(uint32_t axes, uint32_t level, uint8_t 
  */
 uint32_t numolefays_component_coefficients(const uint32_t *levels, size_t levels_length, int64_t *table,
                                            size_t table_length, uint64_t *place);
+
+/* ---- an account of four offices [19]: tables without border values ---- */
+
+/*
+ * Four offices open tables under one account of 65,536 points: each has 4,096 of its own, and 49,152 are common. The
+ * common points in use are the sum over the offices of what each has open above 4,096. An account holds no table: only
+ * which shape each office has open under which tag. The caller keeps it and hands it in; a call that is not refused
+ * changes one byte of it.
+ *
+ * Its 32 bytes: that of office 1 to 4 and tag 0 to 7 is at place (office - 1) * 8 + tag. It is 0 where nothing is open,
+ * else 16 * d + n. Any 32 bytes may be handed in. Those that no calls leave, from an empty account on, are refused with
+ * 20 before anything else: a byte that is neither 0 nor that of a shape which passes, or more than 49,152 common points
+ * in use.
+ */
+#define NUMOLEFAYS_OFFICES 4
+#define NUMOLEFAYS_TAGS 8
+#define NUMOLEFAYS_OWN_POINTS UINT64_C(4096)
+#define NUMOLEFAYS_COMMON_POINTS UINT64_C(49152)
+
+/*
+ * An account in which nothing is open: 32 times 0.
+ * Refused: never.
+ */
+uint32_t numolefays_empty_account(uint8_t account[32], uint64_t *place);
+
+/*
+ * An office opens a table under one of its tags.
+ * Refused: 20 (the account), 1, 2, 19, 22, 21 (the tag is open), 20 (the common points would pass 49,152).
+ */
+uint32_t numolefays_open_table(uint8_t account[32], uint32_t office, uint32_t tag, uint32_t axes, uint32_t level,
+                               uint64_t *place);
+
+/*
+ * An office closes the table under one of its tags: its points are free again, its own first.
+ * Refused: 20 (the account), 22, 21 (the tag is not open).
+ */
+uint32_t numolefays_close_table(uint8_t account[32], uint32_t office, uint32_t tag, uint64_t *place);
+
+/*
+ * The points open, by office and in all, and the common points in use and free, which are 49,152 together. The
+ * account is only read.
+ * Refused: 20 (the account).
+ */
+uint32_t numolefays_account_usage(const uint8_t account[32], uint64_t by_office[4], uint64_t *in_all,
+                                  uint64_t *common_used, uint64_t *common_free, uint64_t *place);
+
+/*
+ * The axes and the top level of the table that is open under a tag, and `*none` gets 0. Where nothing is open, `*none`
+ * gets 1 and the other two hold what they held; this is no refusal. The account is only read.
+ * Refused: 20 (the account), 22.
+ */
+uint32_t numolefays_table_under(const uint8_t account[32], uint32_t office, uint32_t tag, uint32_t *axes,
+                                uint32_t *level, uint32_t *none, uint64_t *place);
 
 /* ---- house files [12, 16]: tables without border values ---- */
 

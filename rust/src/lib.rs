@@ -29,6 +29,7 @@
 #![deny(unsafe_code)]
 #![warn(missing_docs)]
 
+mod account;
 pub mod boundary;
 mod component;
 mod house_file;
@@ -38,6 +39,7 @@ mod shape;
 mod state;
 mod turn;
 
+pub use account::{Account, Usage};
 pub use component::component_coefficients;
 pub use house_file::{
     house_file, house_file_shape, read_house_file, rewrite_house_file, rewritten_house_file, write_house_file,

@@ -47,6 +47,12 @@ pub enum Refusal {
     StillForward(u32),
     /// 19: the shape or the component grid has more than 32,768 points.
     TooManyPoints,
+    /// 20: the account is one that no calls leave, or an opening would take the common points above 49,152.
+    Allowance,
+    /// 21: opening under a tag that is open, or closing one that is not.
+    Tag,
+    /// 22: the office is outside 1 to 4, or the tag above 7.
+    NoSlot,
     /// A number that this crate does not know, from an archive that is newer than it.
     Unknown {
         /// The refusal's number.
@@ -80,6 +86,9 @@ impl Refusal {
             17 => Refusal::StillSampled(axis),
             18 => Refusal::StillForward(axis),
             19 => Refusal::TooManyPoints,
+            20 => Refusal::Allowance,
+            21 => Refusal::Tag,
+            22 => Refusal::NoSlot,
             _ => return Refusal::Unknown { number, place },
         };
         // a place that the case cannot hold is not dropped in silence
@@ -121,6 +130,9 @@ impl Refusal {
             Refusal::StillSampled(_) => 17,
             Refusal::StillForward(_) => 18,
             Refusal::TooManyPoints => 19,
+            Refusal::Allowance => 20,
+            Refusal::Tag => 21,
+            Refusal::NoSlot => 22,
             Refusal::Unknown { number, .. } => number,
         }
     }
@@ -164,7 +176,12 @@ impl fmt::Display for Refusal {
             Refusal::StillSampled(axis) => write!(f, "axis {axis} is not forward yet"),
             Refusal::StillForward(axis) => write!(f, "axis {axis} is still forward"),
             Refusal::TooManyPoints => write!(f, "the shape or the component grid has more than 32768 points"),
-            Refusal::Unknown { place, .. } => write!(f, "a refusal that this crate does not know, place {place}"),
+            Refusal::Allowance => write!(f, "no calls leave this account, or too few common points are free"),
+            Refusal::Tag => write!(f, "the tag is open already, or is not open"),
+            Refusal::NoSlot => write!(f, "there is no such office or tag"),
+            Refusal::Unknown { place, .. } => {
+                write!(f, "a refusal that this crate does not know, place {place}")
+            }
         }
     }
 }

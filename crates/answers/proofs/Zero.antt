@@ -8,7 +8,7 @@ use native.Mathlib.Omega.{arith}
 use lib.Dec.{ltb}
 use Rattle.std.specs.Prelude.{if◌then◌else◌, Option, Some, None, Result, Ok, Err}
 use Rattle.refusals.specs.declared.Refusal.{Refusal}
-use Rattle.refusals.specs.declared.Refusal.TheVariants.{Axes, Level, TableLength, Rate, Axis, PointNumber, ListLength, Coordinate, NoPoint, Contents, FileEnds, FiledNumber, BytesLeft, StrayBit, AlreadyForward, NotForward, StillSampled, StillForward, TooManyPoints}
+use Rattle.refusals.specs.declared.Refusal.TheVariants.{Axes, Level, TableLength, Rate, Axis, PointNumber, ListLength, Coordinate, NoPoint, Contents, FileEnds, FiledNumber, BytesLeft, StrayBit, AlreadyForward, NotForward, StillSampled, StillForward, TooManyPoints, Allowance, Tag, NoSlot}
 use Rattle.refusals.specs.Refusals.{number_of}
 use Rattle.refusals.specs.Checks.{unless, ◌and_then◌, answer, Verdict}
 use Rattle.numbering.specs.Point.{at}
@@ -42,6 +42,9 @@ never_zero (NotForward axis) = omega arith
 never_zero (StillSampled axis) = omega arith
 never_zero (StillForward axis) = omega arith
 never_zero TooManyPoints = omega arith
+never_zero Allowance = omega arith
+never_zero Tag = omega arith
+never_zero NoSlot = omega arith
 
 -- The function answered 0, and the outputs are these.
 abbrev pub Gives : {A : Type 0} → A → Returned A → Type 0

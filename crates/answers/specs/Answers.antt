@@ -13,6 +13,9 @@ use Rattle.runs.specs.Calls.{Report}
 use Rattle.estimates.specs.declared.Estimated.{Estimated}
 use Rattle.house_file.specs.Files.{AfterReading}
 use Rattle.house_writer.specs.Writing.{AfterWriting}
+use Rattle.accounts.specs.declared.Account.{Account}
+use Rattle.accounts.specs.declared.Answered.{Answered}
+use Rattle.accounts.specs.declared.Usage.{Usage}
 use Rattle.answers.specs.Returned.{Returned, told_of, leaving, done, refused}
 
 -- A shape and a state, from the numbers that stand for them. Of the border, 0 says that it is zero, and every other number that it has values.
@@ -82,3 +85,21 @@ of_named held (Err r) = refused held r
 -- The length of a written file, and the output buffer.
 abbrev pub of_writing : ℕ → AfterWriting → Returned (ℕ × List ℕ)
 of_writing held a = leaving (of_value held a.answer).told ((of_value held a.answer).outputs, a.out)
+
+-- An account, from its bytes; and the bytes of the one that a call leaves.
+abbrev pub account_of : List ℕ → Account
+account_of bytes = record { slots = bytes }
+
+abbrev pub of_answered : Answered → Returned (List ℕ)
+of_answered a = leaving (told_of a.verdict) a.account.slots
+
+-- The points open, by office and in all, and the common points in use and free.
+abbrev pub of_usage : List ℕ × ℕ × ℕ × ℕ → Result Usage Refusal → Returned (List ℕ × ℕ × ℕ × ℕ)
+of_usage held (Ok u) = done (u.by_office, u.in_all, u.common, u.free)
+of_usage held (Err r) = refused held r
+
+-- The axes and top level of the table under a tag, and 0; or 1 where nothing is open, the two numbers being what they were.
+abbrev pub of_table : ℕ × ℕ × ℕ → Result (Option Shape) Refusal → Returned (ℕ × ℕ × ℕ)
+of_table held (Ok (Some s)) = done (s.axes, s.level, 0)
+of_table held (Ok None) = done (held.0, held.1, 1)
+of_table held (Err r) = refused held r

@@ -3,8 +3,9 @@
 
 ghost use Rattle.std.specs.Prelude.{◌≡◌};
 ghost use Rattle.answers.specs.Returned.{told, told_of, returned};
-ghost use Rattle.answers.specs.Answers.{shape_of, state_of, side_of, of_value, of_point, of_located, of_estimated, of_answer};
+ghost use Rattle.answers.specs.Answers.{shape_of, state_of, side_of, of_value, of_point, of_located, of_estimated, of_answer, of_answered, of_usage, of_table};
 
+use accounts::{Answered, Usage};
 use estimates::Estimated;
 use numbering::Side;
 use points::MarkedPoint;
@@ -159,4 +160,55 @@ pub fn hand_length(answer: Result<usize, Refusal>, length: &mut u64, place: &mut
     ensures { returned result place.new length.new ≡ of_value length.old answer }
 {
     hand(answer.map(|size| size as u64), length, place)
+}
+
+// The account that a call leaves goes out with its verdict.
+pub fn hand_answered(answered: Answered, account: &mut [u8; 32], place: &mut u64) -> u32
+    ensures { returned result place.new account.new ≡ of_answered answered }
+{
+    let left = answered.account;
+    let slots = left.slots;
+    *account = slots;
+    tell(answered.verdict, place)
+}
+
+// The points open and the common points go out.
+pub fn hand_usage(
+    answer: Result<Usage, Refusal>,
+    by_office: &mut [u64; 4],
+    in_all: &mut u64,
+    common_used: &mut u64,
+    common_free: &mut u64,
+    place: &mut u64,
+) -> u32
+    ensures { returned result place.new (by_office.new, in_all.new, common_used.new, common_free.new) ≡ of_usage (by_office.old, in_all.old, common_used.old, common_free.old) answer }
+{
+    if let Ok(found) = answer {
+        let held = found.by_office;
+        *by_office = held;
+        *in_all = found.in_all;
+        *common_used = found.common;
+        *common_free = found.free;
+    }
+    tell(answer, place)
+}
+
+// The shape under a tag goes out, and `none` is 0. Where nothing is open, the two numbers stay, and `none` is 1.
+pub fn hand_table(
+    answer: Result<Option<Shape>, Refusal>,
+    axes: &mut u32,
+    level: &mut u32,
+    none: &mut u32,
+    place: &mut u64,
+) -> u32
+    ensures { returned result place.new (axes.new, level.new, none.new) ≡ of_table (axes.old, level.old, none.old) answer }
+{
+    if let Ok(found) = answer {
+        *none = u32::from(found.is_none());
+        if let Some(shape) = found {
+            *axes = shape.axes;
+            *level = shape.level;
+        }
+    }
+    tell(answer, place)
 }

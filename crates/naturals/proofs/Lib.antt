@@ -5,3 +5,4 @@ pub mod Summed
 pub mod Shifts
 pub mod FirstFailing
 pub mod Made
+pub mod Changes

@@ -2,6 +2,7 @@
 // where the call succeeded, else the refusal's number; `place` gets the refusal's place, 0 where there is none. Outputs are written on success only.
 #![tactic(auto)]
 
+pub mod account_calls;
 pub mod component_calls;
 pub mod file_calls;
 pub mod point_calls;

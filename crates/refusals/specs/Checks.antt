@@ -17,6 +17,11 @@ abbrev pub unless : Bool → Refusal → Verdict
 unless true r = Ok tt
 unless false r = Err r
 
+-- The check does not refuse.
+abbrev pub passes : Verdict → Bool
+passes (Ok _) = true
+passes (Err r) = false
+
 infixr 10 ◌and_then◌
 -- The first check, and where it passes the second.
 abbrev pub ◌and_then◌ : Verdict → Verdict → Verdict

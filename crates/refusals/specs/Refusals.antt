@@ -3,7 +3,7 @@
 -- Assumes nothing.
 use Rattle.std.specs.Prelude.{ℕ}
 use Rattle.refusals.specs.declared.Refusal.{Refusal}
-use Rattle.refusals.specs.declared.Refusal.TheVariants.{Axes, Level, TableLength, Rate, Axis, PointNumber, ListLength, Coordinate, NoPoint, Contents, FileEnds, FiledNumber, BytesLeft, StrayBit, AlreadyForward, NotForward, StillSampled, StillForward, TooManyPoints}
+use Rattle.refusals.specs.declared.Refusal.TheVariants.{Axes, Level, TableLength, Rate, Axis, PointNumber, ListLength, Coordinate, NoPoint, Contents, FileEnds, FiledNumber, BytesLeft, StrayBit, AlreadyForward, NotForward, StillSampled, StillForward, TooManyPoints, Allowance, Tag, NoSlot}
 
 abbrev pub number_of : Refusal → ℕ
 number_of Axes = 1  -- d outside 1 to 8
@@ -25,6 +25,9 @@ number_of (NotForward axis) = 16  -- back on an axis not forward; place: the axi
 number_of (StillSampled axis) = 17  -- estimate while an axis is not forward; place: first such axis
 number_of (StillForward axis) = 18  -- unload while an axis is forward; place: first such axis
 number_of TooManyPoints = 19  -- more than 32,768 points (document 02, c and h)
+number_of Allowance = 20  -- an account that no history gives; an opening would take the common points above 49,152 (document 02, i)
+number_of Tag = 21  -- opening under an open tag, or closing one not open
+number_of NoSlot = 22  -- office outside 1 to 4 or tag above 7
 
 -- The place is 0 unless the row names one.
 abbrev pub place_of : Refusal → ℕ
@@ -47,3 +50,6 @@ place_of (NotForward axis) = axis
 place_of (StillSampled axis) = axis
 place_of (StillForward axis) = axis
 place_of TooManyPoints = 0
+place_of Allowance = 0
+place_of Tag = 0
+place_of NoSlot = 0

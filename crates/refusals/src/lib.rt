@@ -25,6 +25,9 @@ pub enum Refusal {
     StillSampled(u32),
     StillForward(u32),
     TooManyPoints,
+    Allowance,
+    Tag,
+    NoSlot,
 }
 
 impl Refusal {
@@ -52,6 +55,9 @@ impl Refusal {
             Refusal::StillSampled(_) => 17,
             Refusal::StillForward(_) => 18,
             Refusal::TooManyPoints => 19,
+            Refusal::Allowance => 20,
+            Refusal::Tag => 21,
+            Refusal::NoSlot => 22,
         }
     }
 

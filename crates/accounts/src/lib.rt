@@ -1,0 +1,262 @@
+// The account of four offices that share an allowance of points (document 02, i): opening and closing tables, and what a planner reads.
+#![tactic(auto)]
+
+ghost use Rattle.std.specs.Prelude.{◌≡◌, ◌<◌, ◌≤◌, ◌-◌, IfOk};
+ghost use Rattle.refusals.specs.Checks.{verdict};
+ghost use Rattle.accounts.specs.Accounts.{own_points, common_points, empty, slot, under, common, put};
+ghost use Rattle.accounts.specs.Calls.{check_account, check_slot, open_table, close_table, usage_of, shape_under};
+ghost use Rattle.accounts.specs.Steps.{counted_slot, counted_office, held_by, common_over, answered, opened_account, closed_account};
+
+use refusals::Refusal;
+use shapes::Shape;
+
+// The points that each office has of its own, and those that are common (document 02, i).
+const OWN_POINTS: u32 = 4096;
+
+const COMMON_POINTS: u64 = 49152;
+
+// The shapes of the open tables by office and tag: eight slots for each of four offices. A slot is 0 where nothing is open, else 16 × d + n.
+#[derive(Clone, Copy)]
+pub struct Account {
+    pub slots: [u8; 32],
+}
+
+// What a call answers, and the account that it leaves.
+#[derive(Clone, Copy)]
+pub struct Answered {
+    pub verdict: Result<(), Refusal>,
+    pub account: Account,
+}
+
+// The points open, by office and in all, and the common points in use and free.
+#[derive(Clone, Copy)]
+pub struct Usage {
+    pub by_office: [u64; 4],
+    pub in_all: u64,
+    pub common: u64,
+    pub free: u64,
+}
+
+// An account that the check passes, with the points that each office has open.
+#[derive(Clone, Copy)]
+struct CheckedAccount {
+    account: Account,
+    held: [u32; 4],
+    ghost counted: { held ≡ held_by account },
+    ghost suffices: { common account ≤ common_points },
+}
+
+// A slot: the place of its office, from 0, and its tag.
+#[derive(Clone, Copy)]
+struct Slot {
+    office: usize,
+    tag: usize,
+    ghost within: { office < 4 },
+    ghost tagged: { tag < 8 },
+}
+
+// ---- slots
+
+impl Slot {
+    // That of an office and a tag as they are called. Refused with 22.
+    fn find(office: u32, tag: u32) -> Result<Slot, Refusal>
+        ensures verdict { verdict result ≡ check_slot office tag }
+        ensures slot { IfOk result (λ found. (found.office ≡ office - 1) × (found.tag ≡ tag)) }
+    {
+        if !(1..=4).contains(&office) || 8 <= tag {
+            return Err(Refusal::NoSlot);
+        }
+        Ok(Slot {
+            office: (office - 1) as usize,
+            tag: tag as usize,
+        })
+    }
+
+    // Its place in an account.
+    fn place(self) -> usize
+        ensures { (result ≡ slot self.office self.tag) × (result < 32) }
+    {
+        self.office * 8 + self.tag
+    }
+}
+
+// How many points are open in a slot. Refused with 20 where the byte stands for no shape that passes.
+fn slot_points(byte: u8) -> Result<u32, Refusal>
+    ensures { result ≡ counted_slot byte }
+{
+    if byte == 0 {
+        return Ok(0);
+    }
+    match Shape::sparse(u32::from(byte / 16), u32::from(byte % 16)).check() {
+        Ok(checked) => Ok(checked.points() as u32),
+        Err(_) => Err(Refusal::Allowance),
+    }
+}
+
+// What an office with so many points open has above its own.
+fn above(points: u32) -> u64
+    ensures { result ≡ points - own_points }
+{
+    u64::from(points.saturating_sub(OWN_POINTS))
+}
+
+// The common points in use where the offices have so many open.
+fn common_of(held: [u32; 4]) -> u64
+    ensures { result ≡ common_over held }
+{
+    above(held[0]) + above(held[1]) + above(held[2]) + above(held[3])
+}
+
+// ---- the check
+
+impl Account {
+    // Nothing is open.
+    pub fn empty() -> Account
+        ensures { result ≡ empty }
+    {
+        Account { slots: [0; 32] }
+    }
+
+    // How many points an office has open. Refused with 20 where one of its slots holds what it may not.
+    fn office_points(&self, office: usize) -> Result<u32, Refusal>
+        requires { office < 4 }
+        ensures { result ≡ counted_office self.now office }
+    {
+        let mut points = 0;
+        for tag in 0..8 {
+            points += slot_points(self.slots[office * 8 + tag])?;
+        }
+        Ok(points)
+    }
+
+    // Refused with 20.
+    fn check(self) -> Result<CheckedAccount, Refusal>
+        ensures verdict { verdict result ≡ check_account self }
+        ensures account { IfOk result (λ checked. checked.account ≡ self) }
+    {
+        let held = [
+            self.office_points(0)?,
+            self.office_points(1)?,
+            self.office_points(2)?,
+            self.office_points(3)?,
+        ];
+        if COMMON_POINTS < common_of(held) {
+            return Err(Refusal::Allowance);
+        }
+        Ok(CheckedAccount {
+            account: self,
+            held,
+        })
+    }
+
+    // What a slot holds.
+    fn byte(self, slot: Slot) -> u8
+        ensures { result ≡ under self slot.office slot.tag }
+    {
+        self.slots[slot.place()]
+    }
+
+    // With another byte in a slot.
+    fn put(self, slot: Slot, byte: u8) -> Account
+        ensures { result ≡ put self slot.office slot.tag byte }
+    {
+        let mut slots = self.slots;
+        slots[slot.place()] = byte;
+        Account { slots }
+    }
+
+    // With a table opened. Refused with 20, 1, 2, 19, 22, 21 or 20.
+    fn opened(self, office: u32, tag: u32, axes: u32, level: u32) -> Result<Account, Refusal>
+        ensures { result ≡ opened_account self office tag axes level }
+    {
+        let mut held = self.check()?.held;
+        let points = Shape::sparse(axes, level).check()?.points();
+        let slot = Slot::find(office, tag)?;
+        if self.byte(slot) != 0 {
+            return Err(Refusal::Tag);
+        }
+        held[slot.office] += points as u32;
+        if COMMON_POINTS < common_of(held) {
+            return Err(Refusal::Allowance);
+        }
+        Ok(self.put(slot, (16 * axes + level) as u8))
+    }
+
+    // With a table closed. Refused with 20, 22 or 21.
+    fn closed(self, office: u32, tag: u32) -> Result<Account, Refusal>
+        ensures { result ≡ closed_account self office tag }
+    {
+        self.check()?;
+        let slot = Slot::find(office, tag)?;
+        if self.byte(slot) == 0 {
+            return Err(Refusal::Tag);
+        }
+        Ok(self.put(slot, 0))
+    }
+}
+
+impl Answered {
+    // The account that was found; where the call was refused, the one that was handed in.
+    fn by(answer: Result<Account, Refusal>, account: Account) -> Answered
+        ensures { result ≡ answered account answer }
+    {
+        match answer {
+            Ok(found) => Answered {
+                verdict: Ok(()),
+                account: found,
+            },
+            Err(refusal) => Answered {
+                verdict: Err(refusal),
+                account,
+            },
+        }
+    }
+}
+
+// ---- the calls
+
+// A table of d axes and top level n with a zero border is opened under a tag. Refused with 20 for the account, 1, 2, 19, 22, 21, or 20 for the common points.
+pub fn open(account: Account, office: u32, tag: u32, axes: u32, level: u32) -> Answered
+    ensures { result ≡ open_table account office tag axes level }
+{
+    Answered::by(account.opened(office, tag, axes, level), account)
+}
+
+// The table under a tag is closed. Refused with 20 for the account, 22 or 21.
+pub fn close(account: Account, office: u32, tag: u32) -> Answered
+    ensures { result ≡ close_table account office tag }
+{
+    Answered::by(account.closed(office, tag), account)
+}
+
+// The points open and the common points. Refused with 20.
+pub fn usage_of(account: Account) -> Result<Usage, Refusal>
+    ensures { result ≡ usage_of account }
+{
+    let held = account.check()?.held;
+    let by_office = [
+        u64::from(held[0]),
+        u64::from(held[1]),
+        u64::from(held[2]),
+        u64::from(held[3]),
+    ];
+    let common = common_of(held);
+    Ok(Usage {
+        by_office,
+        in_all: by_office[0] + by_office[1] + by_office[2] + by_office[3],
+        common,
+        free: COMMON_POINTS - common,
+    })
+}
+
+// The shape that is open under a tag, if any. Refused with 20 or 22.
+pub fn table_under(account: Account, office: u32, tag: u32) -> Result<Option<Shape>, Refusal>
+    ensures { result ≡ shape_under account office tag }
+{
+    account.check()?;
+    let byte = account.byte(Slot::find(office, tag)?);
+    if byte == 0 {
+        return Ok(None);
+    }
+    Ok(Some(Shape::sparse(u32::from(byte / 16), u32::from(byte % 16))))
+}
