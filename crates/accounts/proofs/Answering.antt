@@ -2,7 +2,7 @@
 -- Assumes nothing.
 use Rattle.std.specs.Prelude.{Result, Ok, Err}
 use mathlib.Core.Path.{◌≡◌, refl}
-use Prim.Native.Nat.{ℕ}
+use Prim.Native.Nat.{ℕ, ◌-◌}
 use Rattle.refusals.specs.declared.Refusal.{Refusal}
 use Rattle.refusals.specs.Checks.{◌and_then◌, answer, Verdict}
 use Rattle.accounts.specs.declared.Account.{Account}
@@ -21,4 +21,4 @@ open_answered a office tag axes level =
 
 pub close_answered : (a : Account) (office tag : ℕ) → answered a (closed_account a office tag) ≡ close_table a office tag
 unfolding closed_account close_table
-close_answered a office tag = decided a (closed a office tag) (check_account a and_then check_slot office tag and_then check_open a office tag)
+close_answered a office tag = decided a (closed a office tag) (check_account a and_then check_slot office tag and_then check_open a (office - 1) tag)

@@ -9,20 +9,21 @@ use Prim.Native.Nat.{ℕ, zero, suc, ◌+◌, ◌≤◌, ◌<◌}
 use native.Mathlib.Omega.{arith}
 use lib.ListN.{length, set}
 use lib.Seq.{get_or-set_same, get_or-set_other}
-use borrow.Author.Tests.{le-leb, lt-leb}
+use borrow.Author.Tests.{le-leb, lt-leb, eqb-true}
 use Rattle.naturals.specs.Sum.{sum_to}
 use Rattle.naturals.specs.Test.{all}
 use Rattle.naturals.proofs.Cases.{eq_or_not}
 use Rattle.naturals.proofs.Sums.{sum_to_zero, sum_to_suc, sum_to_cong, term_le}
 use Rattle.naturals.proofs.Tests.{all_fails}
 use Rattle.refusals.specs.declared.Refusal.{Refusal}
-use Rattle.refusals.specs.declared.Refusal.TheVariants.{Allowance}
+use Rattle.refusals.specs.declared.Refusal.TheVariants.{Allowance, Tag}
+use Rattle.refusals.proofs.Passing.{test_passed}
 use Rattle.numbering.specs.Point.{at}
 use Rattle.shapes.specs.Shapes.{sparse, points_of, check_shape}
 use Rattle.accounts.specs.declared.Account.{Account}
-use Rattle.accounts.specs.Accounts.{offices, tags, own_points, common_points, byte_of, points_in, under, points_under, held, total, above, common, office_passes, put}
-use Rattle.accounts.specs.Calls.{check_common, check_account}
-use Rattle.accounts.specs.Steps.{counted_office, held_by, above_at, common_over}
+use Rattle.accounts.specs.Accounts.{offices, tags, own_points, common_points, byte_of, is_free, points_in, under, points_under, held, total, above, common, office_passes, put}
+use Rattle.accounts.specs.Calls.{check_common, check_account, check_free}
+use Rattle.accounts.specs.Steps.{counted_office, held_by, above_at, common_over, check_more}
 use Rattle.accounts.proofs.Bytes.{free_points, shape_points}
 use Rattle.accounts.proofs.Slots.{held_put, held_other}
 use Rattle.accounts.proofs.Counting.{office_counted, office_refused}
@@ -93,26 +94,44 @@ module _ (a : Account) where
   unfolding common above
   held_small h o inside = let one = term_le (above a) offices o inside in omega (arith, h, one)
 
--- The common points in use once a table is opened in a free slot: its office has the table's points more.
+-- What a passed test of a slot tells.
+pub free_told : (a : Account) (o tag : ℕ) → check_free a o tag ≡ Ok tt → under a o tag ≡ 0
+unfolding check_free
+free_told a o tag e = eqb-true (under a o tag) 0 (test_passed (is_free (under a o tag)) Tag e)
+
+-- Once a table is opened in a free slot its office has the table's points more, so the test of the common points may be made before.
 module _ (a : Account) (o tag axes level : ℕ) (long : length a.slots ≡ 32) (inside : o < offices) (tagged : tag < tags) where
-  pub common_opened : under a o tag ≡ 0 → check_shape (sparse axes level) ≡ Ok tt →
-      common_over (set (held_by a) o (at (held_by a) o + points_of (sparse axes level))) ≡ common (put a o tag (byte_of axes level))
-  unfolding common_over common above points_under
-  common_opened free passes =
-      let b = put a o tag (byte_of axes level) in
-      let more = at (held_by a) o + points_of (sparse axes level) in
-      let own : more ≡ held b o =
-      omega (
-        arith,
-        held_at a o inside,
-        held_put a o tag (byte_of axes level) tagged long inside,
-        ap points_in free,
-        free_points,
-        shape_points axes level passes,
-      ) in
-      sum_to_cong (above_at (set (held_by a) o more)) (above b) offices
-      (λ u h.
-      eq_or_not u o
-      (λ e. rw e (omega (arith, get_or-set_same (held_by a) o more 0 inside, own)))
-      (λ ne.
-      omega (arith, get_or-set_other (held_by a) o u more 0 ne, held_at a u h, held_other a o tag (byte_of axes level) tagged u ne)))
+  abbrev next : Account
+  next = put a o tag (byte_of axes level)
+
+  module _ (free : under a o tag ≡ 0) (passes : check_shape (sparse axes level) ≡ Ok tt) where
+    held_more : held a o + points_of (sparse axes level) ≡ held next o
+    unfolding points_under
+    held_more =
+        omega (
+          arith,
+          held_put a o tag (byte_of axes level) tagged long inside,
+          ap points_in free,
+          free_points,
+          shape_points axes level passes,
+        )
+
+    common_opened : common_over (set (held_by a) o (held a o + points_of (sparse axes level))) ≡ common next
+    unfolding common_over common above
+    common_opened =
+        let more = held a o + points_of (sparse axes level) in
+        sum_to_cong (above_at (set (held_by a) o more)) (above next) offices
+        (λ u h.
+        eq_or_not u o
+        (λ e. rw e (omega (arith, get_or-set_same (held_by a) o more 0 inside, held_more)))
+        (λ ne.
+        omega (
+          arith,
+          get_or-set_other (held_by a) o u more 0 ne,
+          held_at a u h,
+          held_other a o tag (byte_of axes level) tagged u ne,
+        )))
+
+    pub more_opened : check_more a o (points_of (sparse axes level)) ≡ check_common next
+    unfolding check_more check_common
+    more_opened = rw common_opened

@@ -25,12 +25,12 @@ check_account a = unless (all (office_passes a) offices) Allowance and_then chec
 unfoldable pub check_slot : ℕ → ℕ → Verdict
 check_slot office tag = unless (leb 1 office && leb office offices && ltb tag tags) NoSlot
 
--- Nothing is open under the tag, or something is: else refused with 21.
+-- Nothing is open under a tag of the office at place o, or something is: else refused with 21.
 unfoldable pub check_free : Account → ℕ → ℕ → Verdict
-check_free a office tag = unless (is_free (under a (office - 1) tag)) Tag
+check_free a o tag = unless (is_free (under a o tag)) Tag
 
 unfoldable pub check_open : Account → ℕ → ℕ → Verdict
-check_open a office tag = unless (not (is_free (under a (office - 1) tag))) Tag
+check_open a o tag = unless (not (is_free (under a o tag))) Tag
 
 -- The account with this table opened, and with the one under the tag closed.
 abbrev pub opened : Account → ℕ → ℕ → ℕ → ℕ → Account
@@ -49,7 +49,7 @@ refused a r = record { verdict = Err r; account = a }
 -- What an opening has to pass before its points are looked at: refused with 20 for the account itself, then with 1, 2, 19, 22 or 21.
 unfoldable pub check_opening : Account → ℕ → ℕ → ℕ → ℕ → Verdict
 check_opening a office tag axes level =
-    check_account a and_then check_shape (sparse axes level) and_then check_slot office tag and_then check_free a office tag
+    check_account a and_then check_shape (sparse axes level) and_then check_slot office tag and_then check_free a (office - 1) tag
 
 -- Opening: at last refused with 20 where the common points would not suffice.
 unfoldable pub open_table : Account → ℕ → ℕ → ℕ → ℕ → Answered
@@ -62,7 +62,7 @@ open_table a office tag axes level =
 unfoldable pub close_table : Account → ℕ → ℕ → Answered
 close_table a office tag =
     answer (refused a)
-    (check_account a and_then check_slot office tag and_then check_open a office tag)
+    (check_account a and_then check_slot office tag and_then check_open a (office - 1) tag)
     (done (closed a office tag))
 
 -- What a planner reads: the points open, by office and in all, and the common points in use and free. Refused with 20.

@@ -3,9 +3,10 @@
 
 ghost use Rattle.std.specs.Prelude.{◌≡◌, ◌<◌, ◌≤◌, ◌-◌, IfOk};
 ghost use Rattle.refusals.specs.Checks.{verdict};
+ghost use Rattle.shapes.specs.Shapes.{most_points};
 ghost use Rattle.accounts.specs.Accounts.{own_points, common_points, empty, slot, under, common, put};
-ghost use Rattle.accounts.specs.Calls.{check_account, check_slot, open_table, close_table, usage_of, shape_under};
-ghost use Rattle.accounts.specs.Steps.{counted_slot, counted_office, held_by, common_over, answered, opened_account, closed_account};
+ghost use Rattle.accounts.specs.Calls.{check_account, check_slot, check_free, check_open, open_table, close_table, usage_of, shape_under};
+ghost use Rattle.accounts.specs.Steps.{counted_slot, counted_office, held_by, common_over, check_more, answered, opened_account, closed_account};
 
 use refusals::Refusal;
 use shapes::Shape;
@@ -165,20 +166,37 @@ impl Account {
         Account { slots }
     }
 
+    // Refused with 21 where something is open in the slot.
+    #[tactic(auto, unfolding(crate::specs::Calls::check_free))]
+    fn check_free(self, slot: Slot) -> Result<(), Refusal>
+        ensures { result ≡ check_free self slot.office slot.tag }
+    {
+        if self.byte(slot) != 0 {
+            return Err(Refusal::Tag);
+        }
+        Ok(())
+    }
+
+    // Refused with 21 where nothing is open in the slot.
+    #[tactic(auto, unfolding(crate::specs::Calls::check_open))]
+    fn check_open(self, slot: Slot) -> Result<(), Refusal>
+        ensures { result ≡ check_open self slot.office slot.tag }
+    {
+        if self.byte(slot) == 0 {
+            return Err(Refusal::Tag);
+        }
+        Ok(())
+    }
+
     // With a table opened. Refused with 20, 1, 2, 19, 22, 21 or 20.
     fn opened(self, office: u32, tag: u32, axes: u32, level: u32) -> Result<Account, Refusal>
         ensures { result ≡ opened_account self office tag axes level }
     {
-        let mut held = self.check()?.held;
+        let checked = self.check()?;
         let points = Shape::sparse(axes, level).check()?.points();
         let slot = Slot::find(office, tag)?;
-        if self.byte(slot) != 0 {
-            return Err(Refusal::Tag);
-        }
-        held[slot.office] += points as u32;
-        if COMMON_POINTS < common_of(held) {
-            return Err(Refusal::Allowance);
-        }
+        self.check_free(slot)?;
+        checked.check_more(slot, points)?;
         Ok(self.put(slot, (16 * axes + level) as u8))
     }
 
@@ -188,10 +206,23 @@ impl Account {
     {
         self.check()?;
         let slot = Slot::find(office, tag)?;
-        if self.byte(slot) == 0 {
-            return Err(Refusal::Tag);
-        }
+        self.check_open(slot)?;
         Ok(self.put(slot, 0))
+    }
+}
+
+impl CheckedAccount {
+    // Refused with 20 where the common points would not suffice, had the slot's office so many points more.
+    fn check_more(self, slot: Slot, points: u64) -> Result<(), Refusal>
+        requires { points ≤ most_points }
+        ensures { result ≡ check_more self.account slot.office points }
+    {
+        let mut held = self.held;
+        held[slot.office] += points as u32;
+        if COMMON_POINTS < common_of(held) {
+            return Err(Refusal::Allowance);
+        }
+        Ok(())
     }
 }
 

@@ -109,13 +109,13 @@ module _ (office : ℕ) (a b : Account) (ka : Kept a) (kb : Kept b) (alike : Ali
   opening_alike : (tag axes level : ℕ) → check_opening a office tag axes level ≡ check_opening b office tag axes level
   unfolding check_opening check_free
   opening_alike tag axes level =
-      let same = after_slot tag (check_free a office tag) (check_free b office tag) (λ place. rw (alike tag place)) in
+      let same = after_slot tag (check_free a (office - 1) tag) (check_free b (office - 1) tag) (λ place. rw (alike tag place)) in
       rw (possible_passes a ka.possible, possible_passes b kb.possible, same)
 
   closing_alike : (tag : ℕ) → (close_table a office tag).verdict ≡ (close_table b office tag).verdict
   unfolding check_open
   closing_alike tag =
-      let same = after_slot tag (check_open a office tag) (check_open b office tag) (λ place. rw (alike tag place)) in
+      let same = after_slot tag (check_open a (office - 1) tag) (check_open b (office - 1) tag) (λ place. rw (alike tag place)) in
       rw (close_says a office tag, close_says b office tag, possible_passes a ka.possible, possible_passes b kb.possible, same)
 
   held_alike : (tag : ℕ) → InOffice office tag → held a (office - 1) ≡ held b (office - 1)

@@ -91,7 +91,7 @@ unfolding open_table
 open_says a office tag axes level = says_checks a (opened a office tag axes level) _
 
 pub close_says : (a : Account) (office tag : ℕ) →
-    (close_table a office tag).verdict ≡ check_account a and_then check_slot office tag and_then check_open a office tag
+    (close_table a office tag).verdict ≡ check_account a and_then check_slot office tag and_then check_open a (office - 1) tag
 unfolding close_table
 close_says a office tag = says_checks a (closed a office tag) _
 
@@ -133,7 +133,7 @@ unfolding close_table
 close_passed a office tag e =
     let account = check_account a in
     let place = check_slot office tag in
-    let last = check_open a office tag in
+    let last = check_open a (office - 1) tag in
     let all : account and_then place and_then last ≡ Ok tt = sym (close_says a office tag) ∙ e in
     record {
       place = slot_passed office tag (first_passed place last (next_passed account (place and_then last) all));
