@@ -1,5 +1,5 @@
 pub mod Bytes
 pub mod Slots
-pub mod Counting
-pub mod Checking
+pub mod Weights
+pub mod Opening
 pub mod Answering

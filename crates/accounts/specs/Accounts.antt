@@ -60,6 +60,13 @@ points_under a o tag = points_in (under a o tag)
 unfoldable pub held : Account → ℕ → ℕ
 held a o = sum_to (points_under a o) tags
 
+-- The same of each office in order.
+abbrev pub by_office : (ℕ → ℕ) → List ℕ
+by_office f = f 0 ∷ f 1 ∷ f 2 ∷ f 3 ∷ []
+
+abbrev pub held_by : Account → List ℕ
+held_by a = by_office (held a)
+
 -- The points open: over the offices.
 unfoldable pub total : Account → ℕ
 total a = sum_to (held a) offices

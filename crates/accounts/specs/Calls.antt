@@ -10,7 +10,7 @@ use Rattle.shapes.specs.Shapes.{sparse, check_shape}
 use Rattle.accounts.specs.declared.Account.{Account}
 use Rattle.accounts.specs.declared.Answered.{Answered}
 use Rattle.accounts.specs.declared.Usage.{Usage}
-use Rattle.accounts.specs.Accounts.{offices, tags, common_points, byte_of, shape_in, is_free, under, held, total, common, office_passes, put}
+use Rattle.accounts.specs.Accounts.{offices, tags, common_points, byte_of, shape_in, is_free, under, held_by, total, common, office_passes, put}
 
 -- The common points in use are no more than there are, else refused with 20.
 unfoldable pub check_common : Account → Verdict
@@ -69,7 +69,7 @@ close_table a office tag =
 abbrev pub usage : Account → Usage
 usage a =
     record {
-      by_office = held a 0 ∷ held a 1 ∷ held a 2 ∷ held a 3 ∷ [];
+      by_office = held_by a;
       in_all = total a;
       common = common a;
       free = common_points - common a;

@@ -1,6 +1,6 @@
 -- What the inner functions of the account's calls answer.
 -- Assumes nothing.
-use Rattle.std.specs.Prelude.{List, [], ◌∷◌, ℕ, ◌+◌, ◌-◌, leb, set, Result, Ok, Err}
+use Rattle.std.specs.Prelude.{List, [], ◌∷◌, ℕ, ◌+◌, ◌-◌, leb, set, if◌then◌else◌, Result, Ok, Err}
 use Rattle.naturals.specs.Sum.{sum_to}
 use Rattle.refusals.specs.declared.Refusal.{Refusal}
 use Rattle.refusals.specs.declared.Refusal.TheVariants.{Allowance}
@@ -8,20 +8,27 @@ use Rattle.refusals.specs.Checks.{unless, ◌and_then◌, answer, Verdict}
 use Rattle.numbering.specs.Point.{at}
 use Rattle.accounts.specs.declared.Account.{Account}
 use Rattle.accounts.specs.declared.Answered.{Answered}
-use Rattle.accounts.specs.Accounts.{offices, own_points, common_points, is_slot, points_in, held, office_passes}
+use Rattle.accounts.specs.Accounts.{offices, own_points, common_points, tags, by_office, is_slot, points_in, under, held, held_by}
 use Rattle.accounts.specs.Calls.{check_account, check_common, check_slot, check_open, check_opening, opened, closed, done, refused}
 
--- The points open in a slot, and those that an office has open: refused with 20 where a slot holds what it may not.
-unfoldable pub counted_slot : ℕ → Result ℕ Refusal
-counted_slot byte = answer Err (unless (is_slot byte) Allowance) (Ok (points_in byte))
+-- The points open in a slot and for an office, where a slot that holds what it may not counts as 65,535: more than the points of any shape, and more than the
+-- common points and an office's own together.
+abbrev pub no_shape : ℕ
+no_shape = 65535
 
-unfoldable pub counted_office : Account → ℕ → Result ℕ Refusal
-counted_office a o = answer Err (unless (office_passes a o) Allowance) (Ok (held a o))
+unfoldable pub weight : ℕ → ℕ
+weight byte = if is_slot byte then points_in byte else no_shape
 
--- The points that each office has open, and the common points that offices with so many use.
-abbrev pub held_by : Account → List ℕ
-held_by a = held a 0 ∷ held a 1 ∷ held a 2 ∷ held a 3 ∷ []
+unfoldable pub weight_under : Account → ℕ → ℕ → ℕ
+weight_under a o tag = weight (under a o tag)
 
+unfoldable pub weighed : Account → ℕ → ℕ
+weighed a o = sum_to (weight_under a o) tags
+
+abbrev pub weighed_by : Account → List ℕ
+weighed_by a = by_office (weighed a)
+
+-- The common points that offices with so many points open use.
 abbrev pub above_at : List ℕ → ℕ → ℕ
 above_at points o = at points o - own_points
 

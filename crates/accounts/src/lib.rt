@@ -4,9 +4,9 @@
 ghost use Rattle.std.specs.Prelude.{◌≡◌, ◌<◌, ◌≤◌, ◌-◌, IfOk};
 ghost use Rattle.refusals.specs.Checks.{verdict};
 ghost use Rattle.shapes.specs.Shapes.{most_points};
-ghost use Rattle.accounts.specs.Accounts.{own_points, common_points, empty, slot, under, common, put};
+ghost use Rattle.accounts.specs.Accounts.{own_points, common_points, empty, slot, under, held_by, common, put};
 ghost use Rattle.accounts.specs.Calls.{check_account, check_slot, check_free, check_open, open_table, close_table, usage_of, shape_under};
-ghost use Rattle.accounts.specs.Steps.{counted_slot, counted_office, held_by, common_over, check_more, answered, opened_account, closed_account};
+ghost use Rattle.accounts.specs.Steps.{weight, weighed, common_over, check_more, answered, opened_account, closed_account};
 
 use refusals::Refusal;
 use shapes::Shape;
@@ -15,6 +15,22 @@ use shapes::Shape;
 const OWN_POINTS: u32 = 4096;
 
 const COMMON_POINTS: u64 = 49152;
+
+// How many points are open in a slot, 16 × d + n: a row for each d from 0 to 8, n from 0 to 8. Without axes nothing is open; 65,535 stands where no shape passes.
+const POINTS: [[u16; 9]; 9] = [
+    [0, 65535, 65535, 65535, 65535, 65535, 65535, 65535, 65535],
+    [1, 3, 7, 15, 31, 63, 127, 255, 511],
+    [1, 5, 17, 49, 129, 321, 769, 1793, 4097],
+    [1, 7, 31, 111, 351, 1023, 2815, 7423, 18943],
+    [1, 9, 49, 209, 769, 2561, 7937, 23297, 65535],
+    [1, 11, 71, 351, 1471, 5503, 18943, 65535, 65535],
+    [1, 13, 97, 545, 2561, 10625, 65535, 65535, 65535],
+    [1, 15, 127, 799, 4159, 18943, 65535, 65535, 65535],
+    [1, 17, 161, 1121, 6401, 31745, 65535, 65535, 65535],
+];
+
+// What a slot counts that holds no shape: more than the common points and an office's own together, so that the test of the common points refuses it too.
+const NO_SHAPE: u32 = 65535;
 
 // The shapes of the open tables by office and tag: eight slots for each of four offices. A slot is 0 where nothing is open, else 16 × d + n.
 #[derive(Clone, Copy)]
@@ -81,17 +97,17 @@ impl Slot {
     }
 }
 
-// How many points are open in a slot. Refused with 20 where the byte stands for no shape that passes.
-fn slot_points(byte: u8) -> Result<u32, Refusal>
-    ensures { result ≡ counted_slot byte }
+// How many points are open in a slot. (The table is lent: named without `&` it would be built on the stack.)
+fn weight(byte: u8) -> u32
+    ensures { result ≡ weight byte }
 {
-    if byte == 0 {
-        return Ok(0);
+    let rows = &POINTS;
+    let axes = (byte / 16) as usize;
+    let level = (byte % 16) as usize;
+    if 8 < axes || 8 < level {
+        return NO_SHAPE;
     }
-    match Shape::sparse(u32::from(byte / 16), u32::from(byte % 16)).check() {
-        Ok(checked) => Ok(checked.points() as u32),
-        Err(_) => Err(Refusal::Allowance),
-    }
+    u32::from(rows[axes][level])
 }
 
 // What an office with so many points open has above its own.
@@ -118,16 +134,16 @@ impl Account {
         Account { slots: [0; 32] }
     }
 
-    // How many points an office has open. Refused with 20 where one of its slots holds what it may not.
-    fn office_points(&self, office: usize) -> Result<u32, Refusal>
+    // How many points an office has open, slots that hold what they may not counted as 65,535.
+    fn weighed(&self, office: usize) -> u32
         requires { office < 4 }
-        ensures { result ≡ counted_office self.now office }
+        ensures { result ≡ weighed self.now office }
     {
         let mut points = 0;
         for tag in 0..8 {
-            points += slot_points(self.slots[office * 8 + tag])?;
+            points += weight(self.slots[office * 8 + tag]);
         }
-        Ok(points)
+        points
     }
 
     // Refused with 20.
@@ -136,10 +152,10 @@ impl Account {
         ensures account { IfOk result (λ checked. checked.account ≡ self) }
     {
         let held = [
-            self.office_points(0)?,
-            self.office_points(1)?,
-            self.office_points(2)?,
-            self.office_points(3)?,
+            self.weighed(0),
+            self.weighed(1),
+            self.weighed(2),
+            self.weighed(3),
         ];
         if COMMON_POINTS < common_of(held) {
             return Err(Refusal::Allowance);

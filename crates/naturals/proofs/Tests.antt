@@ -49,3 +49,20 @@ all_from f (suc m) each = rw (all_suc, all_from f m (λ k h. each k (omega arith
 -- One place that fails decides.
 pub all_fails : (f : ℕ → Bool) (m k : ℕ) → k < m → f k ≡ false → all f m ≡ false
 all_fails f m k h e = true_or_false (all f m) (λ pass. absurd (false≢true (sym e ∙ all_at f m pass k h))) (λ fail. fail)
+
+-- Where not all places pass, one fails.
+pub one_fails : {A : Type 0} (f : ℕ → Bool) (m : ℕ) → all f m ≡ false → ((k : ℕ) → k < m → f k ≡ false → A) → A
+unfolding all
+one_fails f zero e found = absurd (false≢true (sym e))
+one_fails f (suc m) e found =
+    true_or_false (f m)
+    (λ passes. one_fails f m (and_fails (all f m) (f m) e passes) (λ k h fails. found k (omega arith) fails))
+    (λ fails. found m (omega arith) fails)
+  where
+    and_true : (a : Bool) → a && true ≡ a
+    and_true true = refl
+    and_true false = refl
+
+    and_fails : (a b : Bool) → a && b ≡ false → b ≡ true → a ≡ false
+    and_fails a true e p = sym (and_true a) ∙ e
+    and_fails a false e p = absurd (false≢true p)

@@ -5,10 +5,11 @@ use Prim.Native.Nat.{ℕ}
 use mathlib.Core.Path.{◌≡◌, refl, sym, ap, ◌∙◌}
 use Rattle.std.proofs.Common.{rules, arith, Err}
 use Rattle.numbering.specs.Point.{at}
-use Rattle.accounts.specs.Accounts.{common}
+use Rattle.accounts.specs.Accounts.{held_by, common}
 use Rattle.accounts.specs.Calls.{usage_of}
-use Rattle.accounts.specs.Steps.{held_by, common_over}
-use Rattle.accounts.proofs.Checking.{common_is, total_is}
+use Rattle.accounts.specs.Steps.{common_over}
+use Rattle.accounts.proofs.Opening.{total_is}
+use Rattle.accounts.proofs.Weights.{common_is}
 use Rattle.accounts.proofs.usage_of.Goals.{After-common_of-common}
 use Rattle.accounts.proofs.usage_of.Goals as goal
 

@@ -7,7 +7,7 @@ use Rattle.accounts.specs.declared.Account.{Account}
 use Rattle.accounts.specs.Accounts.{byte_of, put}
 use Rattle.accounts.specs.Calls.{check_common, check_free, check_opening}
 use Rattle.accounts.specs.Steps.{check_more, opened_account}
-use Rattle.accounts.proofs.Checking.{free_told, more_opened}
+use Rattle.accounts.proofs.Opening.{free_told, more_opened}
 use Rattle.accounts.proofs.Account.opened.Goals.{After-check_more}
 use Rattle.accounts.proofs.Account.opened.Goals as goal
 

@@ -7,9 +7,10 @@ use Rattle.std.proofs.Common.{rules, arith, ℕ, ◌+◌, ◌<◌}
 use lib.ListN.{set}
 use Rattle.numbering.specs.Point.{at}
 use Rattle.accounts.specs.declared.CheckedAccount.{CheckedAccount}
-use Rattle.accounts.specs.Accounts.{common_points, held}
-use Rattle.accounts.specs.Steps.{held_by, common_over, check_more}
-use Rattle.accounts.proofs.Checking.{held_at, held_small}
+use Rattle.accounts.specs.Accounts.{common_points, held, held_by}
+use Rattle.accounts.specs.Steps.{common_over, check_more}
+use Rattle.accounts.proofs.Opening.{held_small}
+use Rattle.accounts.proofs.Weights.{at_office}
 use Rattle.accounts.proofs.CheckedAccount.check_more.Goals.{After-common_of}
 use Rattle.accounts.proofs.CheckedAccount.check_more.Goals as goal
 
@@ -21,14 +22,14 @@ common_told : (c : After-common_of) → c.common_of.result ≡ with_more c.args.
 common_told c =
     let a = c.args.self.account in
     let o = c.args.slot.office in
-    let one = ap (λ (h : List ℕ). at h o) c.args.self.counted ∙ held_at a o c.args.slot.within in
+    let one = ap (λ (h : List ℕ). at h o) c.args.self.counted ∙ at_office (held a) o c.args.slot.within in
     c.common_of.ensures ∙ ap₂ (λ (h : List ℕ) (p : ℕ). common_over (set h o (p + c.args.points))) c.args.self.counted one
 
 pub overflow_add-held : goal.overflow_add-held
 overflow_add-held c =
     let a = c.args in
     let o = a.slot.office in
-    let one = ap (λ (h : List ℕ). at h o) a.self.counted ∙ held_at a.self.account o a.slot.within in
+    let one = ap (λ (h : List ℕ). at h o) a.self.counted ∙ at_office (held a.self.account) o a.slot.within in
     let few = held_small a.self.account a.self.suffices o a.slot.within in
     let small : at a.self.held o + a.points < 4294967296 = omega (arith, one, few, c.requires) in
     search rules
