@@ -1,11 +1,12 @@
 #!/usr/bin/env python3
 """The calls that crates/sample_calls is handed (its stdin) and what it has to print (its stdout), made without its code by the rules of documents 01 and 02
-and requests e, g and h (grid.py): the worked values, the edges of the types, then pseudo-random calls, and the same on tables with border values.
+and requests e, g and h (grid.py) and request i: the worked values, the edges of the types, then pseudo-random calls, and the same on tables with border values
+and on accounts.
 `sample_calls.py FOLDER` writes both files.
 
 A state is read as s and d, n, the flag, the set and the lengths of four lists, and printed as the set, d, n and the flag. The four lists are marks m, levels
-l, indices i and the table t; l holds the coordinates of an estimate too, and l and i the directions and axes of a list of turns. A point is printed as eight
-marks, eight levels and eight indices."""
+l, indices i and the table t; l holds the coordinates of an estimate too, l and i the directions and axes of a list of turns, and i office, tag, d and n of an
+opening. A point is printed as eight marks, eight levels and eight indices, an account as its 32 bytes."""
 import os
 import sys
 from bisect import bisect_right
@@ -129,6 +130,53 @@ def turned(is_back, d, n, border, bits, table, axis):
     return ((10, 0), table) if after is None else (bits ^ 1 << axis - 1, after)
 
 
+# ---- accounts: the open shapes by (office, tag), and the bytes that stand for them
+
+OFFICES, TAGS, OWN = range(1, 5), range(8), 4096
+COMMON = 65536 - 4 * OWN
+SHAPE_OF = {16 * d + n: (d, n) for d in range(1, 9) for n in range(9) if not no_shape(d, n, 0)}
+
+
+def bytes_of(shapes):
+    return [16 * shapes[slot][0] + shapes[slot][1] if slot in shapes else 0 for slot in product(OFFICES, TAGS)]
+
+
+def open_points(shapes, office):
+    return sum(size(*shape) for slot, shape in shapes.items() if slot[0] == office)
+
+
+def in_common(shapes):
+    return sum(max(open_points(shapes, office) - OWN, 0) for office in OFFICES)
+
+
+def shapes_in(account):
+    """None of an account that no history from an empty one gives."""
+    bytes_by_slot = {slot: byte for slot, byte in zip(product(OFFICES, TAGS), account) if byte}
+    if not set(bytes_by_slot.values()) <= set(SHAPE_OF):
+        return None
+    shapes = {slot: SHAPE_OF[byte] for slot, byte in bytes_by_slot.items()}
+    return shapes if in_common(shapes) <= COMMON else None
+
+
+def no_slot(office, tag):
+    return None if office in OFFICES and tag in TAGS else (22, 0)
+
+
+def after_opening(account, office, tag, d, n):
+    """The shapes, or a refusal."""
+    shapes = shapes_in(account)
+    bad = (20, 0) if shapes is None else no_shape(d, n, 0) or no_slot(office, tag)
+    bad = bad or ((21, 0) if (office, tag) in shapes else None)
+    return bad or ((20, 0) if in_common({**shapes, (office, tag): (d, n)}) > COMMON else {**shapes, (office, tag): (d, n)})
+
+
+def after_closing(account, office, tag):
+    shapes = shapes_in(account)
+    bad = (20, 0) if shapes is None else no_slot(office, tag)
+    bad = bad or ((21, 0) if (office, tag) not in shapes else None)
+    return bad or {slot: shape for slot, shape in shapes.items() if slot != (office, tag)}
+
+
 # ---- the list of calls, and what is printed
 
 class Sheet:
@@ -138,6 +186,7 @@ class Sheet:
         self.asked, self.printed = [], []
         self.d = self.n = self.border = self.bits = 0
         self.m, self.l, self.i, self.table = [], [], [], []
+        self.account = [0] * 32
 
     def say(self, text):
         self.asked.append(text)
@@ -300,6 +349,45 @@ class Sheet:
             assert abs(answer - exact) <= off
             answer = "%d %d %d" % (answer, total, ceil(off))
         self.call("M", said(answer))
+
+    # accounts
+
+    def hand_in(self, account):
+        """Any bytes; as many as there are, from the first."""
+        self.account[:len(account)] = account
+        self.say("a" + "".join("%d," % byte for byte in account) + " ")
+
+    def on_slot(self, letter, numbers, answer):
+        self.call("i" + "".join("%d," % v for v in numbers) + letter, answer)
+
+    def changed(self, letter, numbers, answer):
+        """A refusal or the shapes after the call; answers whether it is not refused, and the account either way."""
+        done = isinstance(answer, dict)
+        self.account = bytes_of(answer) if done else self.account
+        self.on_slot(letter, numbers, " ".join(["d" if done else said(answer), *map(str, self.account)]))
+        return done
+
+    def empty(self):
+        self.account = bytes_of({})
+        self.call("Z", " ".join(map(str, self.account)))
+
+    def open(self, *numbers):
+        return self.changed("H", numbers, after_opening(self.account, *numbers))
+
+    def close(self, *slot):
+        return self.changed("D", slot, after_closing(self.account, *slot))
+
+    def usage(self):
+        shapes = shapes_in(self.account)
+        if shapes is None:
+            return self.call("I", said((20, 0)))
+        by_office = [open_points(shapes, office) for office in OFFICES]
+        self.call("I", " ".join(map(str, [*by_office, sum(by_office), in_common(shapes), COMMON - in_common(shapes)])))
+
+    def under(self, *slot):
+        shapes = shapes_in(self.account)
+        bad = (20, 0) if shapes is None else no_slot(*slot)
+        self.on_slot("K", slot, said(bad) if bad else "f %d %d 0" % shapes[slot] if slot in shapes else "e")
 
 
 # ---- the worked values
@@ -778,6 +866,136 @@ def bordered(sheet, draw):
         bordered_random(draw, sheet, d, n)
 
 
+# ---- accounts
+
+def worked_day(sheet):
+    sheet.empty()
+    for call, answer, free in [
+            ((1, 0, 8, 5), "d", 21503), ((2, 0, 4, 7), "d", 2302), ((3, 0, 3, 7), "refused 20 0", 2302), ((3, 0, 3, 6), "d", 2302), ((3, 1, 3, 5), "d", 2302),
+            ((3, 1, 1, 0), "refused 21 0", 2302), ((4, 0, 2, 8), "d", 2301), ((4, 8, 2, 8), "refused 22 0", 2301), ((5, 0, 2, 8), "refused 22 0", 2301),
+            ((4, 1, 8, 6), "refused 19 0", 2301), ((2, 3), "refused 21 0", 2301), ((1, 0), "d", 29950), ((3, 2, 3, 7), "d", 22785)]:
+        (sheet.open if len(call) == 4 else sheet.close)(*call)
+        assert sheet.printed[-2].startswith(" " + answer + " ")
+        sheet.usage()
+        assert sheet.printed[-2].endswith(" %d" % free)
+
+
+def edges_of_accounts(sheet):
+    # every byte of up to nine axes and some of more, each alone, at one place after another; then a shape at every place
+    sheet.empty()
+    alone = sorted([byte for byte in range(256) if byte < 160 or byte % 5 == 0], key=lambda byte: 37 * byte % 256)
+    for k, byte in enumerate(alone):
+        sheet.hand_in([0] * (32 * k // len(alone)) + [byte])
+        sheet.usage()
+        assert (sheet.printed[-2] == " refused 20 0") != (byte == 0 or byte in SHAPE_OF)
+    sheet.hand_in([16 * (1 + place % 8) + place // 8 for place in range(32)])
+    sheet.usage()
+    for slot in (1, 0), (1, 7), (2, 0), (3, 5), (4, 6), (4, 7):
+        sheet.under(*slot)
+        sheet.open(*slot, 1, 0)
+        sheet.close(*slot)
+        sheet.under(*slot)
+    sheet.usage()
+    # offices and tags
+    sheet.empty()
+    for slot in [(0, 0), (1, 0), (4, 7), (5, 0), (4, 8), (0, 8), (1, 256), (257, 0), (2, TOP), (TOP, 7), (TOP, TOP)]:
+        sheet.close(*slot)
+        sheet.open(*slot, 2, 2)
+        sheet.under(*slot)
+    # shapes, and the largest of each number of axes
+    for shape in [(0, 0), (9, 0), (1, 9), (1, TOP), (TOP, 0), (0, 16), (2 ** 28 + 1, 0), (257, 1), (1, 256), (3, 2 ** 32 - 16)]:
+        sheet.open(2, 1, *shape)
+    for d, n in enumerate([8, 8, 8, 7, 6, 5, 5, 5], 1):
+        sheet.open(d % 4 + 1, 8 - d, d, n + 1)
+        sheet.open(d % 4 + 1, 8 - d, d, n)
+    sheet.usage()
+    # many refusals at once; the account of the worked day, two that no history gives, and one that is both
+    day = {(1, 0): (8, 5), (2, 0): (4, 7), (3, 0): (3, 6), (3, 1): (3, 5)}
+    over = bytes_of({**day, (4, 0): (3, 7)})
+    assert shapes_in(over) is None
+    slots = [(3, 2), (1, 0), (0, 0), (5, 1), (2, 8)]
+    sheet.hand_in(bytes_of(day))
+    for slot in slots:
+        for shape in [(0, 9), (9, 6), (8, 9), (8, 6), (8, 5), (2, 8), (3, 4)]:
+            if sheet.open(*slot, *shape):
+                sheet.close(*slot)
+        sheet.under(*slot)
+        if sheet.close(*slot):
+            sheet.hand_in(bytes_of(day))
+    for account in bytes_of(day)[:31] + [9], over, over[:31] + [9]:
+        sheet.hand_in(account)
+        for slot, shape in zip(slots, [(1, 0), (8, 5), (8, 6), (8, 9), (9, 9)]):
+            sheet.open(*slot, *shape)
+        sheet.close(1, 0)
+        sheet.close(0, 8)
+        sheet.under(1, 0)
+        sheet.under(5, 0)
+        sheet.usage()
+        assert sheet.account == account
+    # all 49,152 common points in use, by one office and by four, and one too many; 4,096 of one's own beside it
+    for openings in [[(2, t, *shape) for t, shape in enumerate([(3, 8), (5, 5), (4, 7), (1, 0), (5, 5), (1, 0)])],
+                     [(1, 3, 2, 8), (2, 0, 6, 5), (4, 7, 8, 5), (3, 2, 3, 8), (4, 6, 3, 3), (3, 1, 1, 3)]]:
+        sheet.empty()
+        for opening in openings:
+            sheet.open(*opening)
+        assert in_common(shapes_in(sheet.account)) == COMMON
+        sheet.usage()
+        for call in Sheet.open, Sheet.close, Sheet.open:
+            call(sheet, *((2, 7, 1, 0) if call is Sheet.open else openings[-1][:2]))
+        sheet.usage()
+        sheet.open(*openings[-1])
+        sheet.close(2, 7)
+        sheet.open(*openings[-1])
+        for t, shape in enumerate([(4, 5), (5, 4), (1, 5), (1, 0), (1, 0)]):
+            sheet.open(1, t, *shape)
+        sheet.open(1, 5, 2, 8)
+        sheet.usage()
+        full = sheet.account
+        for byte in 16, 17:
+            sheet.hand_in([byte if k == 15 else v for k, v in enumerate(full)])
+            sheet.usage()
+    for byte in 0x85, 0x28, 0x10, 255:
+        sheet.hand_in([byte] * 32)
+        sheet.usage()
+
+
+def history(draw, sheet, quiet, calls):
+    """Any calls; those of one office never try to have more open than its own, and are answered as if there were no others."""
+    large = [shape for shape in SHAPE_OF.values() if size(*shape) > 500]
+    ledger, alone = 0, {}
+    sheet.empty()
+    for k in range(calls):
+        shapes = shapes_in(sheet.account)
+        office, tag, shape = draw.between(1, 4), draw.below(8), draw.of(*large, (8, 6), (0, 1), (3, 9))
+        if office == quiet:
+            left = OWN - open_points(shapes, quiet)
+            shape = draw.of((9, 9), *[shape for shape in SHAPE_OF.values() if size(*shape) <= left])
+        elif draw.below(12) == 0:
+            office, tag = draw.of((0, tag), (5, tag), (office, 8))
+        own = [slot for slot in shapes if slot[0] == office]
+        if own and draw.below(5) < 2:
+            office, tag = draw.of(*own, *own, (office, tag))
+            ledger -= size(*shapes[office, tag]) if sheet.close(office, tag) else 0
+            answer = after_closing(bytes_of(alone), office, tag)
+        else:
+            ledger += size(*shape) if sheet.open(office, tag, *shape) else 0
+            answer = after_opening(bytes_of(alone), office, tag, *shape)
+        if office == quiet:
+            alone = answer if isinstance(answer, dict) else alone
+            assert answer != (20, 0) and sheet.printed[-2].startswith(" d " if isinstance(answer, dict) else " %s " % said(answer))
+        assert sum(open_points(shapes_in(sheet.account), office) for office in OFFICES) == ledger
+        if k % 5 == 4:
+            sheet.under(*draw.of((draw.between(1, 4), draw.below(8)), *shapes_in(sheet.account)))
+            sheet.usage()
+
+
+def accounts(sheet, draw):
+    worked_day(sheet)
+    edges_of_accounts(sheet)
+    for quiet in OFFICES:
+        history(draw, sheet, quiet, 25)
+
+
 if __name__ == "__main__":
     sheet, draw = Sheet(), Drawn(88172645463325252)
     worked(sheet)
@@ -795,6 +1013,7 @@ if __name__ == "__main__":
         about_halves(draw, sheet, d, n)
     bordered(sheet, Drawn(6364136223846793005))
     edges_of_the_limit(sheet)
+    accounts(sheet, Drawn(2862933555777941757))
     for name, text in ("stdin", sheet.asked), ("stdout", sheet.printed):
         with open(os.path.join(sys.argv[1], name), "w") as out:
             out.write("".join(text))

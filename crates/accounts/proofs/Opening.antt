@@ -2,8 +2,8 @@
 -- opened in a free slot its office has the table's points more, so the test of the common points may be made before.
 -- Assumes nothing.
 use Rattle.std.specs.Prelude.{Ok}
-use mathlib.Core.Path.{◌≡◌, refl, ap}
-use Prim.Native.Nat.{ℕ, zero, suc, ◌+◌, ◌≤◌, ◌<◌}
+use mathlib.Core.Path.{◌≡◌, ap}
+use Prim.Native.Nat.{ℕ, ◌+◌, ◌≤◌, ◌<◌}
 use native.Mathlib.Omega.{arith}
 use lib.ListN.{length, set}
 use lib.Seq.{get_or-set_same, get_or-set_other}
@@ -12,7 +12,6 @@ use Rattle.naturals.proofs.Cases.{eq_or_not}
 use Rattle.naturals.proofs.Sums.{sum_to_zero, sum_to_suc, sum_to_cong, term_le}
 use Rattle.refusals.specs.declared.Refusal.TheVariants.{Tag}
 use Rattle.refusals.proofs.Passing.{test_passed}
-use Rattle.numbering.specs.Point.{at}
 use Rattle.shapes.specs.Shapes.{sparse, points_of, check_shape}
 use Rattle.accounts.specs.declared.Account.{Account}
 use Rattle.accounts.specs.Accounts.{offices, tags, own_points, common_points, byte_of, is_free, points_in, under, points_under, held, held_by, total, above, common, put}

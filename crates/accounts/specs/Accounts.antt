@@ -1,7 +1,7 @@
 -- The account of four offices (document 02, i): the shapes of their open tables, by office and tag, and the points that these take. The offices 1 to 4 have the
 -- places 0 to 3 here.
 -- Assumes nothing.
-use Rattle.std.specs.Prelude.{Bool, ◌||◌, ℕ, ◌+◌, ◌-◌, ◌*◌, ◌/◌, ◌%◌, eqb, if◌then◌else◌, replicate, set}
+use Rattle.std.specs.Prelude.{Bool, ◌||◌, List, [], ◌∷◌, ℕ, ◌+◌, ◌-◌, ◌*◌, ◌/◌, ◌%◌, eqb, if◌then◌else◌, replicate, set}
 use Rattle.naturals.specs.Sum.{sum_to}
 use Rattle.naturals.specs.Test.{all}
 use Rattle.refusals.specs.Checks.{passes}

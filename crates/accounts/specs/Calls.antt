@@ -1,6 +1,6 @@
 -- The calls on an account (document 02, i): opening and closing a table, and what a planner reads. The checks stand in the paper's order, first match wins.
 -- Assumes nothing.
-use Rattle.std.specs.Prelude.{not, ◌&&◌, [], ◌∷◌, ℕ, ◌-◌, leb, ltb, if◌then◌else◌, Option, Some, None, Result, Ok, Err}
+use Rattle.std.specs.Prelude.{not, ◌&&◌, ℕ, ◌-◌, leb, ltb, if◌then◌else◌, Option, Some, None, Result, Ok, Err}
 use Rattle.naturals.specs.Test.{all}
 use Rattle.refusals.specs.declared.Refusal.{Refusal}
 use Rattle.refusals.specs.declared.Refusal.TheVariants.{Allowance, Tag, NoSlot}

@@ -1,6 +1,6 @@
 -- What the inner functions of the account's calls answer.
 -- Assumes nothing.
-use Rattle.std.specs.Prelude.{List, [], ◌∷◌, ℕ, ◌+◌, ◌-◌, leb, set, if◌then◌else◌, Result, Ok, Err}
+use Rattle.std.specs.Prelude.{List, ℕ, ◌+◌, ◌-◌, leb, set, if◌then◌else◌, Result, Ok, Err}
 use Rattle.naturals.specs.Sum.{sum_to}
 use Rattle.refusals.specs.declared.Refusal.{Refusal}
 use Rattle.refusals.specs.declared.Refusal.TheVariants.{Allowance}

@@ -1,5 +1,6 @@
 // A letter of the list, and the call that it may stand for.
 use crate::text;
+use accounts::{Account, Answered, Usage};
 use estimates::Estimated;
 use numbering::Side;
 use points::{MarkedPoint, padded};
@@ -11,14 +12,17 @@ use std::fmt::Display;
 use std::io;
 use vectors::compare_levels;
 
-// The places where numbers go: the numbers of the state from 0, the list m from 16, the list l from 32, the list i from 48, the table from 64.
+// The places where numbers go: the numbers of the state from 0, the list m from 16, the list l from 32, the list i from 48, the account from 64, the table
+// from 96.
 const MARKS: usize = 16;
 
 const LEVELS: usize = 32;
 
 const INDICES: usize = 48;
 
-const TABLE: usize = 64;
+const ACCOUNT: usize = 64;
+
+const TABLE: usize = 96;
 
 // Where in the state stand a shape, whether it has values on the border, the set of forward axes, and how many numbers of each list and how many places of the
 // table a call is lent.
@@ -53,6 +57,7 @@ pub struct Desk {
     at: usize,
     number: u64,
     numbers: Numbers,
+    account: Account,
     table: [i64; 2048],
 }
 
@@ -147,6 +152,47 @@ fn answered(out: &impl Print, answer: Result<State, Refusal>, set: u8) -> io::Re
     }
 }
 
+// The account that is answered; it is handed to the next call.
+fn kept(out: &impl Print, account: Account) -> io::Result<Account> {
+    for byte in account.slots {
+        text::number(out, byte)?;
+    }
+    Ok(account)
+}
+
+fn changed(out: &impl Print, answer: Answered) -> io::Result<Account> {
+    judged(out, answer.verdict)?;
+    kept(out, answer.account)
+}
+
+fn used(out: &impl Print, answer: Result<Usage, Refusal>) -> io::Result<()> {
+    match answer {
+        Ok(usage) => {
+            for points in usage.by_office {
+                text::number(out, points)?;
+            }
+            text::number(out, usage.in_all)?;
+            text::number(out, usage.common)?;
+            text::number(out, usage.free)
+        }
+        Err(why) => text::refused(out, why),
+    }
+}
+
+// The shape that is open under a tag; or `e`, where the slot is empty.
+fn under(out: &impl Print, answer: Result<Option<Shape>, Refusal>) -> io::Result<()> {
+    match answer {
+        Ok(Some(shape)) => {
+            text::letter(out, b'f')?;
+            text::number(out, shape.axes)?;
+            text::number(out, shape.level)?;
+            text::number(out, u32::from(shape.border))
+        }
+        Ok(None) => text::letter(out, b'e'),
+        Err(why) => text::refused(out, why),
+    }
+}
+
 // ---- calls
 
 // The first numbers of a list.
@@ -179,6 +225,7 @@ fn call(
     letter: u8,
     x: u64,
     numbers: &Numbers,
+    account: &mut Account,
     table: &mut [i64],
 ) -> io::Result<u8> {
     let Numbers { s, m, l, i } = numbers;
@@ -204,7 +251,11 @@ fn call(
         b'G' => return answered(out, turns::dehierarchize(state, table, axis), set),
         b'T' => return answered(out, run(out, state, l, indices, table)?, set),
         b'C' => numbered(out, shape.count())?,
+        b'D' => *account = changed(out, accounts::close(*account, i[0], i[1]))?,
         b'E' => numbered(out, estimates::estimate(state, table, levels))?,
+        b'H' => *account = changed(out, accounts::open(*account, i[0], i[1], i[2], i[3]))?,
+        b'I' => used(out, accounts::usage_of(*account))?,
+        b'K' => under(out, accounts::table_under(*account, i[0], i[1]))?,
         b'L' => located(
             out,
             parents::parent(shape, marks, levels, indices, axis, Side::Left),
@@ -222,6 +273,7 @@ fn call(
         b'U' => judged(out, tables::unload(state, table))?,
         b'V' => judged(out, whole::rates_to_coefficients(shape, table))?,
         b'W' => judged(out, whole::coefficients_to_rates(shape, table))?,
+        b'Z' => *account = kept(out, Account::empty())?,
         _ => located(
             out,
             parents::parent(shape, marks, levels, indices, axis, Side::Right),
@@ -242,6 +294,7 @@ impl Desk {
                 l: [0; 16],
                 i: [0; 16],
             },
+            account: Account::empty(),
             table: [0; 2048],
         }
     }
@@ -255,8 +308,10 @@ impl Desk {
             self.numbers.m[at - MARKS] = word(n);
         } else if at < INDICES {
             self.numbers.l[at - LEVELS] = word(n);
-        } else if at < TABLE {
+        } else if at < ACCOUNT {
             self.numbers.i[at - INDICES] = word(n);
+        } else if at < TABLE {
+            self.account.slots[at - ACCOUNT] = byte(word(n));
         } else if let Some(place) = self.table.get_mut(at - TABLE) {
             *place = n.cast_signed();
         }
@@ -279,7 +334,14 @@ impl Desk {
     fn call(&mut self, out: &impl Print, letter: u8) -> io::Result<()> {
         let places = self.numbers.s[PLACES] as usize;
         let set = match self.table.get_mut(..places) {
-            Some(table) => call(out, letter, self.number, &self.numbers, table)?,
+            Some(table) => call(
+                out,
+                letter,
+                self.number,
+                &self.numbers,
+                &mut self.account,
+                table,
+            )?,
             None => 0,
         };
         self.numbers.s[SET] = u32::from(set);
@@ -302,6 +364,7 @@ impl Desk {
             b'm' => self.at = MARKS,
             b'l' => self.at = LEVELS,
             b'i' => self.at = INDICES,
+            b'a' => self.at = ACCOUNT,
             b't' => self.at = TABLE,
             _ => {}
         }
