@@ -2,8 +2,9 @@
 //! Every opponent's answers are compared with the library's before anything is measured.
 //!
 //! `bench/run` builds this and pins it to one core. `NUMOLEFAYS_SECONDS` is what one contestant may use for one row (1).
-//! Arguments: which tables, of points, files, estimates, turns, border and components; all where there is none.
+//! Arguments: which tables, of points, files, estimates, turns, border, components and accounts; all where there is none.
 
+mod accounts;
 mod border;
 mod components;
 mod estimates;
@@ -24,13 +25,14 @@ fn main() {
     let seconds = std::env::var("NUMOLEFAYS_SECONDS").ok().and_then(|s| s.parse().ok()).unwrap_or(1.0);
     println!("{}", machine());
     let chosen: Vec<String> = std::env::args().skip(1).collect();
-    let tables: [(&str, Print); 6] = [
+    let tables: [(&str, Print); 7] = [
         ("points", points::print),
         ("files", files::print),
         ("estimates", estimates::print),
         ("turns", turns::print),
         ("border", |_, seconds| border::print(seconds)),
         ("components", |_, seconds| components::print(seconds)),
+        ("accounts", |_, seconds| accounts::print(seconds)),
     ];
     for (name, print) in tables {
         if chosen.is_empty() || chosen.iter().any(|c| c == name) {

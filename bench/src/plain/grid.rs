@@ -106,7 +106,7 @@ const fn tops() -> [u32; 9] {
 }
 
 /// Refusal 1, 2 or 19, else nothing.
-pub fn check_shape(axes: u32, level: u32) -> Option<u32> {
+pub const fn check_shape(axes: u32, level: u32) -> Option<u32> {
     if axes == 0 || axes > 8 {
         Some(1)
     } else if level > 8 {

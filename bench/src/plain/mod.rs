@@ -1,6 +1,7 @@
 //! The opponents: document 01's calls as one would write them in plain Rust. Nothing here is proved, and nothing is taken
 //! from the library. Each gives the same answers as the library, which the benchmark tests before it measures.
 
+pub mod accounts;
 pub mod algorithm6;
 pub mod algorithm7;
 pub mod bordered;

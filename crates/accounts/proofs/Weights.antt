@@ -2,15 +2,15 @@
 -- slot holds what it may, the weights are the points that are open. A slot that holds something else weighs more than its office's own points and all common ones
 -- together, so the test of the common points refuses such an account as well.
 -- Assumes nothing.
-use Rattle.std.specs.Prelude.{if◌then◌else◌, Ok, Err}
-use mathlib.Core.Path.{◌≡◌, refl, ap, ◌∙◌}
-use mathlib.Core.Bool.{Bool, true, false, ◌||◌}
+use Rattle.std.specs.Prelude.{Ok, Err}
+use mathlib.Core.Path.{◌≡◌, refl, ap}
+use mathlib.Core.Bool.{Bool, true, false}
 use mathlib.Core.Logic.{⊎_elim}
-use Prim.Native.Nat.{ℕ, zero, suc, ◌*◌, ◌/◌, ◌%◌, ◌≤◌, ◌<◌}
-use native.Mathlib.Nat.{div-add-mod'}
+use Prim.Native.Nat.{ℕ, zero, suc, ◌*◌, ◌≤◌, ◌<◌}
 use native.Mathlib.Omega.{arith}
-use lib.Dec.{ltb, eqb}
-use borrow.Author.Tests.{le-leb, lt-leb, le-ltb, lt-ltb, eqb-true, eqb-false}
+use lib.ListN.{get_or}
+use lib.Dec.{eqb}
+use borrow.Author.Tests.{le-leb, lt-leb, eqb-true, eqb-false}
 use Rattle.naturals.specs.Sum.{sum_to}
 use Rattle.naturals.specs.Test.{all}
 use Rattle.naturals.proofs.Cases.{true_or_false}
@@ -21,50 +21,27 @@ use Rattle.refusals.specs.declared.Refusal.TheVariants.{Allowance}
 use Rattle.numbering.specs.Point.{at}
 use Rattle.numbering.specs.Binomial.{choose}
 use Rattle.numbering.specs.Count.{vectors, shell, start, points}
-use Rattle.shapes.specs.Rows.{entry}
 use Rattle.shapes.specs.Shapes.{most_points, points_of, check_limits, check_size, check_shape}
 use Rattle.shapes.proofs.Checked.{passed_in_range}
 use Rattle.accounts.specs.declared.Account.{Account}
 use Rattle.accounts.specs.declared.TheConstants.{POINTS}
-use Rattle.accounts.specs.Accounts.{offices, tags, common_points, byte_of, shape_in, is_free, is_slot, points_in, under, points_under, by_office, held, held_by, above, common, slot_passes, office_passes}
+use Rattle.accounts.specs.Accounts.{offices, tags, common_points, shape_in, is_free, is_slot, points_in, under, points_under, by_office, held, held_by, above, common, slot_passes, office_passes}
 use Rattle.accounts.specs.Calls.{check_common, check_account}
 use Rattle.accounts.specs.Steps.{no_shape, weight, weight_under, weighed, weighed_by, above_at, common_over}
 use Rattle.accounts.proofs.Bytes.{slot_holds}
 
 -- ---- the table
 
--- What is read for d and n.
-abbrev pub read : ℕ → ℕ → ℕ
-read d n = if ltb 8 d || ltb 8 n then no_shape else entry POINTS d n
+right : ℕ → Bool
+right byte = eqb (get_or POINTS byte 0) (weight byte)
 
-right : ℕ → ℕ → Bool
-right d n = eqb (read d n) (weight (byte_of d n))
-
-right_row : ℕ → Bool
-right_row d = all (right d) 16
-
-all_right : all right_row 16 ≡ true
-unfolding all right_row right weight is_slot points_in check_shape check_limits check_size points_of points start shell vectors sum_to choose
+all_right : all right 256 ≡ true
+unfolding all right weight is_slot points_in check_shape check_limits check_size points_of points start shell vectors sum_to choose
 all_right = refl
 
-table_right : (byte : ℕ) → byte < 256 → read (byte / 16) (byte % 16) ≡ weight byte
-unfolding right_row right
-table_right byte h =
-    let d = byte / 16 in
-    let n = byte % 16 in
-    let row = all_at right_row 16 all_right d (omega arith) in
-    let same : byte_of d n ≡ byte = omega (arith, div-add-mod' byte 16) in
-    eqb-true (read d n) (weight (byte_of d n)) (all_at (right d) 16 row n (omega arith)) ∙ ap weight same
-
-module _ (byte : ℕ) (h : byte < 256) where
-  pub far_axes : 8 < byte / 16 → no_shape ≡ weight byte
-  far_axes far = rw (lt-ltb 8 (byte / 16) far) at (table_right byte h)
-
-  pub far_level : byte / 16 ≤ 8 → 8 < byte % 16 → no_shape ≡ weight byte
-  far_level near far = rw (le-ltb 8 (byte / 16) near, lt-ltb 8 (byte % 16) far) at (table_right byte h)
-
-  pub entry_right : byte / 16 ≤ 8 → byte % 16 ≤ 8 → entry POINTS (byte / 16) (byte % 16) ≡ weight byte
-  entry_right near low = rw (le-ltb 8 (byte / 16) near, le-ltb 8 (byte % 16) low) at (table_right byte h)
+pub table_right : (byte : ℕ) → byte < 256 → get_or POINTS byte 0 ≡ weight byte
+unfolding right
+table_right byte h = eqb-true (get_or POINTS byte 0) (weight byte) (all_at right 256 all_right byte h)
 
 -- ---- what the slots weigh
 

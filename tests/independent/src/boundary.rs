@@ -1,13 +1,14 @@
 //! The boundary as the checks call it, in one place: on shapes of either sort in [`bordered`], and beside it the same calls
-//! without border values, with the flag 0 and all marks 0, for the checks of such tables. House files and component grids
-//! have neither flag nor marks.
+//! without border values, with the flag 0 and all marks 0, for the checks of such tables. House files, component grids and
+//! accounts have neither flag nor marks.
 
 #![allow(clippy::too_many_arguments)]
 
 use crate::model::bordered::{Eights, Lists, Shape};
 
 pub use numolefays::boundary::{
-    component_coefficients, house_file_shape, read_house_file, rewrite_house_file, write_house_file,
+    account_usage, close_table, component_coefficients, empty_account, house_file_shape, open_table, read_house_file,
+    rewrite_house_file, table_under, write_house_file,
 };
 
 fn shape(axes: u32, level: u32) -> Shape {

@@ -2,8 +2,9 @@
 //!
 //! `NUMOLEFAYS_SEED` and `NUMOLEFAYS_COUNT` set the seed and the number of rounds; a round is one random input to every
 //! call. `NUMOLEFAYS_LARGE=0` leaves out the large tables, as for a run under valgrind, and keeps turns with a fault
-//! and turns list by list to fewer shapes, and a line to fewer coordinates. The last line has the counts; the exit code
-//! is 1 where anything differs, and where an answer was not met or a wrong reading would not be seen.
+//! and turns list by list to fewer shapes, a line to fewer coordinates, and calls at their edges to fewer accounts. The
+//! last line has the counts; the exit code is 1 where anything differs, and where an answer was not met or a wrong reading
+//! would not be seen.
 
 mod boundary;
 mod checks;
@@ -15,8 +16,9 @@ mod report;
 mod wrapper;
 
 use checks::{
-    border, bordered, components, edges, estimates, exhaustive, faults, files, finer, lists, margin_misreadings,
-    margins, misreadings, orders, points, rates, rounding, runs, threads, turns, walks, worked, writes,
+    account_misreadings, accounts, border, bordered, components, edges, estimates, exhaustive, faults, files, finer,
+    lists, margin_misreadings, margins, misreadings, orders, points, rates, rounding, runs, threads, turns, walks,
+    worked, writes,
 };
 use draw::Draw;
 use report::Report;
@@ -34,7 +36,7 @@ fn setting(name: &str, usual: u64) -> u64 {
 
 /// What each call can answer on shapes without border values, as refusal numbers, 0 for success: all of it has to have been
 /// met.
-const ANSWERS: [(&str, &[u32]); 20] = [
+const ANSWERS: [(&str, &[u32]); 25] = [
     ("count", &[0, 1, 2, 19]),
     ("number", &[0, 1, 2, 19, 7, 9]),
     ("successor", &[0, 1, 2, 19, 7, 9]),
@@ -55,6 +57,11 @@ const ANSWERS: [(&str, &[u32]); 20] = [
     ("write", &[0, 1, 2, 19, 3, 4]),
     ("rewrite", &[0, 11, 12, 1, 2, 19, 3, 13]),
     ("file shape", &[0, 11, 12, 1, 2, 19]),
+    ("empty account", &[0]),
+    ("open table", &[0, 20, 1, 2, 19, 22, 21]),
+    ("close table", &[0, 20, 22, 21]),
+    ("usage", &[0, 20]),
+    ("table under", &[0, 20, 22]),
 ];
 
 fn main() {
@@ -153,12 +160,16 @@ fn main() {
 
     bordered::all(seed, count, with_large, &mut report, &|what| step(&clock, what));
 
+    accounts::all(seed, count, with_large, &mut report);
+    step(&clock, "accounts: worked ones, every number and byte, faults at once, all common points in use, histories");
+
     report.print();
     let mut met = misreadings_shown(&report, "an estimate", misreadings::names())
         & misreadings_shown(&report, "a margin", margin_misreadings::names())
         & orders::print(&shown)
         & lists::print(&listed)
-        & misreadings_shown(&report, "the requests for border values and for a limit", bordered::readings());
+        & misreadings_shown(&report, "the requests for border values and for a limit", bordered::readings())
+        & misreadings_shown(&report, "the request for an account", account_misreadings::names());
     if count >= COUNT {
         met &= all_met(&report, &ANSWERS) & all_met(&report, &bordered::ANSWERS);
     }

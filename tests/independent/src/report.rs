@@ -4,7 +4,7 @@ use std::collections::BTreeMap;
 use std::fmt::Debug;
 
 /// The calls of the boundary.
-pub const KINDS: [&str; 35] = [
+pub const KINDS: [&str; 40] = [
     "count",
     "number",
     "point",
@@ -25,6 +25,12 @@ pub const KINDS: [&str; 35] = [
     "write",
     "rewrite",
     "file shape",
+    // on an account
+    "empty account",
+    "open table",
+    "close table",
+    "usage",
+    "table under",
     // on shapes with border values
     "bordered count",
     "bordered number",

@@ -1,6 +1,8 @@
 //! Each call, once through the boundary with every output and buffer compared, and once through the safe wrapper; what is
 //! in `writes` through the boundary alone.
 
+pub mod account_misreadings;
+pub mod accounts;
 pub mod border;
 pub mod bordered;
 pub mod components;

@@ -4,6 +4,7 @@
 //!
 //! Nothing here is fast, and nothing here is taken from the library or its papers' algorithms.
 
+pub mod account;
 pub mod bordered;
 pub mod component;
 pub mod estimates;
