@@ -2,4 +2,3 @@ pub mod Bytes
 pub mod Slots
 pub mod Weights
 pub mod Opening
-pub mod Answering

@@ -12,6 +12,7 @@ use Rattle.naturals.proofs.Cases.{eq_or_not}
 use Rattle.naturals.proofs.Sums.{sum_to_zero, sum_to_suc, sum_to_cong, term_le}
 use Rattle.refusals.specs.declared.Refusal.TheVariants.{Tag}
 use Rattle.refusals.proofs.Passing.{test_passed}
+use Rattle.numbering.specs.Point.{at}
 use Rattle.shapes.specs.Shapes.{sparse, points_of, check_shape}
 use Rattle.accounts.specs.declared.Account.{Account}
 use Rattle.accounts.specs.Accounts.{offices, tags, own_points, common_points, byte_of, is_free, points_in, under, points_under, held, held_by, total, above, common, put}
@@ -28,9 +29,10 @@ module _ (a : Account) where
       let f = held a in
       omega (arith, sum_to_zero f, sum_to_suc f 0, sum_to_suc f 1, sum_to_suc f 2, sum_to_suc f 3)
 
-  pub held_small : common a ≤ common_points → (o : ℕ) → o < offices → held a o ≤ common_points + own_points
+  pub held_small : common a ≤ common_points → (o : ℕ) → o < offices → at (held_by a) o ≤ common_points + own_points
   unfolding common above
-  held_small h o inside = let one = term_le (above a) offices o inside in omega (arith, h, one)
+  held_small h o inside =
+      let one = term_le (above a) offices o inside in omega (arith, h, one, at_office (held a) o inside)
 
 -- What a passed test of a slot tells.
 pub free_told : (a : Account) (o tag : ℕ) → check_free a o tag ≡ Ok tt → under a o tag ≡ 0
@@ -54,14 +56,15 @@ module _ (a : Account) (o tag axes level : ℕ) (long : length a.slots ≡ 32) (
           shape_points axes level passes,
         )
 
-    common_opened : common_over (set (held_by a) o (held a o + points_of (sparse axes level))) ≡ common next
+    common_opened : common_over (set (held_by a) o (at (held_by a) o + points_of (sparse axes level))) ≡ common next
     unfolding common_over common above
     common_opened =
-        let more = held a o + points_of (sparse axes level) in
+        let more = at (held_by a) o + points_of (sparse axes level) in
+        let own : more ≡ held next o = omega (arith, at_office (held a) o inside, held_more) in
         sum_to_cong (above_at (set (held_by a) o more)) (above next) offices
         (λ u h.
         eq_or_not u o
-        (λ e. rw e (omega (arith, get_or-set_same (held_by a) o more 0 inside, held_more)))
+        (λ e. rw e (omega (arith, get_or-set_same (held_by a) o more 0 inside, own)))
         (λ ne.
         omega (
           arith,
@@ -70,6 +73,6 @@ module _ (a : Account) (o tag axes level : ℕ) (long : length a.slots ≡ 32) (
           held_other a o tag (byte_of axes level) tagged u ne,
         )))
 
-    pub more_opened : check_more a o (points_of (sparse axes level)) ≡ check_common next
+    pub more_opened : check_more (held_by a) o (points_of (sparse axes level)) ≡ check_common next
     unfolding check_more check_common
     more_opened = rw common_opened

@@ -10,6 +10,10 @@ use Rattle.shapes.specs.declared.Shape.{Shape}
 use Rattle.shapes.specs.Shapes.{sparse, points_of, check_shape}
 use Rattle.accounts.specs.declared.Account.{Account}
 
+-- An account, from its slots.
+abbrev pub account_of : List ℕ → Account
+account_of slots = record { slots = slots }
+
 -- How many offices there are, and how many tags each has.
 abbrev pub offices : ℕ
 offices = 4
@@ -88,8 +92,8 @@ office_passes a o = all (slot_passes a o) tags
 
 -- Nothing is open.
 abbrev pub empty : Account
-empty = record { slots = replicate (offices * tags) 0 }
+empty = account_of (replicate (offices * tags) 0)
 
 -- The account with another byte in a slot.
 abbrev pub put : Account → ℕ → ℕ → ℕ → Account
-put a o tag byte = record { slots = set a.slots (slot o tag) byte }
+put a o tag byte = account_of (set a.slots (slot o tag) byte)

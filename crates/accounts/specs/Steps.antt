@@ -1,15 +1,13 @@
 -- What the inner functions of the account's calls answer.
 -- Assumes nothing.
-use Rattle.std.specs.Prelude.{List, ℕ, ◌+◌, ◌-◌, leb, set, if◌then◌else◌, Result, Ok, Err}
+use Rattle.std.specs.Prelude.{List, ℕ, ◌+◌, ◌-◌, leb, set, if◌then◌else◌}
 use Rattle.naturals.specs.Sum.{sum_to}
-use Rattle.refusals.specs.declared.Refusal.{Refusal}
 use Rattle.refusals.specs.declared.Refusal.TheVariants.{Allowance}
-use Rattle.refusals.specs.Checks.{unless, ◌and_then◌, answer, Verdict}
+use Rattle.refusals.specs.Checks.{unless, Verdict}
 use Rattle.numbering.specs.Point.{at}
 use Rattle.accounts.specs.declared.Account.{Account}
 use Rattle.accounts.specs.declared.Answered.{Answered}
-use Rattle.accounts.specs.Accounts.{offices, own_points, common_points, tags, by_office, is_slot, points_in, under, held, held_by}
-use Rattle.accounts.specs.Calls.{check_account, check_common, check_slot, check_open, check_opening, opened, closed, done, refused}
+use Rattle.accounts.specs.Accounts.{account_of, offices, own_points, common_points, tags, by_office, is_slot, points_in, under}
 
 -- The points open in a slot and for an office, where a slot that holds what it may not counts as 65,535: more than the points of any shape, and more than the
 -- common points and an office's own together.
@@ -36,22 +34,9 @@ unfoldable pub common_over : List ℕ → ℕ
 common_over points = sum_to (above_at points) offices
 
 -- The common points in use, were so many points more open for the office at place o, are no more than there are: else refused with 20.
-unfoldable pub check_more : Account → ℕ → ℕ → Verdict
-check_more a o points = unless (leb (common_over (set (held_by a) o (held a o + points))) common_points) Allowance
+unfoldable pub check_more : List ℕ → ℕ → ℕ → Verdict
+check_more points o more = unless (leb (common_over (set points o (at points o + more))) common_points) Allowance
 
--- The account that an opening or a closing leaves, or its refusal; and the call's answer from it.
-unfoldable pub opened_account : Account → ℕ → ℕ → ℕ → ℕ → Result Account Refusal
-opened_account a office tag axes level =
-    answer Err
-    (check_opening a office tag axes level and_then check_common (opened a office tag axes level))
-    (Ok (opened a office tag axes level))
-
-unfoldable pub closed_account : Account → ℕ → ℕ → Result Account Refusal
-closed_account a office tag =
-    answer Err
-    (check_account a and_then check_slot office tag and_then check_open a (office - 1) tag)
-    (Ok (closed a office tag))
-
-abbrev pub answered : Account → Result Account Refusal → Answered
-answered a (Ok next) = done next
-answered a (Err r) = refused a r
+-- What a call leaves that works in a lent account.
+abbrev pub answered : Verdict → List ℕ → Answered
+answered v slots = record { verdict = v; account = account_of slots }

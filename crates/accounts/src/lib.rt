@@ -1,12 +1,13 @@
 // The account of four offices that share an allowance of points (document 02, i): opening and closing tables, and what a planner reads.
 #![tactic(auto)]
 
-ghost use Rattle.std.specs.Prelude.{◌≡◌, ◌<◌, ◌≤◌, ◌-◌, IfOk};
+ghost use Rattle.std.specs.Prelude.{◌≡◌, ◌<◌, ◌≤◌, ◌+◌, ◌-◌, IfOk};
 ghost use Rattle.refusals.specs.Checks.{verdict};
+ghost use Rattle.numbering.specs.Point.{at};
 ghost use Rattle.shapes.specs.Shapes.{most_points};
-ghost use Rattle.accounts.specs.Accounts.{own_points, common_points, empty, slot, under, held_by, common, put};
+ghost use Rattle.accounts.specs.Accounts.{own_points, common_points, account_of, empty, slot, held_by, common};
 ghost use Rattle.accounts.specs.Calls.{check_account, check_slot, check_free, check_open, open_table, close_table, usage_of, shape_under};
-ghost use Rattle.accounts.specs.Steps.{weight, weighed, common_over, check_more, answered, opened_account, closed_account};
+ghost use Rattle.accounts.specs.Steps.{weight, weighed, common_over, check_more, answered};
 
 use refusals::Refusal;
 use shapes::Shape;
@@ -59,15 +60,6 @@ pub struct Usage {
     pub in_all: u64,
     pub common: u64,
     pub free: u64,
-}
-
-// An account that the check passes, with the points that each office has open.
-#[derive(Clone, Copy)]
-struct CheckedAccount {
-    account: Account,
-    held: [u32; 4],
-    ghost counted: { held ≡ held_by account },
-    ghost suffices: { common account ≤ common_points },
 }
 
 // A slot: the place of its office, from 0, and its tag.
@@ -126,163 +118,110 @@ fn common_of(held: [u32; 4]) -> u64
     above(held[0]) + above(held[1]) + above(held[2]) + above(held[3])
 }
 
-// ---- the check
+// ---- the checks
 
-impl Account {
-    // Nothing is open.
-    pub fn empty() -> Account
-        ensures { result ≡ empty }
-    {
-        Account { slots: [0; 32] }
+// How many points an office has open, slots that hold what they may not counted as 65,535.
+fn weighed(slots: &[u8; 32], office: usize) -> u32
+    requires { office < 4 }
+    ensures { result ≡ weighed (account_of slots.now) office }
+{
+    let mut points = 0;
+    for tag in 0..8 {
+        points += weight(slots[office * 8 + tag]);
     }
-
-    // How many points an office has open, slots that hold what they may not counted as 65,535.
-    fn weighed(&self, office: usize) -> u32
-        requires { office < 4 }
-        ensures { result ≡ weighed self.now office }
-    {
-        let mut points = 0;
-        for tag in 0..8 {
-            points += weight(self.slots[office * 8 + tag]);
-        }
-        points
-    }
-
-    // Refused with 20.
-    fn check(self) -> Result<CheckedAccount, Refusal>
-        ensures verdict { verdict result ≡ check_account self }
-        ensures account { IfOk result (λ checked. checked.account ≡ self) }
-    {
-        let held = [
-            self.weighed(0),
-            self.weighed(1),
-            self.weighed(2),
-            self.weighed(3),
-        ];
-        if COMMON_POINTS < common_of(held) {
-            return Err(Refusal::Allowance);
-        }
-        Ok(CheckedAccount {
-            account: self,
-            held,
-        })
-    }
-
-    // What a slot holds.
-    fn byte(self, slot: Slot) -> u8
-        ensures { result ≡ under self slot.office slot.tag }
-    {
-        self.slots[slot.place()]
-    }
-
-    // With another byte in a slot.
-    fn put(self, slot: Slot, byte: u8) -> Account
-        ensures { result ≡ put self slot.office slot.tag byte }
-    {
-        let mut slots = self.slots;
-        slots[slot.place()] = byte;
-        Account { slots }
-    }
-
-    // Refused with 21 where something is open in the slot.
-    #[tactic(auto, unfolding(crate::specs::Calls::check_free))]
-    fn check_free(self, slot: Slot) -> Result<(), Refusal>
-        ensures { result ≡ check_free self slot.office slot.tag }
-    {
-        if self.byte(slot) != 0 {
-            return Err(Refusal::Tag);
-        }
-        Ok(())
-    }
-
-    // Refused with 21 where nothing is open in the slot.
-    #[tactic(auto, unfolding(crate::specs::Calls::check_open))]
-    fn check_open(self, slot: Slot) -> Result<(), Refusal>
-        ensures { result ≡ check_open self slot.office slot.tag }
-    {
-        if self.byte(slot) == 0 {
-            return Err(Refusal::Tag);
-        }
-        Ok(())
-    }
-
-    // With a table opened. Refused with 20, 1, 2, 19, 22, 21 or 20.
-    fn opened(self, office: u32, tag: u32, axes: u32, level: u32) -> Result<Account, Refusal>
-        ensures { result ≡ opened_account self office tag axes level }
-    {
-        let checked = self.check()?;
-        let points = Shape::sparse(axes, level).check()?.points();
-        let slot = Slot::find(office, tag)?;
-        self.check_free(slot)?;
-        checked.check_more(slot, points)?;
-        Ok(self.put(slot, (16 * axes + level) as u8))
-    }
-
-    // With a table closed. Refused with 20, 22 or 21.
-    fn closed(self, office: u32, tag: u32) -> Result<Account, Refusal>
-        ensures { result ≡ closed_account self office tag }
-    {
-        self.check()?;
-        let slot = Slot::find(office, tag)?;
-        self.check_open(slot)?;
-        Ok(self.put(slot, 0))
-    }
+    points
 }
 
-impl CheckedAccount {
-    // Refused with 20 where the common points would not suffice, had the slot's office so many points more.
-    fn check_more(self, slot: Slot, points: u64) -> Result<(), Refusal>
-        requires { points ≤ most_points }
-        ensures { result ≡ check_more self.account slot.office points }
-    {
-        let mut held = self.held;
-        held[slot.office] += points as u32;
-        if COMMON_POINTS < common_of(held) {
-            return Err(Refusal::Allowance);
-        }
-        Ok(())
+// How many points each office has open. Refused with 20.
+fn check(slots: &[u8; 32]) -> Result<[u32; 4], Refusal>
+    ensures verdict { verdict result ≡ check_account (account_of slots.now) }
+    ensures held { IfOk result (λ held. (held ≡ held_by (account_of slots.now)) × (common (account_of slots.now) ≤ common_points)) }
+{
+    let held = [
+        weighed(slots, 0),
+        weighed(slots, 1),
+        weighed(slots, 2),
+        weighed(slots, 3),
+    ];
+    if COMMON_POINTS < common_of(held) {
+        return Err(Refusal::Allowance);
     }
+    Ok(held)
 }
 
-impl Answered {
-    // The account that was found; where the call was refused, the one that was handed in.
-    fn by(answer: Result<Account, Refusal>, account: Account) -> Answered
-        ensures { result ≡ answered account answer }
-    {
-        match answer {
-            Ok(found) => Answered {
-                verdict: Ok(()),
-                account: found,
-            },
-            Err(refusal) => Answered {
-                verdict: Err(refusal),
-                account,
-            },
-        }
+// Refused with 21 where something is open in the slot.
+#[tactic(auto, unfolding(crate::specs::Calls::check_free))]
+fn check_free(slots: &[u8; 32], slot: Slot) -> Result<(), Refusal>
+    ensures { result ≡ check_free (account_of slots.now) slot.office slot.tag }
+{
+    if slots[slot.place()] != 0 {
+        return Err(Refusal::Tag);
     }
+    Ok(())
+}
+
+// Refused with 21 where nothing is open in the slot.
+#[tactic(auto, unfolding(crate::specs::Calls::check_open))]
+fn check_open(slots: &[u8; 32], slot: Slot) -> Result<(), Refusal>
+    ensures { result ≡ check_open (account_of slots.now) slot.office slot.tag }
+{
+    if slots[slot.place()] == 0 {
+        return Err(Refusal::Tag);
+    }
+    Ok(())
+}
+
+// Refused with 20 where the common points would not suffice, had the slot's office so many points more than the offices have open.
+fn check_more(held: [u32; 4], slot: Slot, points: u64) -> Result<(), Refusal>
+    requires { (at held slot.office ≤ common_points + own_points) × (points ≤ most_points) }
+    ensures { result ≡ check_more held slot.office points }
+{
+    let mut held = held;
+    held[slot.office] += points as u32;
+    if COMMON_POINTS < common_of(held) {
+        return Err(Refusal::Allowance);
+    }
+    Ok(())
 }
 
 // ---- the calls
 
-// A table of d axes and top level n with a zero border is opened under a tag. Refused with 20 for the account, 1, 2, 19, 22, 21, or 20 for the common points.
-pub fn open(account: Account, office: u32, tag: u32, axes: u32, level: u32) -> Answered
-    ensures { result ≡ open_table account office tag axes level }
+// A table of d axes and top level n with a zero border is opened under a tag, in a lent account. Refused with 20 for the account, 1, 2, 19, 22, 21, or 20 for the
+// common points.
+pub fn open_in(
+    slots: &mut [u8; 32],
+    office: u32,
+    tag: u32,
+    axes: u32,
+    level: u32,
+) -> Result<(), Refusal>
+    ensures { answered result slots.new ≡ open_table (account_of slots.old) office tag axes level }
 {
-    Answered::by(account.opened(office, tag, axes, level), account)
+    let held = check(slots)?;
+    let points = Shape::sparse(axes, level).check()?.points();
+    let slot = Slot::find(office, tag)?;
+    check_free(slots, slot)?;
+    check_more(held, slot, points)?;
+    slots[slot.place()] = (16 * axes + level) as u8;
+    Ok(())
 }
 
-// The table under a tag is closed. Refused with 20 for the account, 22 or 21.
-pub fn close(account: Account, office: u32, tag: u32) -> Answered
-    ensures { result ≡ close_table account office tag }
+// The table under a tag is closed, in a lent account. Refused with 20 for the account, 22 or 21.
+pub fn close_in(slots: &mut [u8; 32], office: u32, tag: u32) -> Result<(), Refusal>
+    ensures { answered result slots.new ≡ close_table (account_of slots.old) office tag }
 {
-    Answered::by(account.closed(office, tag), account)
+    check(slots)?;
+    let slot = Slot::find(office, tag)?;
+    check_open(slots, slot)?;
+    slots[slot.place()] = 0;
+    Ok(())
 }
 
 // The points open and the common points. Refused with 20.
-pub fn usage_of(account: Account) -> Result<Usage, Refusal>
-    ensures { result ≡ usage_of account }
+pub fn usage_in(slots: &[u8; 32]) -> Result<Usage, Refusal>
+    ensures { result ≡ usage_of (account_of slots.now) }
 {
-    let held = account.check()?.held;
+    let held = check(slots)?;
     let by_office = [
         u64::from(held[0]),
         u64::from(held[1]),
@@ -299,13 +238,62 @@ pub fn usage_of(account: Account) -> Result<Usage, Refusal>
 }
 
 // The shape that is open under a tag, if any. Refused with 20 or 22.
-pub fn table_under(account: Account, office: u32, tag: u32) -> Result<Option<Shape>, Refusal>
-    ensures { result ≡ shape_under account office tag }
+pub fn table_in(slots: &[u8; 32], office: u32, tag: u32) -> Result<Option<Shape>, Refusal>
+    ensures { result ≡ shape_under (account_of slots.now) office tag }
 {
-    account.check()?;
-    let byte = account.byte(Slot::find(office, tag)?);
+    check(slots)?;
+    let byte = slots[Slot::find(office, tag)?.place()];
     if byte == 0 {
         return Ok(None);
     }
     Ok(Some(Shape::sparse(u32::from(byte / 16), u32::from(byte % 16))))
+}
+
+// ---- the same on an account by value
+
+impl Account {
+    // Nothing is open.
+    pub fn empty() -> Account
+        ensures { result ≡ empty }
+    {
+        Account { slots: [0; 32] }
+    }
+}
+
+// Opening: the verdict, and the account with the table; refused, the one that was handed in.
+pub fn open(account: Account, office: u32, tag: u32, axes: u32, level: u32) -> Answered
+    ensures { result ≡ open_table account office tag axes level }
+{
+    let mut slots = account.slots;
+    let verdict = open_in(&mut slots, office, tag, axes, level);
+    Answered {
+        verdict,
+        account: Account { slots },
+    }
+}
+
+// Closing: the verdict, and the account without the table; refused, the one that was handed in.
+pub fn close(account: Account, office: u32, tag: u32) -> Answered
+    ensures { result ≡ close_table account office tag }
+{
+    let mut slots = account.slots;
+    let verdict = close_in(&mut slots, office, tag);
+    Answered {
+        verdict,
+        account: Account { slots },
+    }
+}
+
+// The points open and the common points. Refused with 20.
+pub fn usage_of(account: Account) -> Result<Usage, Refusal>
+    ensures { result ≡ usage_of account }
+{
+    usage_in(&account.slots)
+}
+
+// The shape that is open under a tag, if any. Refused with 20 or 22.
+pub fn table_under(account: Account, office: u32, tag: u32) -> Result<Option<Shape>, Refusal>
+    ensures { result ≡ shape_under account office tag }
+{
+    table_in(&account.slots, office, tag)
 }

@@ -13,7 +13,6 @@ use Rattle.runs.specs.Calls.{Report}
 use Rattle.estimates.specs.declared.Estimated.{Estimated}
 use Rattle.house_file.specs.Files.{AfterReading}
 use Rattle.house_writer.specs.Writing.{AfterWriting}
-use Rattle.accounts.specs.declared.Account.{Account}
 use Rattle.accounts.specs.declared.Answered.{Answered}
 use Rattle.accounts.specs.declared.Usage.{Usage}
 use Rattle.answers.specs.Returned.{Returned, told_of, leaving, done, refused}
@@ -86,10 +85,7 @@ of_named held (Err r) = refused held r
 abbrev pub of_writing : ℕ → AfterWriting → Returned (ℕ × List ℕ)
 of_writing held a = leaving (of_value held a.answer).told ((of_value held a.answer).outputs, a.out)
 
--- An account, from its bytes; and the bytes of the one that a call leaves.
-abbrev pub account_of : List ℕ → Account
-account_of bytes = record { slots = bytes }
-
+-- The account that a call leaves.
 abbrev pub of_answered : Answered → Returned (List ℕ)
 of_answered a = leaving (told_of a.verdict) a.account.slots
 

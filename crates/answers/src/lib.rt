@@ -3,9 +3,9 @@
 
 ghost use Rattle.std.specs.Prelude.{◌≡◌};
 ghost use Rattle.answers.specs.Returned.{told, told_of, returned};
-ghost use Rattle.answers.specs.Answers.{shape_of, state_of, side_of, of_value, of_point, of_located, of_estimated, of_answer, of_answered, of_usage, of_table};
+ghost use Rattle.answers.specs.Answers.{shape_of, state_of, side_of, of_value, of_point, of_located, of_estimated, of_answer, of_usage, of_table};
 
-use accounts::{Answered, Usage};
+use accounts::Usage;
 use estimates::Estimated;
 use numbering::Side;
 use points::MarkedPoint;
@@ -160,16 +160,6 @@ pub fn hand_length(answer: Result<usize, Refusal>, length: &mut u64, place: &mut
     ensures { returned result place.new length.new ≡ of_value length.old answer }
 {
     hand(answer.map(|size| size as u64), length, place)
-}
-
-// The account that a call leaves goes out with its verdict.
-pub fn hand_answered(answered: Answered, account: &mut [u8; 32], place: &mut u64) -> u32
-    ensures { returned result place.new account.new ≡ of_answered answered }
-{
-    let left = answered.account;
-    let slots = left.slots;
-    *account = slots;
-    tell(answered.verdict, place)
 }
 
 // The points open and the common points go out.
