@@ -176,9 +176,9 @@ fn check_more(held: [u32; 4], slot: Slot, points: u64) -> Result<(), Refusal>
     requires { (at held slot.office ≤ common_points + own_points) × (points ≤ most_points) }
     ensures { result ≡ check_more held slot.office points }
 {
-    let mut held = held;
-    held[slot.office] += points as u32;
-    if COMMON_POINTS < common_of(held) {
+    let mut more = held;
+    more[slot.office] += points as u32;
+    if COMMON_POINTS < common_of(more) {
         return Err(Refusal::Allowance);
     }
     Ok(())
