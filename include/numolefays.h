@@ -247,7 +247,7 @@ uint32_t numolefays_estimate_with_margin(uint32_t axes, uint32_t level, uint8_t 
 uint32_t numolefays_component_coefficients(const uint32_t *levels, size_t levels_length, int64_t *table,
                                            size_t table_length, uint64_t *place);
 
-/* ---- an account of four offices [19]: tables without border values ---- */
+/* ---- an account of four offices [20]: tables without border values ---- */
 
 /*
  * Four offices open tables under one account of 65,536 points: each has 4,096 of its own, and 49,152 are common. The

@@ -1,6 +1,6 @@
 /*
  * The four callers of the front page on one small table: 2 axes, top level 1, rates 4, 3, 5, 2, 6. Then their calls on a table
- * with values on the border.
+ * with values on the border. Last a planner's day: four offices under one account.
  */
 #include "numolefays.h"
 
@@ -256,6 +256,88 @@ static void sizes(void)
     tell("count of five axes with border values", numolefays_count(5, TOP, 1, &points, &place), &place);
 }
 
+/* One call of the planner's day. A closing has no axes and no level. */
+enum kind { OPEN, CLOSE };
+struct call {
+    enum kind kind;
+    uint32_t office, tag, axes, level;
+};
+
+static void carry_out(uint8_t account[32], const struct call *c)
+{
+    uint64_t by_office[NUMOLEFAYS_OFFICES], in_all, used, free_points, place;
+    uint32_t number;
+
+    if (c->kind == OPEN) {
+        printf("open, office %u, tag %u, axes %u, level %u: ", (unsigned)c->office, (unsigned)c->tag,
+               (unsigned)c->axes, (unsigned)c->level);
+        number = numolefays_open_table(account, c->office, c->tag, c->axes, c->level, &place);
+    } else {
+        printf("close, office %u, tag %u: ", (unsigned)c->office, (unsigned)c->tag);
+        number = numolefays_close_table(account, c->office, c->tag, &place);
+    }
+    if (number == NUMOLEFAYS_SUCCESS)
+        printf("done");
+    else
+        printf("refused with %u", (unsigned)number);
+    must("usage", numolefays_account_usage(account, by_office, &in_all, &used, &free_points, &place), &place);
+    printf("; %" PRIu64 " common points free\n", free_points);
+}
+
+static void under(const uint8_t account[32], uint32_t office, uint32_t tag)
+{
+    uint32_t axes, level, none;
+    uint64_t place;
+
+    must("table", numolefays_table_under(account, office, tag, &axes, &level, &none, &place), &place);
+    printf("office %u, tag %u: ", (unsigned)office, (unsigned)tag);
+    if (none == 1)
+        printf("free\n");
+    else
+        printf("axes %u, level %u\n", (unsigned)axes, (unsigned)level);
+}
+
+/* The planner: four offices open and close tables under one account of points. */
+static void offices(void)
+{
+    static const struct call day[] = {
+        {OPEN, 1, 0, 8, 5}, {OPEN, 2, 0, 4, 7},
+        {OPEN, 3, 0, 3, 7}, /* more common points than are free */
+        {OPEN, 3, 0, 3, 6}, {OPEN, 3, 1, 3, 5},
+        {OPEN, 3, 1, 1, 0}, /* the tag is open */
+        {OPEN, 4, 0, 2, 8},
+        {OPEN, 4, 8, 2, 8}, /* no such tag */
+        {OPEN, 5, 0, 2, 8}, /* no such office */
+        {OPEN, 4, 1, 8, 6}, /* a shape of too many points */
+        {CLOSE, 2, 3, 0, 0}, /* nothing is open there */
+        {CLOSE, 1, 0, 0, 0}, {OPEN, 3, 2, 3, 7},
+    };
+    uint8_t account[32];
+    uint64_t by_office[NUMOLEFAYS_OFFICES], in_all, used, free_points, place;
+
+    must("empty account", numolefays_empty_account(account, &place), &place);
+    for (size_t c = 0; c < sizeof day / sizeof *day; c++)
+        carry_out(account, &day[c]);
+
+    must("usage", numolefays_account_usage(account, by_office, &in_all, &used, &free_points, &place), &place);
+    printf("points open by office:");
+    for (size_t o = 0; o < NUMOLEFAYS_OFFICES; o++)
+        printf(" %" PRIu64, by_office[o]);
+    printf("; in all %" PRIu64 "\n", in_all);
+    printf("common points: %" PRIu64 " in use, %" PRIu64 " free\n", used, free_points);
+    under(account, 3, 2);
+    under(account, 1, 0);
+
+    /* a line for each office */
+    printf("account:\n");
+    for (size_t b = 0; b < sizeof account; b++)
+        printf(" %02x%s", (unsigned)account[b], b % NUMOLEFAYS_TAGS == NUMOLEFAYS_TAGS - 1 ? "\n" : "");
+
+    account[31] = 0x90; /* 9 axes */
+    tell("usage of an account with a byte 0x90",
+         numolefays_account_usage(account, by_office, &in_all, &used, &free_points, &place), &place);
+}
+
 int main(void)
 {
     struct kept k, half;
@@ -278,5 +360,7 @@ int main(void)
     reviewer(&k);
     printf("-- with values on the border\n");
     sizes();
+    printf("-- four offices\n");
+    offices();
     return 0;
 }

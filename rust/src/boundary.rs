@@ -518,23 +518,23 @@ pub fn component_coefficients(levels: &[u32], table: &mut [i64], place: &mut u64
     }
 }
 
-/// An account in which nothing is open. Section 19. Never refused.
+/// An account in which nothing is open. Section 20. Never refused.
 pub fn empty_account(account: &mut [u8; 32], place: &mut u64) -> u32 {
     unsafe { raw::numolefays_empty_account(account, place) }
 }
 
-/// An office opens a table under a tag. Section 19. Refused with 20 for the account, 1, 2, 19, 22, 21, and with 20 where the
+/// An office opens a table under a tag. Section 20. Refused with 20 for the account, 1, 2, 19, 22, 21, and with 20 where the
 /// common points would pass 49,152.
 pub fn open_table(account: &mut [u8; 32], office: u32, tag: u32, axes: u32, level: u32, place: &mut u64) -> u32 {
     unsafe { raw::numolefays_open_table(account, office, tag, axes, level, place) }
 }
 
-/// An office closes the table under a tag. Section 19. Refused with 20 for the account, 22, 21.
+/// An office closes the table under a tag. Section 20. Refused with 20 for the account, 22, 21.
 pub fn close_table(account: &mut [u8; 32], office: u32, tag: u32, place: &mut u64) -> u32 {
     unsafe { raw::numolefays_close_table(account, office, tag, place) }
 }
 
-/// The points open, by office and in all, and the common points in use and free. Section 19. Refused with 20.
+/// The points open, by office and in all, and the common points in use and free. Section 20. Refused with 20.
 pub fn account_usage(
     account: &[u8; 32],
     by_office: &mut [u64; 4],
@@ -546,7 +546,7 @@ pub fn account_usage(
     unsafe { raw::numolefays_account_usage(account, by_office, in_all, common_used, common_free, place) }
 }
 
-/// The axes and the top level of the table under a tag; `none` is 1 where nothing is open, else 0. Section 19. Refused with 20
+/// The axes and the top level of the table under a tag; `none` is 1 where nothing is open, else 0. Section 20. Refused with 20
 /// for the account, 22.
 pub fn table_under(
     account: &[u8; 32],
