@@ -28,7 +28,8 @@
  * - nobody else reads or writes it until the function returns.
  * A call with a wrong pointer or length is outside of everything that is proved.
  *
- * Threads. A function keeps no pointer and no memory of its own, so calls on different tables can run at once.
+ * Threads. A function keeps no pointer and no memory of its own, so calls on different tables and accounts can run at
+ * once.
  */
 #ifndef NUMOLEFAYS_H
 #define NUMOLEFAYS_H
@@ -71,8 +72,8 @@ enum numolefays_refusal {
     /* because of the input */
     NUMOLEFAYS_TOO_MANY_POINTS = 19, /* a shape or a component grid of more than 32,768 points */
     /* because of an account, or of what is asked of it */
-    NUMOLEFAYS_ALLOWANCE = 20,       /* an account that no calls leave; an opening would take the common points
-                                        above 49,152 */
+    NUMOLEFAYS_ALLOWANCE = 20,       /* an account that no calls leave, from an empty one on; an opening would take
+                                        the common points above 49,152 */
     NUMOLEFAYS_TAG = 21,             /* opening under an open tag, or closing one that is not open */
     NUMOLEFAYS_NO_SLOT = 22          /* office outside 1 to 4, or tag above 7 */
 };
@@ -252,8 +253,8 @@ uint32_t numolefays_component_coefficients(const uint32_t *levels, size_t levels
 /*
  * Four offices open tables under one account of 65,536 points: each has 4,096 of its own, and 49,152 are common. The
  * common points in use are the sum over the offices of what each has open above 4,096. An account holds no table: only
- * which shape each office has open under which tag. The caller keeps it and hands it in; a call that is not refused
- * changes one byte of it.
+ * which shape each office has open under which tag. The caller keeps it and hands it in; an opening or a closing that is
+ * not refused changes one byte of it.
  *
  * Its 32 bytes: that of office 1 to 4 and tag 0 to 7 is at place (office - 1) * 8 + tag. It is 0 where nothing is open,
  * else 16 * d + n. Any 32 bytes may be handed in. Those that no calls leave, from an empty account on, are refused with
@@ -279,7 +280,8 @@ uint32_t numolefays_open_table(uint8_t account[32], uint32_t office, uint32_t ta
                                uint64_t *place);
 
 /*
- * An office closes the table under one of its tags: its points are free again, its own first.
+ * An office closes the table under one of its tags. What the office had open above 4,096 is given back first: these
+ * points are common again.
  * Refused: 20 (the account), 22, 21 (the tag is not open).
  */
 uint32_t numolefays_close_table(uint8_t account[32], uint32_t office, uint32_t tag, uint64_t *place);

@@ -1,6 +1,6 @@
 /*
- * The four callers of the front page on one small table: 2 axes, top level 1, rates 4, 3, 5, 2, 6. Then their calls on a table
- * with values on the border. Last a planner's day: four offices under one account.
+ * Five callers of the front page. The first four on one small table: 2 axes, top level 1, rates 4, 3, 5, 2, 6. Then their calls on
+ * a table with values on the border. Last a planner's day: four offices under one account.
  */
 #include "numolefays.h"
 

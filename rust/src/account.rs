@@ -4,7 +4,7 @@ use crate::{boundary, Refusal, Shape};
 
 /// Which tables four offices have open, by office, 1 to 4, and tag, 0 to 7: shapes with a zero border. Each office has 4,096
 /// points of its own, and 49,152 are common. An account holds no table. Any 32 bytes make an `Account`; each call refuses with
-/// 20 those that no calls leave. docs/MANUAL.md, section 20.
+/// 20 those that no calls leave, from an empty one on. docs/MANUAL.md, section 20.
 ///
 /// ```
 /// use numolefays::{Account, Refusal, Shape};

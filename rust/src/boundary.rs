@@ -4,7 +4,8 @@
 //! number; `place` gets the refusal's place, 0 where the call succeeded. Other outputs are written only where the call
 //! succeeded; after a refusal they and every buffer hold what they held. `border` says whether the shape has values on the
 //! border: 0 is no, every other number yes. A point goes in as marks, levels and indices, and comes out so, 0 in the places
-//! past the last axis. Most callers want [`crate::Shape`] and [`crate::State`] instead.
+//! past the last axis. Most callers want [`crate::Shape`], [`crate::State`] and [`crate::Account`]
+//! instead.
 //!
 //! Why the `unsafe` blocks are sound: the library needs pointers to as many places as it is told, aligned, not null, and
 //! none that it writes overlapping another; Rust's slices and `&mut` references are that, also where a slice is empty. It

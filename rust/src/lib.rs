@@ -4,13 +4,14 @@
 //!
 //! A table is a slice of `i64`, one place for each point of its [`Shape`], in the order of the point numbers; that of a
 //! component grid is laid out by coordinate ([`component_coefficients`]). On its border the surface is zero ([`Shape::new`]) or
-//! has points and values of its own ([`Shape::with_border`]); component grids and house files have a zero border. The library
-//! allocates nothing and keeps nothing between calls: a [`State`] says which axes are forward, and whoever holds the table
-//! holds the state beside it. Calls on different tables may run at the same time in different threads. Of this crate only
-//! [`house_file`] and [`rewritten_house_file`] allocate, the `Vec` that they answer.
+//! has points and values of its own ([`Shape::with_border`]); component grids, house files and accounts have a zero border. The
+//! library allocates nothing and keeps nothing between calls: a [`State`] says which axes are forward, and whoever holds the table
+//! holds the state beside it. An [`Account`] says which tables four offices have open under one allowance of points. Calls on
+//! different tables and accounts may run at the same time in different threads. Of this crate only [`house_file`] and
+//! [`rewritten_house_file`] allocate, the `Vec` that they answer.
 //!
 //! There are no preconditions on values: whatever numbers, lists and slices a call is handed, it either succeeds or answers a
-//! [`Refusal`], and after a refusal the table, the state and every other buffer hold what they held. What C asks of its
+//! [`Refusal`], and after a refusal the table, the state, the account and every other buffer hold what they held. What C asks of its
 //! callers beside this, right pointers and lengths, Rust's slices and references are by their types.
 //!
 //! ```

@@ -47,7 +47,7 @@ pub enum Refusal {
     StillForward(u32),
     /// 19: the shape or the component grid has more than 32,768 points.
     TooManyPoints,
-    /// 20: the account is one that no calls leave, or an opening would take the common points above 49,152.
+    /// 20: the account is one that no calls leave, from an empty one on, or an opening would take the common points above 49,152.
     Allowance,
     /// 21: opening under a tag that is open, or closing one that is not.
     Tag,
@@ -176,7 +176,7 @@ impl fmt::Display for Refusal {
             Refusal::StillSampled(axis) => write!(f, "axis {axis} is not forward yet"),
             Refusal::StillForward(axis) => write!(f, "axis {axis} is still forward"),
             Refusal::TooManyPoints => write!(f, "the shape or the component grid has more than 32768 points"),
-            Refusal::Allowance => write!(f, "no calls leave this account, or too few common points are free"),
+            Refusal::Allowance => write!(f, "no calls lead to this account, or too few common points are free"),
             Refusal::Tag => write!(f, "the tag is open already, or is not open"),
             Refusal::NoSlot => write!(f, "there is no such office or tag"),
             Refusal::Unknown { place, .. } => {

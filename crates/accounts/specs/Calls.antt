@@ -16,8 +16,8 @@ use Rattle.accounts.specs.Accounts.{offices, tags, common_points, byte_of, shape
 unfoldable pub check_common : Account → Verdict
 check_common a = unless (leb (common a) common_points) Allowance
 
--- An account that some history gives, else refused with 20: each slot holds nothing or a shape that passes, and the common points suffice. (That these are the
--- accounts of histories is proved: crate histories.)
+-- An account that some history gives, else refused with 20: each slot holds nothing or a shape that passes, and the common points suffice. (That these are, of
+-- 32 slots, the accounts of histories is proved: crate histories.)
 unfoldable pub check_account : Account → Verdict
 check_account a = unless (all (office_passes a) offices) Allowance and_then check_common a
 
@@ -46,7 +46,7 @@ done a = record { verdict = Ok tt; account = a }
 abbrev pub refused : Account → Refusal → Answered
 refused a r = record { verdict = Err r; account = a }
 
--- What an opening has to pass before its points are looked at: refused with 20 for the account itself, then with 1, 2, 19, 22 or 21.
+-- What an opening has to pass before the common points that it would take are looked at: refused with 20 for the account itself, then with 1, 2, 19, 22 or 21.
 unfoldable pub check_opening : Account → ℕ → ℕ → ℕ → ℕ → Verdict
 check_opening a office tag axes level =
     check_account a and_then check_shape (sparse axes level) and_then check_slot office tag and_then check_free a (office - 1) tag

@@ -17,7 +17,7 @@ const OWN_POINTS: u32 = 4096;
 
 const COMMON_POINTS: u64 = 49152;
 
-// How many points are open in a slot, at the place of its byte: none for 0, for 16 × d + n those of the shape, and 65,535 where that is no shape which passes. This is
+// How many points a slot counts, at the place of its byte: none for 0, for 16 × d + n those of the shape, and 65,535 where that is no shape which passes. This is
 // more than the common points and an office's own together, so that the test of the common points refuses an account with such a byte too.
 const POINTS: [u16; 256] = [
     0, 65535, 65535, 65535, 65535, 65535, 65535, 65535, 65535, 65535, 65535, 65535, 65535, 65535,
@@ -74,7 +74,7 @@ struct Slot {
 // ---- slots
 
 impl Slot {
-    // That of an office and a tag as they are called. Refused with 22.
+    // That of an office, from 1, and a tag, as a caller gives them. Refused with 22.
     fn find(office: u32, tag: u32) -> Result<Slot, Refusal>
         ensures verdict { verdict result ≡ check_slot office tag }
         ensures slot { IfOk result (λ found. (found.office ≡ office - 1) × (found.tag ≡ tag)) }
@@ -96,7 +96,7 @@ impl Slot {
     }
 }
 
-// How many points are open in a slot. (The table is lent: named without `&` it would be built on the stack.)
+// How many points a slot counts: 65,535 where its byte is no shape that passes. (The table is lent: named without `&` it would be built on the stack.)
 fn weight(byte: u8) -> u32
     ensures { result ≡ weight byte }
 {
@@ -171,7 +171,7 @@ fn check_open(slots: &[u8; 32], slot: Slot) -> Result<(), Refusal>
     Ok(())
 }
 
-// Refused with 20 where the common points would not suffice, had the slot's office so many points more than the offices have open.
+// Refused with 20 where the common points would not suffice, were so many points more open for the slot's office than the offices have open now.
 fn check_more(held: [u32; 4], slot: Slot, points: u64) -> Result<(), Refusal>
     requires { (at held slot.office ≤ common_points + own_points) × (points ≤ most_points) }
     ensures { result ≡ check_more held slot.office points }

@@ -25,13 +25,16 @@ use Rattle.runs.specs.Calls.{Report, calls_of, report_of, unrun, check_lengths, 
 use Rattle.whole.specs.Whole.{rates_to_coefficients, has_rates, coefficients_to_rates}
 use Rattle.components.specs.Components.{check_component, component_coefficients}
 use Rattle.estimates.specs.declared.Estimated.{Estimated}
+use Rattle.accounts.specs.declared.Account.{Account}
+use Rattle.accounts.specs.declared.Usage.{Usage}
+use Rattle.accounts.specs.Calls as accounts
 use Rattle.house_numbers.specs.Reading.{Read, got, refused}
 use Rattle.house_file.specs.Files.{Contents, filled_with, read_contents, read_file}
 use Rattle.house_file.specs.Written.{written_file}
 use Rattle.house_writer.specs.Writing.{kept_out, check_room, filled_out, put_file, write_file}
 use Rattle.house_writer.specs.Rewriting.{form_of, written_again, rewrite_file}
 use Rattle.answers.specs.Returned.{Returned}
-use Rattle.answers.specs.Answers.{of_value, of_point, of_located, of_estimated, of_answer, of_after, of_left, of_report, of_reading, of_named, of_writing}
+use Rattle.answers.specs.Answers.{of_value, of_point, of_located, of_estimated, of_answer, of_after, of_left, of_report, of_reading, of_named, of_writing, of_answered, of_usage, of_table}
 
 -- The function answered a number other than 0, and the outputs are these.
 abbrev pub Keeps : {A : Type 0} → A → Returned A → Type 0
@@ -61,6 +64,29 @@ located_keeps held (Err r) e = refl
 pub point_of_number_keeps : (held : List ℕ × List ℕ × List ℕ) (a : Result MarkedPoint Refusal) → Keeps held (of_point held a)
 point_of_number_keeps held (Ok p) e = absurd (e refl)
 point_of_number_keeps held (Err r) e = refl
+
+pub account_usage_keeps : (held : List ℕ × ℕ × ℕ × ℕ) (a : Result Usage Refusal) → Keeps held (of_usage held a)
+account_usage_keeps held (Ok u) e = absurd (e refl)
+account_usage_keeps held (Err r) e = refl
+
+pub table_under_keeps : (held : ℕ × ℕ × ℕ) (a : Result (Option Shape) Refusal) → Keeps held (of_table held a)
+table_under_keeps held (Ok (Some s)) e = absurd (e refl)
+table_under_keeps held (Ok None) e = absurd (e refl)
+table_under_keeps held (Err r) e = refl
+
+-- ---- where the call works in an account
+
+answered_keeps : (a b : Account) (v : Verdict) → Keeps a.slots (of_answered (answer (accounts.refused a) v (accounts.done b)))
+answered_keeps a b (Ok _) e = absurd (e refl)
+answered_keeps a b (Err r) e = refl
+
+pub open_table_keeps : (a : Account) (office tag axes level : ℕ) → Keeps a.slots (of_answered (accounts.open_table a office tag axes level))
+unfolding accounts.open_table
+open_table_keeps a office tag axes level = answered_keeps a _ _
+
+pub close_table_keeps : (a : Account) (office tag : ℕ) → Keeps a.slots (of_answered (accounts.close_table a office tag))
+unfolding accounts.close_table
+close_table_keeps a office tag = answered_keeps a _ _
 
 -- ---- where the call works in a table
 

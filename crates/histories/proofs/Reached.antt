@@ -1,4 +1,4 @@
--- An account is possible exactly if some history gives it: every history leaves a possible one, and a possible one is given by opening its shapes one slot
+-- An account of 32 slots is possible exactly if some history gives it: every history leaves a possible one, and a possible one is given by opening its shapes one slot
 -- after the other, since on the way no office has more open than at the end. So the check refuses with 20 the accounts that no history gives, and only these.
 -- Assumes nothing.
 use Rattle.std.specs.Prelude.{Ok, Err}
@@ -194,7 +194,7 @@ refused_exactly a long = (
       (λ refusal. refusal),
 )
 
--- So every call on an account that no history gives is refused with 20, and leaves it.
+-- So every opening and closing on an account of 32 slots that no history gives is refused with 20, and leaves it.
 pub not_given_refused : (call : Call) (a : Account) → length a.slots ≡ 32 → (Given a → ⊥) → carried_out call a ≡ refused a Allowance
 unfolding open_table close_table check_opening
 not_given_refused (opening office tag axes level) a long none = let e = refused_exactly a long in rw (e.1 none)

@@ -34,7 +34,3 @@ result_passed (Err r) x y e = (cc, cc)
 pub result_refused : {A : Type 0} (v : Verdict) (x : A) (r : Refusal) → answer {A = Result A Refusal} Err v (Ok x) ≡ Err r → v ≡ Err r
 result_refused (Ok _) x r e = cc
 result_refused (Err q) x r e = cc
-
-pub test_refused : (t : Bool) (q r : Refusal) → unless t q ≡ Err r → (t ≡ false) × (q ≡ r)
-test_refused true q r e = (cc, cc)
-test_refused false q r e = (refl, cc)

@@ -1,2 +1,3 @@
-// The worked values of document 01 that are marked to be proved, with those of document 02, b), as one list. Definitions and one theorem, no code.
+// The worked values of document 01 that are marked to be proved, with those of document 02, b), as one list, and worked cases of later requests
+// beside it. Definitions and theorems, no code.
 #![tactic(auto)]
