@@ -172,6 +172,7 @@ fn check_open(slots: &[u8; 32], slot: Slot) -> Result<(), Refusal>
 }
 
 // Refused with 20 where the common points would not suffice, were so many points more open for the slot's office than the offices have open now.
+#[inline(always)]
 fn check_more(held: [u32; 4], slot: Slot, points: u64) -> Result<(), Refusal>
     requires { (at held slot.office ≤ common_points + own_points) × (points ≤ most_points) }
     ensures { result ≡ check_more held slot.office points }
