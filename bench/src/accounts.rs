@@ -125,101 +125,65 @@ fn same_answers(bytes: &[u8; 32]) {
     }
 }
 
-/// Every call on the account as it is.
-fn opening(account: &Account, calls: &[Call], seconds: f64) -> Vec<f64> {
-    let bytes = *account.bytes();
+/// Every call by the library and by plain code, on the account as it is.
+fn both(
+    account: &Account,
+    calls: &[Call],
+    seconds: f64,
+    library: impl Fn(&Account, Call),
+    plain: impl Fn(&[u8; 32], Call),
+) -> Vec<f64> {
     let mut all: [Contestant; 2] = [
-        Box::new(|| {
-            nanoseconds(|| {
-                for call in calls {
-                    let mut copy = black_box(*account);
-                    let [office, tag, axes, level] = black_box(*call);
-                    let _ = black_box(copy.open(office, tag, axes, level));
-                    black_box(&copy);
-                }
-            })
-        }),
-        Box::new(|| {
-            nanoseconds(|| {
-                for call in calls {
-                    let mut copy = black_box(bytes);
-                    let [office, tag, axes, level] = black_box(*call);
-                    let _ = black_box(plain::open(&mut copy, office, tag, axes, level));
-                    black_box(&copy);
-                }
-            })
-        }),
+        Box::new(|| nanoseconds(|| calls.iter().for_each(|call| library(black_box(account), black_box(*call))))),
+        Box::new(|| nanoseconds(|| calls.iter().for_each(|call| plain(black_box(account.bytes()), black_box(*call))))),
     ];
     contest(&mut all, seconds, 25)
+}
+
+/// A call on a copy of the account, which is seen afterwards.
+fn on_copy<A: Copy, T>(account: &A, call: impl Fn(&mut A) -> T) {
+    let mut copy = *account;
+    let _ = black_box(call(&mut copy));
+    black_box(&copy);
+}
+
+fn opening(account: &Account, calls: &[Call], seconds: f64) -> Vec<f64> {
+    both(
+        account,
+        calls,
+        seconds,
+        |account, [office, tag, axes, level]| on_copy(account, |copy| copy.open(office, tag, axes, level)),
+        |bytes, [office, tag, axes, level]| on_copy(bytes, |copy| plain::open(copy, office, tag, axes, level)),
+    )
 }
 
 fn closing(account: &Account, calls: &[Call], seconds: f64) -> Vec<f64> {
-    let bytes = *account.bytes();
-    let mut all: [Contestant; 2] = [
-        Box::new(|| {
-            nanoseconds(|| {
-                for call in calls {
-                    let mut copy = black_box(*account);
-                    let [office, tag, ..] = black_box(*call);
-                    let _ = black_box(copy.close(office, tag));
-                    black_box(&copy);
-                }
-            })
-        }),
-        Box::new(|| {
-            nanoseconds(|| {
-                for call in calls {
-                    let mut copy = black_box(bytes);
-                    let [office, tag, ..] = black_box(*call);
-                    let _ = black_box(plain::close(&mut copy, office, tag));
-                    black_box(&copy);
-                }
-            })
-        }),
-    ];
-    contest(&mut all, seconds, 25)
+    both(
+        account,
+        calls,
+        seconds,
+        |account, [office, tag, ..]| on_copy(account, |copy| copy.close(office, tag)),
+        |bytes, [office, tag, ..]| on_copy(bytes, |copy| plain::close(copy, office, tag)),
+    )
 }
 
 fn under(account: &Account, calls: &[Call], seconds: f64) -> Vec<f64> {
-    let bytes = *account.bytes();
-    let mut all: [Contestant; 2] = [
-        Box::new(|| {
-            nanoseconds(|| {
-                for call in calls {
-                    let [office, tag, ..] = black_box(*call);
-                    let _ = black_box(black_box(account).table_under(office, tag));
-                }
-            })
-        }),
-        Box::new(|| {
-            nanoseconds(|| {
-                for call in calls {
-                    let [office, tag, ..] = black_box(*call);
-                    let _ = black_box(plain::table_under(black_box(&bytes), office, tag));
-                }
-            })
-        }),
-    ];
-    contest(&mut all, seconds, 25)
+    both(
+        account,
+        calls,
+        seconds,
+        |account, [office, tag, ..]| _ = black_box(account.table_under(office, tag)),
+        |bytes, [office, tag, ..]| _ = black_box(plain::table_under(bytes, office, tag)),
+    )
 }
 
 fn usage(account: &Account, seconds: f64) -> Vec<f64> {
-    let bytes = *account.bytes();
-    let mut all: [Contestant; 2] = [
-        Box::new(|| {
-            nanoseconds(|| {
-                for _ in 0..SAMPLE {
-                    let _ = black_box(black_box(account).usage());
-                }
-            })
-        }),
-        Box::new(|| {
-            nanoseconds(|| {
-                for _ in 0..SAMPLE {
-                    let _ = black_box(plain::usage(black_box(&bytes)));
-                }
-            })
-        }),
-    ];
-    contest(&mut all, seconds, 25)
+    let calls = [Call::default(); SAMPLE];
+    both(
+        account,
+        &calls,
+        seconds,
+        |account, _| _ = black_box(account.usage()),
+        |bytes, _| _ = black_box(plain::usage(bytes)),
+    )
 }

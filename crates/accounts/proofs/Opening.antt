@@ -1,7 +1,8 @@
 -- What the offices have open tells the points open and the common points in use; an office of an account that passes has at most 53,248 points open. Once a table is
--- opened in a free slot its office has the table's points more, so the test of the common points may be made before.
+-- opened in a free slot its office has the table's points more, so the test of the common points can be reckoned before.
 -- Assumes nothing.
 use Rattle.std.specs.Prelude.{Ok}
+use Rattle.std.specs.Result.{result_and}
 use mathlib.Core.Path.{◌≡◌, ap}
 use Prim.Native.Nat.{ℕ, ◌+◌, ◌≤◌, ◌<◌}
 use native.Mathlib.Omega.{arith}
@@ -11,7 +12,8 @@ use borrow.Author.Tests.{eqb-true}
 use Rattle.naturals.proofs.Cases.{eq_or_not}
 use Rattle.naturals.proofs.Sums.{sum_to_zero, sum_to_suc, sum_to_cong, term_le}
 use Rattle.refusals.specs.declared.Refusal.TheVariants.{Tag}
-use Rattle.refusals.proofs.Passing.{test_passed}
+use Rattle.refusals.specs.Checks.{◌and_then◌}
+use Rattle.refusals.proofs.Passing.{passed_or_refused, test_passed}
 use Rattle.numbering.specs.Point.{at}
 use Rattle.shapes.specs.Shapes.{sparse, points_of, check_shape}
 use Rattle.accounts.specs.declared.Account.{Account}
@@ -35,7 +37,7 @@ module _ (a : Account) where
       let one = term_le (above a) offices o inside in omega (arith, h, one, at_office (held a) o inside)
 
 -- What a passed test of a slot tells.
-pub free_told : (a : Account) (o tag : ℕ) → check_free a o tag ≡ Ok tt → under a o tag ≡ 0
+free_told : (a : Account) (o tag : ℕ) → check_free a o tag ≡ Ok tt → under a o tag ≡ 0
 unfolding check_free
 free_told a o tag e = eqb-true (under a o tag) 0 (test_passed (is_free (under a o tag)) Tag e)
 
@@ -73,6 +75,14 @@ module _ (a : Account) (o tag axes level : ℕ) (long : length a.slots ≡ 32) (
           held_other a o tag (byte_of axes level) tagged u ne,
         )))
 
-    pub more_opened : check_more (held_by a) o (points_of (sparse axes level)) ≡ check_common next
+    more_opened : check_more (held_by a) o (points_of (sparse axes level)) ≡ check_common next
     unfolding check_more check_common
     more_opened = rw common_opened
+
+  -- The last two checks of an opening: nothing is open under the tag, and then the common points suffice.
+  pub last_checks : check_shape (sparse axes level) ≡ Ok tt →
+      result_and (check_free a o tag) (check_more (held_by a) o (points_of (sparse axes level))) ≡ check_free a o tag and_then check_common next
+  last_checks passes =
+      passed_or_refused (check_free a o tag)
+      (λ passed. rw passed (more_opened (free_told a o tag passed) passes))
+      (λ r e. rw e)

@@ -201,8 +201,7 @@ pub fn open_in(
     let held = check(slots)?;
     let points = Shape::sparse(axes, level).check()?.points();
     let slot = Slot::find(office, tag)?;
-    check_free(slots, slot)?;
-    check_more(held, slot, points)?;
+    check_free(slots, slot).and(check_more(held, slot, points))?;
     slots[slot.place()] = (16 * axes + level) as u8;
     Ok(())
 }

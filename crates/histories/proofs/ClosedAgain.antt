@@ -2,13 +2,12 @@
 -- Assumes nothing.
 use Rattle.std.specs.Prelude.{Ok}
 use mathlib.Core.Path.{◌≡◌, ap, sym, ◌∙◌}
-use mathlib.Core.List.{List}
 use Prim.Native.Nat.{ℕ, ◌-◌}
 use lib.ListN.{length, set}
 use lib.Seq.{set-set, set-get_or}
 use borrow.Author.Tests.{ne_eqb}
 use Rattle.accounts.specs.declared.Account.{Account}
-use Rattle.accounts.specs.Accounts.{byte_of, slot}
+use Rattle.accounts.specs.Accounts.{account_of, byte_of, slot}
 use Rattle.accounts.specs.Calls.{check_open, opened, closed, done, open_table, close_table}
 use Rattle.accounts.proofs.Bytes.{taken}
 use Rattle.accounts.proofs.Slots.{put_same}
@@ -20,9 +19,6 @@ emptied : (a : Account) (office tag axes level : ℕ) → Ready a office tag axe
 emptied a office tag axes level r =
     let k = slot (office - 1) tag in
     ap account_of (set-set a.slots k (byte_of axes level) 0 ∙ ap (set a.slots k) (sym r.free) ∙ set-get_or a.slots k 0)
-  where
-    account_of : List ℕ → Account
-    account_of slots = record { slots = slots }
 
 pub closed_again : (a : Account) (office tag axes level : ℕ) → length a.slots ≡ 32 → (open_table a office tag axes level).verdict ≡ Ok tt →
     close_table (open_table a office tag axes level).account office tag ≡ done a

@@ -22,7 +22,7 @@ use Rattle.refusals.proofs.Results.{refused_done}
 use Rattle.numbering.specs.Point.{at}
 use Rattle.shapes.specs.Shapes.{check_shape}
 use Rattle.accounts.specs.declared.Account.{Account}
-use Rattle.accounts.specs.Accounts.{offices, tags, common_points, shape_in, slot, under, common, office_passes, empty, put}
+use Rattle.accounts.specs.Accounts.{account_of, offices, tags, common_points, shape_in, slot, under, common, office_passes, empty, put}
 use Rattle.accounts.specs.Calls.{check_common, check_account, check_free, refused, check_opening, open_table, close_table}
 use Rattle.histories.specs.Histories.{Call, opening, closing, carried_out, run, history, Given}
 use Rattle.accounts.proofs.Bytes.{byte_back}
@@ -167,9 +167,6 @@ passing_given a long passes =
     let each = λ (j : ℕ) (j_in : j < length begun.so_far.slots). begun.partly.same j (omega (arith, kept.long)) in
     let same = ext_get_or 0 begun.so_far.slots a.slots (kept.long ∙ sym long) each in
     subst Given (ap account_of same) begun.given
-  where
-    account_of : List ℕ → Account
-    account_of slots = record { slots = slots }
 
 -- ---- what is refused
 
