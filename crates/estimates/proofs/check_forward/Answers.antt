@@ -9,7 +9,7 @@ use Rattle.estimates.proofs.check_forward.Goals as goal
 
 pub overflow_add-result : goal.overflow_add-result
 overflow_add-result c =
-    let found = some_first false c.args.checked.state c.in-Some.first (sym c.first_axis.ensures ∙ c.in-Some.is) in
+    let found = some_first _ c.args.checked.state c.in-Some.first (sym c.first_axis.ensures ∙ c.in-Some.is) in
     record { fits = omega arith }
 
 pub returns-in-Some : goal.returns-in-Some

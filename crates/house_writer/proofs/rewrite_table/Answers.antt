@@ -5,4 +5,4 @@ use Rattle.house_file.proofs.Accepting.{table_fitted}
 use Rattle.house_writer.proofs.rewrite_table.Goals as goal
 
 pub put_file-requires : goal.put_file-requires
-put_file-requires c = let a = c.args in (table_fitted a.places a.shape a.rest.now _ _ (sym c.in_ok-rates.ensures)).shaped
+put_file-requires c = let a = c.args in (table_fitted _ a.shape a.rest.now _ _ (sym c.in_ok-rates.ensures)).shaped

@@ -9,7 +9,7 @@ use Rattle.tables.proofs.check_sampled.Goals as goal
 
 pub overflow_add-result : goal.overflow_add-result
 overflow_add-result c =
-    let found = some_first true c.args.checked.state c.in-Some.first (sym c.first_axis.ensures ∙ c.in-Some.is) in
+    let found = some_first _ c.args.checked.state c.in-Some.first (sym c.first_axis.ensures ∙ c.in-Some.is) in
     record { fits = omega arith }
 
 pub returns-in-Some : goal.returns-in-Some
