@@ -5,9 +5,6 @@ use house_file::deciding_bytes;
 use refusals::Refusal;
 use reports::LINE;
 use shapes::MOST_POINTS;
-use streams::{print, read_stdin};
-
-const NAME: &str = "rewrite";
 
 // As many as a table may have points.
 const PLACES: usize = MOST_POINTS as usize;
@@ -25,15 +22,22 @@ fn refuse(rt: &HostRuntime, why: Refusal) {
     let _ = rt.stderr().write_all(&line[..count]);
 }
 
+fn print(rt: &HostRuntime, form: &[u8]) {
+    if rt.write_all(form).is_err() {
+        let _ = eprintln!(rt; "rewrite: standard output could not be written");
+    }
+}
+
 // What is said of a failure, and that the exit status is 0, are the program's own: an `Err` from `main` would say and give others.
 fn main(rt: HostRuntime) {
     let mut bytes = [0u8; BYTES];
-    let Some(length) = read_stdin(&rt, NAME, &mut bytes) else {
+    let Ok(length) = streams::read_input(&mut rt.stdin(), &mut bytes) else {
+        let _ = eprintln!(rt; "rewrite: standard input could not be read");
         return;
     };
     let mut out = [0u8; MOST];
     match house_writer::rewrite(&bytes[..length], PLACES, &mut out) {
         Err(why) => refuse(&rt, why),
-        Ok(size) => print(&rt, NAME, &out[..size]),
+        Ok(size) => print(&rt, &out[..size]),
     }
 }

@@ -1,7 +1,7 @@
-// What a reader gives, as standard input, read to its end or until a buffer is full; and what a program says where reading or printing fails.
+// What a reader gives, as standard input, read to its end or until a buffer is full.
 #![tactic(auto)]
 
-ghost use Rattle.std.specs.Prelude.{◌≤◌, ◌<◌, length, take, IfOk, IfSome};
+ghost use Rattle.std.specs.Prelude.{◌<◌, length, take, IfOk};
 ghost use Rattle.std.specs.Io.KnownBytes.{Consumes, IsAtEnd};
 ghost use Rattle.io.specs.Counts.{IsPrefixLen};
 ghost use Rattle.streams.specs.Streams.{came};
@@ -31,22 +31,4 @@ pub fn read_input<R: Read>(from: &mut R, bytes: &mut [u8]) -> Result<usize, Unre
         }
     }
     Ok(length)
-}
-
-// The same of standard input; where a read failed, the program of that name says so.
-pub fn read_stdin(rt: &HostRuntime, name: &str, bytes: &mut [u8]) -> Option<usize>
-    ensures { IfSome result (λ n. n ≤ length bytes.new) }
-{
-    let came = read_input(&mut rt.stdin(), bytes);
-    if came.is_err() {
-        let _ = eprintln!(rt; "{name}: standard input could not be read");
-    }
-    came.ok()
-}
-
-// Prints some bytes; where that fails, the program of that name says so.
-pub fn print(rt: &HostRuntime, name: &str, bytes: &[u8]) {
-    if rt.write_all(bytes).is_err() {
-        let _ = eprintln!(rt; "{name}: standard output could not be written");
-    }
 }
