@@ -52,7 +52,7 @@ struct Numbers {
 }
 
 // Where the next number goes, that number so far, and all places.
-#[derive(Drop)]
+#[derive(Clone, Copy)]
 pub struct Desk {
     at: usize,
     number: u64,
