@@ -12,3 +12,4 @@ pub mod OnFaces
 pub mod Answers
 pub mod RoundTrips
 pub mod Ordered
+pub mod Cut

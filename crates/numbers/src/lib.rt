@@ -52,7 +52,7 @@ fn position_at(vector: &LevelVector, indices: &[u32; 8]) -> u64
 }
 
 // The number of the first point of a level vector whose sum is at most 8.
-fn first_of(vector: &LevelVector) -> u64
+fn first_in(vector: &LevelVector) -> u64
     requires { vector.now.sum ≤ 8 }
     ensures { result ≡ first_of vector.now.axes (at vector.now.levels) }
 {
@@ -61,13 +61,22 @@ fn first_of(vector: &LevelVector) -> u64
     rows.start(vector.axes, vector.sum) + (rank << vector.sum)
 }
 
+// The number of the first point of a level vector of these axes, whose levels sum to at most 8. (Whatever stands past the axes.)
+pub fn first_of(axes: u32, levels: [u32; 8]) -> u64
+    requires { (1 ≤ axes) × (axes ≤ 8) × (sum_to (at levels) axes ≤ 8) }
+    ensures { result ≡ first_of axes (at levels) }
+{
+    let inside = points::padded(&levels[..axes as usize]);
+    first_in(&LevelVector::of(axes, inside))
+}
+
 // The number of a point of these axes, whose levels sum to at most 8.
 fn number_at(axes: u32, p: Point) -> u64
     requires { (1 ≤ axes) × (axes ≤ 8) × PointIn axes 8 p.levels p.indices }
     ensures { result ≡ number axes (at p.levels) (at p.indices) }
 {
     let vector = LevelVector::of(axes, p.levels);
-    first_of(&vector) + position_at(&vector, &p.indices)
+    first_in(&vector) + position_at(&vector, &p.indices)
 }
 
 // ---- from point to number, with values on the border

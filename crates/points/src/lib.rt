@@ -3,7 +3,7 @@
 
 ghost use Rattle.std.specs.Prelude.{◌≡◌, ◌≤◌, IfOk};
 ghost use Rattle.numbering.specs.Point.{at, is_index};
-ghost use Rattle.points.specs.Points.{mark_fits, eight, check_lists, bare_point, point_in, point_from};
+ghost use Rattle.points.specs.Points.{mark_fits, eight, check_lists, check_point, bare_point, point_in, point_from};
 
 use refusals::Refusal;
 use shapes::{CheckedShape, Shape};
@@ -53,9 +53,56 @@ fn mark_fits(border: bool, mark: u32, level: u32, index: u32) -> bool
     index == 1
 }
 
-// A point of a checked shape that is handed in as three lists: whether it is refused, with 7 or 9, and beside it, where it is not, its levels and indices by value. One
-// walk along the axes tests and takes them. No sum is formed of levels that were not tested. (By index, into two arrays, since past a zip with `iter_mut` nothing is
-// known of what it wrote. Side by side, and compiled into the callers: inside a `Result` the point is taken apart and put together again.)
+// A point of a checked shape that is handed in as three lists: whether it is refused, with 7 or 9; where it is not, its levels and indices are in the two lent arrays.
+// One walk along the axes tests and takes them. No sum is formed of levels that were not tested. (By index, into two arrays, since past a zip with `iter_mut` nothing
+// is known of what it wrote. Lent, so that who steps the point on does so in place: an array that is copied right after a write to one of its numbers waits for it.)
+#[inline(always)]
+pub fn read_into(
+    checked: CheckedShape,
+    marks: &[u32],
+    levels: &[u32],
+    indices: &[u32],
+    point_levels: &mut [u32; 8],
+    point_indices: &mut [u32; 8],
+) -> Result<(), Refusal>
+    ensures verdict { result ≡ check_lists checked.shape marks.now levels.now indices.now }
+    ensures levels { IfOk result (λ passed. point_levels.new ≡ eight (at levels.now)) }
+    ensures indices { IfOk result (λ passed. point_indices.new ≡ eight (at indices.now)) }
+{
+    let axes = checked.shape.axes as usize;
+    *point_levels = [0; 8];
+    *point_indices = [0; 8];
+    if marks.len() != axes {
+        return Err(Refusal::ListLength);
+    }
+    if levels.len() != axes {
+        return Err(Refusal::ListLength);
+    }
+    if indices.len() != axes {
+        return Err(Refusal::ListLength);
+    }
+    let mut left = checked.shape.level;
+    for t in 0..axes {
+        let level = levels[t];
+        let index = indices[t];
+        if left < level {
+            return Err(Refusal::NoPoint);
+        }
+        if !is_index(level, index) {
+            return Err(Refusal::NoPoint);
+        }
+        if !mark_fits(checked.shape.border, marks[t], level, index) {
+            return Err(Refusal::NoPoint);
+        }
+        point_levels[t] = level;
+        point_indices[t] = index;
+        left -= level;
+    }
+    Ok(())
+}
+
+// The same, and beside the verdict, where it passes, the levels and indices by value. (Side by side, and compiled into the callers: inside a `Result` the point is taken
+// apart and put together again.)
 #[inline(always)]
 pub fn read(
     checked: CheckedShape,
@@ -65,38 +112,19 @@ pub fn read(
 ) -> (Result<(), Refusal>, Point)
     ensures { (result.0 ≡ check_lists checked.shape marks.now levels.now indices.now) × IfOk result.0 (λ passed. result.1 ≡ bare_point (at levels.now) (at indices.now)) }
 {
-    let axes = checked.shape.axes as usize;
     let mut p = Point {
         levels: [0; 8],
         indices: [0; 8],
     };
-    if marks.len() != axes {
-        return (Err(Refusal::ListLength), p);
-    }
-    if levels.len() != axes {
-        return (Err(Refusal::ListLength), p);
-    }
-    if indices.len() != axes {
-        return (Err(Refusal::ListLength), p);
-    }
-    let mut left = checked.shape.level;
-    for t in 0..axes {
-        let level = levels[t];
-        let index = indices[t];
-        if left < level {
-            return (Err(Refusal::NoPoint), p);
-        }
-        if !is_index(level, index) {
-            return (Err(Refusal::NoPoint), p);
-        }
-        if !mark_fits(checked.shape.border, marks[t], level, index) {
-            return (Err(Refusal::NoPoint), p);
-        }
-        p.levels[t] = level;
-        p.indices[t] = index;
-        left -= level;
-    }
-    (Ok(()), p)
+    let verdict = read_into(
+        checked,
+        marks,
+        levels,
+        indices,
+        &mut p.levels,
+        &mut p.indices,
+    );
+    (verdict, p)
 }
 
 // The same, the point in the answer.
@@ -127,6 +155,29 @@ pub fn point_from(
     ensures { result ≡ point_from shape marks.now levels.now indices.now }
 {
     point_in(shape.check()?, marks, levels, indices)
+}
+
+// Whether a point that is handed in as three lists is refused, and beside it, also where it is, the first eight numbers of the levels and of the indices.
+#[tactic(auto, unfolding(crate::specs::Points::point_from))]
+pub fn given(
+    shape: Shape,
+    marks: &[u32],
+    levels: &[u32],
+    indices: &[u32],
+) -> (Result<(), Refusal>, Point)
+    ensures { (result.0 ≡ check_point shape marks.now levels.now indices.now) × (result.1 ≡ bare_point (at levels.now) (at indices.now)) }
+{
+    let verdict = match point_from(shape, marks, levels, indices) {
+        Err(why) => Err(why),
+        Ok(_) => Ok(()),
+    };
+    (
+        verdict,
+        Point {
+            levels: padded(levels),
+            indices: padded(indices),
+        },
+    )
 }
 
 // What a list holds at a place, and 0 past its end.

@@ -48,6 +48,14 @@ impl State {
         }
     }
 
+    // The first axis whose bit is the one looked for, counted from 0.
+    pub fn first_axis(self, bit: bool) -> Option<u32>
+        requires { self.shape.axes ≤ 8 }
+        ensures { result ≡ found_axis bit self }
+    {
+        (0..self.shape.axes).find(|&t| self.has_axis(t) == bit)
+    }
+
     // Refused with 14.
     fn check_bits(self) -> Result<(), Refusal>
         requires { self.shape.axes ≤ 8 }
@@ -73,11 +81,10 @@ impl State {
 }
 
 impl CheckedState {
-    // The first axis whose bit is the one looked for, counted from 0.
+    // The same of its state.
     pub fn first_axis(self, bit: bool) -> Option<u32>
         ensures { result ≡ found_axis bit self.state }
     {
-        let state = self.state;
-        (0..state.shape.axes).find(|&t| state.has_axis(t) == bit)
+        self.state.first_axis(bit)
     }
 }

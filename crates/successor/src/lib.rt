@@ -32,24 +32,28 @@ fn next_indices(axes: usize, levels: &[u32; 8], indices: &mut [u32; 8]) -> bool
     true
 }
 
-// The next point of a sparse table of these axes and top level, or none past the last. (With its marks, none of them set, and inlined, with the other sort of table
-// out of line: else the answer is copied right after a write, and the call takes twice as long.)
+// The next point of a sparse table of these axes and top level, or none past the last; the indices are stepped in place. (With its marks, none of them set, and inlined,
+// with the other sort of table out of line: else the answer is copied right after a write, and the call takes twice as long.)
 #[inline(always)]
-fn next_point(axes: u32, level: u32, p: Point) -> Option<MarkedPoint>
-    requires { (1 ≤ axes) × (axes ≤ 8) × (level ≤ 8) × PointIn axes level p.levels p.indices }
-    ensures { result ≡ unmarked_next (next_inner axes level (number axes (at p.levels) (at p.indices))) }
+fn next_point(
+    axes: u32,
+    level: u32,
+    levels: &[u32; 8],
+    indices: &mut [u32; 8],
+) -> Option<MarkedPoint>
+    requires { (1 ≤ axes) × (axes ≤ 8) × (level ≤ 8) × PointIn axes level levels.now indices.old }
+    ensures { result ≡ unmarked_next (next_inner axes level (number axes (at levels.now) (at indices.old))) }
 {
-    let mut indices = p.indices;
-    if !next_indices(axes as usize, &p.levels, &mut indices) {
+    if !next_indices(axes as usize, levels, indices) {
         return Some(MarkedPoint {
             marks: [0; 8],
             point: Point {
-                levels: p.levels,
-                indices,
+                levels: *levels,
+                indices: *indices,
             },
         });
     }
-    let mut vector = LevelVector::of(axes, p.levels);
+    let mut vector = LevelVector::of(axes, *levels);
     vector.next();
     if level < vector.sum {
         return None;
@@ -58,7 +62,7 @@ fn next_point(axes: u32, level: u32, p: Point) -> Option<MarkedPoint>
         marks: [0; 8],
         point: Point {
             levels: vector.levels,
-            indices,
+            indices: *indices,
         },
     })
 }
@@ -73,7 +77,9 @@ fn next_within(axes: u32, level: u32, p: Point) -> Option<MarkedPoint>
     if axes == 0 {
         return None;
     }
-    next_point(axes, level, p)
+    let levels = p.levels;
+    let mut indices = p.indices;
+    next_point(axes, level, &levels, &mut indices)
 }
 
 // The first point of the face after that of this number, which is the last of its face, or the end. (By the number, since it happens once a face.)
@@ -133,7 +139,15 @@ pub fn successor(
         return successor_on_faces(shape, marks, levels, indices);
     }
     let checked = shape.check()?;
-    let (verdict, p) = points::read(checked, marks, levels, indices);
-    verdict?;
-    Ok(next_point(shape.axes, shape.level, p))
+    let mut point_levels = [0; 8];
+    let mut point_indices = [0; 8];
+    points::read_into(
+        checked,
+        marks,
+        levels,
+        indices,
+        &mut point_levels,
+        &mut point_indices,
+    )?;
+    Ok(next_point(shape.axes, shape.level, &point_levels, &mut point_indices))
 }

@@ -1,4 +1,4 @@
-// Level vectors (document 01: level lists), eight levels: their sum, their order, and the next and the one before, in place.
+// Level vectors (document 01: level lists), eight levels: their sum, their order, the next (in place and by value) and the one before (in place).
 #![tactic(auto)]
 
 ghost use Rattle.std.specs.Prelude.{ℕ, suc, ◌≡◌, ◌^◌, ◌≤◌, ◌<◌, length};
@@ -133,4 +133,18 @@ impl LevelVector {
             self.levels[axes - 1] = self.sum;
         }
     }
+}
+
+// The next level vector by value.
+pub fn next_vector(axes: usize, sum: u32, levels: [u32; 8]) -> LevelVector
+    requires { (1 ≤ axes) × (axes ≤ 8) × (sum ≤ 8) × VectorIn axes sum levels }
+    ensures { NextVector axes sum levels result.sum result.levels }
+{
+    let mut vector = LevelVector {
+        axes: axes as u32,
+        sum,
+        levels,
+    };
+    vector.next();
+    vector
 }

@@ -12,6 +12,21 @@ use surfaces::BITS;
 // Half of the unit.
 const HALF: u64 = 1 << (BITS - 1);
 
+// A coefficient is its high part times the unit, plus its low part. The sums of the parts times weights fit 64 bits each.
+pub fn add_high(high: i64, c: i64, joint: u64) -> i64
+    requires { (nat_abs high ≤ 2 ^ 62) × (in_limit c ≡ true) × (joint ≤ unit) }
+    ensures { result ≡ high +ℤ floor unit c *ℤ pos joint }
+{
+    high + (c >> BITS) * joint as i64
+}
+
+pub fn add_low(low: u64, c: i64, joint: u64) -> u64
+    requires { (low ≤ 2 ^ 62) × (joint ≤ unit) }
+    ensures { result ≡ low + remainder unit c * joint }
+{
+    low + (c & ((1 << BITS) - 1)) as u64 * joint
+}
+
 // The sum is `high` times the unit, plus `low`. What the type leaves of 64 bits is enough for the last division.
 #[derive(Clone, Copy)]
 pub struct Sum {
@@ -30,14 +45,14 @@ impl Sum {
         Sum { high: 0, low: 0 }
     }
 
-    // A coefficient times a weight more. A coefficient is its high part times the unit, plus its low part. The sums of the parts times weights fit 64 bits each.
+    // A coefficient times a weight more.
     pub fn add(&mut self, c: i64, joint: u64)
         requires { (nat_abs self.old.high ≤ 2 ^ 62) × (self.old.low ≤ 2 ^ 62) × (in_limit c ≡ true) × (joint ≤ unit) }
         ensures high { self.new.high ≡ self.old.high +ℤ floor unit c *ℤ pos joint }
         ensures low { self.new.low ≡ self.old.low + remainder unit c * joint }
     {
-        self.high += (c >> BITS) * joint as i64;
-        self.low += (c & ((1 << BITS) - 1)) as u64 * joint;
+        self.high = add_high(self.high, c, joint);
+        self.low = add_low(self.low, c, joint);
     }
 
     // With a part of the unit more, divided by the unit and rounded down.

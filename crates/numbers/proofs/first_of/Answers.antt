@@ -1,31 +1,31 @@
--- `numbers::first_of` meets its contract: the first number of the level sum and the shifted rank sum to it, and it is below 2^32.
+-- `numbers::first_of` meets its contract: cut to the axes, the levels are those of a level vector with the same sum and the same first number.
 -- Assumes nothing.
-use mathlib.Core.Path.{◌≡◌, sym}
-use Prim.Native.Nat.{◌+◌, ◌*◌, ◌%◌, ◌^◌, ◌≤◌}
+use mathlib.Core.Path.{◌≡◌, ◌∙◌}
 use native.Mathlib.Omega.{arith}
 use Rattle.naturals.specs.Sum.{sum_to}
 use Rattle.numbering.specs.Point.{at}
-use Rattle.numbering.specs.Number.{first_of}
-use Rattle.numbers.proofs.Parts.{first_small, first_of_parts}
-use Rattle.numbers.proofs.first_of.Goals.{After-start}
+use Rattle.numbers.proofs.Cut.{cut_past, cut_sum, cut_first}
 use Rattle.numbers.proofs.first_of.Goals as goal
 
-few : (c : After-start) → let v = c.args.vector.now in sum_to (at v.levels) v.axes ≤ 8
-few c = omega (arith, c.requires, c.args.vector.now.vector.total)
+pub of-requires : goal.of-requires
+of-requires c =
+    let a = c.args in
+    let high = c.requires.1 in (
+      c.requires.0,
+      high,
+      rw c.padded-inside.ensures (omega (arith, cut_sum a.axes a.levels high, c.requires.2)),
+      rw c.padded-inside.ensures (cut_past a.axes a.levels high),
+    )
 
--- the sum that the code forms is the first number
-whole : (c : After-start) →
-    let v = c.args.vector.now in
-    c.start.result + c.vector_rank-rank.result * 2 ^ v.sum % 2 ^ 64 ≡ first_of v.axes (at v.levels)
-whole c =
-    let v = c.args.vector.now in
-    first_of_parts v.axes (at v.levels) v.some v.few (few c) c.start.ensures (sym v.vector.total) c.vector_rank-rank.ensures
-
-pub overflow_add-result : goal.overflow_add-result
-overflow_add-result c =
-    let v = c.args.vector.now in
-    let rank = (goal.at.overflow_add-result c).After-start in
-    omega (arith, whole rank, first_small v.axes (at v.levels) v.some v.few (few rank))
+pub first_in-requires : goal.first_in-requires
+first_in-requires c =
+    let a = c.args in
+    let v = c.of.result in
+    let sum : sum_to (at v.levels) v.axes ≡ sum_to (at a.levels) a.axes =
+    rw (c.of.ensures.0, c.of.ensures.1, c.padded-inside.ensures) (cut_sum a.axes a.levels c.requires.1) in
+    omega (arith, v.vector.total, sum, c.requires.2)
 
 pub returns : goal.returns
-returns c = whole (goal.at.returns c).After-start
+returns c =
+    let a = c.args in
+    rw (c.of.ensures.0, c.of.ensures.1, c.padded-inside.ensures) at c.first_in.ensures ∙ cut_first a.axes a.levels c.requires.1

@@ -14,13 +14,13 @@ of-vector-requires c = (c.requires.0, c.requires.1, c.requires.2.point.sum, c.re
 
 -- the sum that the code forms is the number
 whole : (c : After-position_at) →
-    c.first_of.result + c.position_at.result
+    c.first_in.result + c.position_at.result
     ≡ number
     c.args.axes
     (at c.args.p.levels)
     (at c.args.p.indices)
 whole c =
-    let first = rw (c.of-vector.ensures.0, c.of-vector.ensures.1) at c.first_of.ensures in
+    let first = rw (c.of-vector.ensures.0, c.of-vector.ensures.1) at c.first_in.ensures in
     let position = rw (c.of-vector.ensures.0, c.of-vector.ensures.1) at c.position_at.ensures in
     number_of_parts _ _ _ first position
 
