@@ -47,6 +47,16 @@ pub value_keeps : {A : Type 0} (held : A) (a : Result A Refusal) → Keeps held 
 value_keeps held (Ok x) e = absurd (e refl)
 value_keeps held (Err r) e = refl
 
+-- The three that are values, each by its name.
+pub count_keeps : (held : ℕ) (a : Result ℕ Refusal) → Keeps held (of_value held a)
+count_keeps held a = value_keeps held a
+
+pub number_of_point_keeps : (held : ℕ) (a : Result ℕ Refusal) → Keeps held (of_value held a)
+number_of_point_keeps held a = value_keeps held a
+
+pub estimate_keeps : (held : ℤ) (a : Result ℤ Refusal) → Keeps held (of_value held a)
+estimate_keeps held a = value_keeps held a
+
 pub adopt_keeps : (held : ℕ) (a : Result State Refusal) → Keeps held (of_answer held a)
 adopt_keeps held (Ok s) e = absurd (e refl)
 adopt_keeps held (Err r) e = refl

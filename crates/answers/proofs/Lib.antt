@@ -1,3 +1,4 @@
+pub mod Handing
 pub mod Kept
 pub mod Zero
 pub mod Flag

@@ -39,7 +39,12 @@ module _ (tops k : ℕ → ℕ) where
       )
 
 module _ (tops : ℕ → ℕ) where
-  centre_suc : (t : ℕ) → centre (suc t) tops ≡ centre t tops + (2 ^ tops t - 1) * points_to tops t
+  -- The middle point of the whole grid, axis by axis.
+  pub centre_zero : centre 0 tops ≡ 0
+  unfolding centre
+  centre_zero = half_span_zero tops tops
+
+  pub centre_suc : (t : ℕ) → centre (suc t) tops ≡ centre t tops + (2 ^ tops t - 1) * points_to tops t
   unfolding centre
   centre_suc t = half_span_suc tops tops t
 

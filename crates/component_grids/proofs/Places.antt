@@ -214,6 +214,10 @@ module _ (d : ℕ) (tops : ℕ → ℕ) where
 
   -- ---- the places from an axis on
 
+  -- Positions of the same quotient by the points of the axes before have the same places.
+  pub low_digits : (k p q : ℕ) → k ≤ d → p / points_to tops k ≡ q / points_to tops k → (t : ℕ) → k ≤ t → t < d → place_at tops p t ≡ place_at tops q t
+  low_digits k p q le e t from axis = same_place tops t p q (same_quotient tops k t p q from e)
+
   module _ (p q : ℕ) (hp : p < points_to tops d) (hq : q < points_to tops d) where
     -- Downwards from the last axis.
     from_last : (j k : ℕ) → k + j ≡ d → ((t : ℕ) → k ≤ t → t < d → place_at tops p t ≡ place_at tops q t) →

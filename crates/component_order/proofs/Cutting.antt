@@ -75,11 +75,11 @@ module _ (b : GridBox) (more : 1 < across (at b.levels (widest (at b.levels) b.g
 
   -- The levels.
   module _ (long : length ls ≡ 8) where
-    middle_set : at (set ls r 0) ≡ middle_of (at ls) r
+    pub middle_set : at (set ls r 0) ≡ middle_of (at ls) r
     unfolding middle_of
     middle_set = at_set ls r 0 (omega (arith, small))
 
-    half_set : at (set ls r (at ls r - 1)) ≡ half_of (at ls) r
+    pub half_set : at (set ls r (at ls r - 1)) ≡ half_of (at ls) r
     unfolding half_of
     half_set = at_set ls r (at ls r - 1) (omega (arith, small))
 

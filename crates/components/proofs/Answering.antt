@@ -1,11 +1,13 @@
 -- What the call answers and leaves, step by step as the code goes: what the check refuses is refused; and accepted rates, each times 2 to the number of axes, are a
 -- loaded table, in which work in the order leaves the coefficients, since it leaves what whole-axis sweeps do.
 -- Assumes nothing.
+use Rattle.std.specs.Prelude.{Err}
 use mathlib.Core.Path.{◌≡◌, ap, ap₂, sym, subst, ◌∙◌, fun_ext}
 use mathlib.Core.List.{List, map}
 use Prim.Native.Nat.{ℕ, ◌^◌}
 use lib.IntN.{ℤ, pos, zero-*ℤ}
 use lib.ListN.{length, length-map}
+use Rattle.refusals.specs.declared.Refusal.{Refusal}
 use Rattle.hierarchy.specs.Turns.{value_at, values_of}
 use Rattle.hierarchy.specs.Sets.{scaled}
 use Rattle.hierarchy.specs.Work.{all_worked}
@@ -17,12 +19,18 @@ use Rattle.component_boxes.proofs.Leaves.{order_leaves}
 use Rattle.component_sweeps.specs.declared.grid.Layout.{Layout}
 use Rattle.component_sweeps.specs.Steps.{tops_of}
 use Rattle.component_order.specs.InOrder.{Loaded, worked_in, in_order}
+use Rattle.states.specs.After.{left}
 use Rattle.tables.specs.Tables.{times}
-use Rattle.components.specs.Components.{tops_in, grid_points, component_table}
+use Rattle.components.specs.Components.{tops_in, grid_points, component_table, check_component, component_coefficients}
 use Rattle.components.specs.Steps.{LaidOut}
 use Rattle.components.specs.Accepted.{AcceptedOn}
 use Rattle.components.proofs.Checked.{LevelsIn, levels_passed, grid_levels}
 use Rattle.components.proofs.Stages.{rates_small}
+
+-- What the check refuses, the call does: it leaves the list as it was.
+pub component_refused : (ls : List ℕ) (xs : List ℤ) (r : Refusal) → check_component ls xs ≡ Err r → left (Err r) xs ≡ component_coefficients ls xs
+unfolding component_coefficients
+component_refused ls xs r e = rw e
 
 -- A rate times 2^d at each place.
 loaded_at : (d : ℕ) (xs : List ℤ) (p : ℕ) → value_at (map (times d) xs) p ≡ scaled d (value_at xs) p

@@ -1,8 +1,8 @@
--- What the checks of an estimate tell where they pass: all that the sum asks. And where they pass, the estimate is the answer.
+-- What the checks of an estimate tell where they pass: all that the sum asks. And where they pass, the estimate is the answer; where one refuses, it is that refusal.
 -- Assumes nothing.
-use Rattle.std.specs.Prelude.{Ok}
+use Rattle.std.specs.Prelude.{Ok, Err}
 use mathlib.Core.Path.{◌≡◌}
-use mathlib.Core.Bool.{true}
+use mathlib.Core.Bool.{true, false}
 use mathlib.Core.List.{List}
 use Prim.Native.Nat.{ℕ, suc, ◌≤◌, ◌<◌}
 use native.Mathlib.Omega.{arith}
@@ -13,6 +13,7 @@ use borrow.Author.Tests.{leb-true, eqb-true}
 use Rattle.naturals.specs.Test.{all}
 use Rattle.naturals.proofs.Tests.{all_at}
 use Rattle.naturals.proofs.FirstFailing.{none_first}
+use Rattle.refusals.specs.declared.Refusal.{Refusal}
 use Rattle.refusals.specs.declared.Refusal.TheVariants.{ListLength, Coordinate, Contents}
 use Rattle.refusals.specs.Checks.{unless, ◌and_then◌, Verdict}
 use Rattle.refusals.proofs.Passing.{first_passed, next_passed, test_passed}
@@ -104,3 +105,25 @@ pub estimate_answered : (s : State) (xs : List ℤ) (cs : List ℕ) → check_st
     estimate s xs cs ≡ Ok (estimate_at s.shape (value_at xs) (at cs))
 unfolding estimate_in_unit check_estimate
 estimate_answered s xs cs e f g h = rw (e, f, g, h)
+
+-- What the first check that refuses refuses, the estimate does: a state,
+pub unchecked : (s : State) (xs : List ℤ) (cs : List ℕ) (r : Refusal) → check_state s (length xs) ≡ Err r → estimate s xs cs ≡ Err r
+unfolding estimate_in_unit check_estimate
+unchecked s xs cs r e = rw e
+
+module _ (s : State) (xs : List ℤ) (cs : List ℕ) (e : check_state s (length xs) ≡ Ok tt) where
+  -- an axis that is not forward,
+  pub half_turned : (r : Refusal) → check_forward s ≡ Err r → estimate s xs cs ≡ Err r
+  unfolding estimate_in_unit check_estimate
+  half_turned r f = rw (e, f)
+
+  module _ (f : check_forward s ≡ Ok tt) where
+    -- a list of coordinates or a place outside of the grid,
+    pub outside : (r : Refusal) → check_coordinates unit s.shape.axes cs ≡ Err r → estimate s xs cs ≡ Err r
+    unfolding estimate_in_unit check_estimate
+    outside r g = rw (e, f, g)
+
+    -- and contents over the limit.
+    pub past_limit : check_coordinates unit s.shape.axes cs ≡ Ok tt → all (content_at xs) (length xs) ≡ false → estimate s xs cs ≡ Err Contents
+    unfolding estimate_in_unit check_estimate
+    past_limit g h = rw (e, f, g, h)

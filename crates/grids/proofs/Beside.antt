@@ -60,6 +60,11 @@ module _ (s : Shape) (t : ℕ) (b : Side) (p : ℕ) where
       pub parent_there : is_border (level_on s p t) numerator_on ≡ false → PointOf s (mark_on s p) parent_levels parent_indices
       parent_there = numbered_points.parent_there (numbering s) t b p h axis inner
 
+      -- A neighbour that there is with a zero border lies off the border.
+      pub off_border : (numbered s).border ≡ false → (neighbour s t b (suc p) ≡ 0 → ⊥) → is_border (level_on s p t) numerator_on ≡ false
+      unfolding neighbour
+      off_border = numbered_points.off_border (numbered s) t b p h axis inner
+
       -- Nothing lies beside a point inside only where the neighbour's coordinate is 0 or 1.
       pub border_at : neighbour s t b (suc p) ≡ 0 → (numerator_on ≡ 0) ⊎ (numerator_on ≡ 2 ^ suc (level_on s p t))
       unfolding neighbour

@@ -2,13 +2,15 @@
 -- Assumes nothing.
 use mathlib.Core.Path.{◌≡◌, refl, sym, ap, ◌∙◌}
 use mathlib.Core.List.{List}
-use Prim.Native.Nat.{ℕ}
+use Prim.Native.Nat.{ℕ, ◌≤◌}
 use lib.Dec.{leb}
 use Rattle.std.specs.Prelude.{Result, Ok, Err}
 use lib.IntN.{ℤ}
+use borrow.Author.Tests.{leb-true}
 use Rattle.refusals.specs.declared.Refusal.{Refusal}
 use Rattle.refusals.specs.declared.Refusal.TheVariants.{TableLength}
 use Rattle.refusals.specs.Checks.{unless, ◌and_then◌, Verdict}
+use Rattle.refusals.proofs.Passing.{first_passed, next_passed, test_passed}
 use Rattle.shapes.specs.declared.Shape.{Shape}
 use Rattle.shapes.specs.Shapes.{check_shape, points_of}
 use Rattle.house_numbers.specs.Reading.{Read, got, refused, ◌next◌, ◌then_read◌}
@@ -38,6 +40,21 @@ module _ (bytes : List ℕ) where
   pub head_first : (places : ℕ) → read_contents places bytes ≡ read_head bytes next read_table places
   unfolding read_contents
   head_first places = refl
+
+-- What the checks of the shape and of the places tell where they pass.
+pub record Fitting (s : Shape) (places : ℕ) : Type 0 where
+  pub shape : check_shape s ≡ Ok tt
+  pub room : points_of s ≤ places
+
+pub places_passed : (s : Shape) (places : ℕ) → check_places s places ≡ Ok tt → Fitting s places
+unfolding check_places
+places_passed s places e =
+    let n = points_of s in
+    let room = unless (leb n places) TableLength in
+    record {
+      shape = first_passed (check_shape s) room e;
+      room = leb-true n places (test_passed (leb n places) TableLength (next_passed (check_shape s) room e));
+    }
 
 module _ (places : ℕ) (s : Shape) (rest : List ℕ) where
   in_a_row : (a b : Verdict) (x : Read Contents) → a then_read (b then_read x) ≡ (a and_then b) then_read x

@@ -103,6 +103,25 @@ fewest_file places bytes byte c rest e =
     let row = append_assoc (written c.shape.axes) (written c.shape.level) (written_rates c.rates) in
     omega (arith, file.few, ap length row)
 
+-- A number takes at least one byte.
+some_byte : (n : ℕ) → 1 ≤ length (written n)
+unfolding written
+some_byte n =
+    le_or_lt 128 n
+    (λ large. omega (arith, ap length (more_groups 4 n large)))
+    (λ small. omega (arith, ap length (last_group 4 n small)))
+
+-- A head takes at least two bytes.
+pub head_two : (bytes : List ℕ) → Bytes bytes → (s : Shape) (rest : List ℕ) → read_head bytes ≡ got s rest → 2 + length rest ≤ length bytes
+head_two bytes byte s rest e =
+    omega (
+      arith,
+      (head_takes bytes byte s rest e).few,
+      length-append (written s.axes) (written s.level),
+      some_byte s.axes,
+      some_byte s.level,
+    )
+
 -- ---- how many bytes at most
 
 groups_most : (k n : ℕ) → length (fewest k n) ≤ k
@@ -117,7 +136,7 @@ pub one_byte : (n : ℕ) → n ≤ 8 → length (written n) ≡ 1
 unfolding written
 one_byte n h = ap length (last_group 4 n (omega arith))
 
-number_most : (n : ℕ) → length (written n) ≤ 5
+pub number_most : (n : ℕ) → length (written n) ≤ 5
 unfolding written
 number_most n = groups_most 5 n
 

@@ -93,24 +93,29 @@ module _ (bytes : List ℕ) (byte : (i : ℕ) → get_or bytes i 0 < 256) (close
       let i : ℕ → ℕ = λ (k : ℕ). get_or bytes k 0 in
       omega (arith, fit a b (omega (arith, c, ap i two)) (omega (arith, d, ap i three)), ap i four)
 
-  module _ (fit : NoneLarge bytes) where
-    number : (at : ℕ) → at < length bytes → Taken bytes 4 at
-    number at there = takes 4 at there (capped at (fit.at at))
+  -- From an index on: the rows before it may be of any kind.
+  module _ (from : ℕ) (fit : (k : ℕ) → from ≤ k → NotLargeAt bytes k) where
+    number_from : (at : ℕ) → from ≤ at → at < length bytes → Taken bytes 4 at
+    number_from at h there = takes 4 at there (capped at (fit at h))
 
-    number_read : (at : ℕ) (t : Taken bytes 4 at) → read_number (drop at bytes) ≡ got t.value (drop t.after bytes)
+    number_from_read : (at : ℕ) (t : Taken bytes 4 at) → read_number (drop at bytes) ≡ got t.value (drop t.after bytes)
     unfolding read_number limited largest
-    number_read at t = rw (t.reads, le-leb t.value 4294967295 (omega (arith, t.small)))
+    number_from_read at t = rw (t.reads, le-leb t.value 4294967295 (omega (arith, t.small)))
 
-    pub all_pass : (m at : ℕ) → ends (drop at bytes) ≡ m → checked_rates (read_rates m (drop at bytes)) ≡ Ok tt
-    all_pass zero at none =
+    pub all_pass_from : (m at : ℕ) → from ≤ at → ends (drop at bytes) ≡ m → checked_rates (read_rates m (drop at bytes)) ≡ Ok tt
+    all_pass_from zero at h none =
         le_or_lt (length bytes) at
         (λ past. none_left (checked_starts (drop at bytes) 0) (omega arith) (omega (arith, length-drop at bytes)))
-        (λ there. absurd (omega (arith, none, (number at there).fewer)))
-    all_pass (suc m) at some =
+        (λ there. absurd (omega (arith, none, (number_from at h there).fewer)))
+    all_pass_from (suc m) at h some =
         le_or_lt (length bytes) at
         (λ past. absurd (omega (arith, some, ends_past bytes at past)))
         (λ there.
-        let t = number at there in
-        ap checked_rates (one_more m (drop at bytes) (number_read at t))
+        let t = number_from at h there in
+        ap checked_rates (one_more m (drop at bytes) (number_from_read at t))
         ∙ checked_after (read_rates m (drop t.after bytes)) (rate_of t.value)
-        ∙ all_pass m t.after (omega (arith, some, t.fewer)))
+        ∙ all_pass_from m t.after (omega (arith, t.past)) (omega (arith, some, t.fewer)))
+
+  -- Where no row is of a number that is too long or too large.
+  pub all_pass : (fit : NoneLarge bytes) (m at : ℕ) → ends (drop at bytes) ≡ m → checked_rates (read_rates m (drop at bytes)) ≡ Ok tt
+  all_pass fit m at e = all_pass_from 0 (λ k h. fit.at k) m at (omega arith) e

@@ -55,3 +55,12 @@ module _ (a b : ℤ) (ha : in_limit a ≡ true) (hb : in_limit b ≡ true) where
 
   pub sum_fits : SFits w64 (a +ℤ b)
   sum_fits = small_fits (a +ℤ b) (omega (arith, sum_small))
+
+  -- So does half the sum, and a third value less it.
+  pub half_fits : SFits w64 (half (a +ℤ b))
+  half_fits = small_fits (half (a +ℤ b)) (omega (arith, half_size (a +ℤ b), sum_small))
+
+  pub less_fits : (v : ℤ) → in_limit v ≡ true → SFits w64 (v -ℤ half (a +ℤ b))
+  less_fits v hv =
+      small_fits (v -ℤ half (a +ℤ b))
+      (omega (arith, difference_size v (half (a +ℤ b)), half_size (a +ℤ b), sum_small, limit_size v hv))

@@ -6,7 +6,7 @@ use mathlib.Core.Logic.{inl, inr, ⊎_elim}
 use mathlib.Core.Bool.{Bool}
 use mathlib.Core.List.{List}
 use Prim.Native.Nat.{ℕ, suc, ◌+◌, ◌*◌, ◌^◌, ◌≤◌, ◌<◌}
-use native.Mathlib.Nat.{suc_inj}
+use native.Mathlib.Nat.{suc_inj, add-zero, zero-add}
 use native.Mathlib.Numerals.{add-one}
 use native.Mathlib.Omega.{arith}
 use Rattle.std.specs.Prelude.{Option, Some, None}
@@ -110,6 +110,14 @@ module _ {ahead : Bool} {x : ℕ} {sum : ℕ → ℤ} {xs : List ℤ} where
     pair_read w a b from_a from_b h =
         ap₂ (λ (v u : ℤ). to_z w64 (of_z w64 (v +ℤ u))) (source_read w a from_a h) (source_read w b from_b h)
         ∙ sum_is (value_in xs a i) (value_in xs b i) (from_a.room i h) (from_b.room i h)
+
+-- A run of one point.
+pub run_of_one : {ahead : Bool} {x : ℕ} {s : ℤ} {xs : List ℤ} (v : ℤ) → x < length xs → v ≡ stepped ahead (value_at xs (suc x)) s →
+    RunStepped ahead x 1 (λ i. s) xs (odd_of s) (set xs x v)
+run_of_one {ahead} {x} {s} {xs} v inside step =
+    let one : RunStepped ahead x 1 (λ i. s) xs (0 + odd_of s) (set xs (x + 0) v)
+    = run_steps run_starts (odd_of s) v (omega (arith, inside)) refl (rw add-zero step) in
+    rw (zero-add, add-zero) at one
 
 -- The sums of a run by another name.
 pub same_run : {ahead : Bool} {x w k : ℕ} {sum other : ℕ → ℤ} {xs ys : List ℤ} → ((i : ℕ) → i < w → sum i ≡ other i) → RunStepped ahead x w sum xs k ys →

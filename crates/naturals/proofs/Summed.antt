@@ -1,6 +1,6 @@
 -- A running sum: after t turns it is the sum of the first t terms, which is at most the whole.
 -- Assumes nothing.
-use mathlib.Core.Path.{◌≡◌, sym}
+use mathlib.Core.Path.{◌≡◌, sym, ap, ◌∙◌}
 use Prim.Native.Nat.{ℕ, zero, suc, ◌+◌, ◌*◌, ◌≤◌, ◌<◌}
 use native.Mathlib.Numerals.{add-one}
 use native.Mathlib.Omega.{arith}
@@ -25,6 +25,12 @@ module _ {f : ℕ → ℕ} {d t sum : ℕ} (summed : Summed f d t sum) where
 
   pub summed_fits : t < d → sum + f t ≤ sum_to f d
   summed_fits h = omega (arith, summed.total, sum_to_suc f t, sum_to_mono f (suc t) d h)
+
+  -- at the end it is the whole
+  pub summed_ends : d ≤ t → sum ≡ sum_to f d
+  summed_ends h =
+      let last : t ≡ d = omega (arith, summed.place) in
+      summed.total ∙ ap (sum_to f) last
 
 -- A sum of m terms below b is at most m times b.
 pub sum_bound : (f : ℕ → ℕ) (b m : ℕ) → ((t : ℕ) → f t < b) → sum_to f m ≤ b * m

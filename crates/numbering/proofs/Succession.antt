@@ -4,16 +4,17 @@
 -- Assumes nothing.
 use mathlib.Core.Path.{◌≡◌, ap, sym}
 use Prim.Native.Nat.{ℕ, zero, suc, ◌-◌, ◌*◌, ◌/◌, ◌^◌, ◌≤◌, ◌<◌}
-use native.Mathlib.Nat.{zero-mul, mul_comm, mul-suc}
+use native.Mathlib.Nat.{zero-mul, mul_comm, mul-suc, mul-zero}
 use native.Mathlib.Omega.{arith}
 use Rattle.naturals.specs.Sum.{sum_to}
 use Rattle.naturals.proofs.Cases.{eq_or_not}
 use Rattle.naturals.proofs.Sums.{sum_to_zero, sum_to_suc}
-use Rattle.numbering.specs.Count.{vectors}
-use Rattle.numbering.specs.Number.{ending, rank, position}
+use Rattle.numbering.specs.Count.{vectors, start}
+use Rattle.numbering.specs.Number.{ending, rank, position, number}
 use Rattle.numbering.proofs.Vectors.{pascal, vectors_zero, vectors_one}
 use Rattle.numbering.proofs.Rank.{rank_zero, rank_suc, rank_step}
 use Rattle.numbering.proofs.Position.{half, position_zero, position_suc, pow_sum}
+use Rattle.numbering.proofs.Numbering.{number_is, start_suc}
 
 -- ---- positions
 
@@ -195,3 +196,22 @@ next_sum {d} {k} {l} {m} s = next_sum_to d k l m s d s.axis (omega arith)
 
 pub next_rank : {d k : ℕ} {l m : ℕ → ℕ} → NextLevels d k l m → rank m d ≡ suc (rank l d)
 next_rank {d} {k} {l} {m} s = next_rank_to d k l m s d s.axis (omega arith)
+
+-- ---- numbers
+
+-- The last point of a level sum: one below the first of the next.
+pub number_last : (d : ℕ) (l i : ℕ → ℕ) → suc (rank l d) ≡ vectors d (sum_to l d) → suc (position l i d) ≡ 2 ^ sum_to l d →
+    suc (number d l i) ≡ start d (suc (sum_to l d))
+number_last d l i last_rank last =
+    omega (
+      arith,
+      number_is d l i,
+      start_suc d (sum_to l d),
+      ap (λ (r : ℕ). 2 ^ sum_to l d * r) (sym last_rank),
+      mul-suc (2 ^ sum_to l d) (rank l d),
+    )
+
+-- The first point of a level sum.
+pub number_first : (d : ℕ) (l i : ℕ → ℕ) → rank l d ≡ 0 → position l i d ≡ 0 → number d l i ≡ start d (sum_to l d)
+number_first d l i first_rank first =
+    omega (arith, number_is d l i, ap (λ (r : ℕ). 2 ^ sum_to l d * r) first_rank, mul-zero (2 ^ sum_to l d))

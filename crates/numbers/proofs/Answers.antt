@@ -4,9 +4,10 @@
 use Rattle.std.specs.Prelude.{Ok, Err}
 use mathlib.Core.Path.{◌≡◌, refl}
 use mathlib.Core.List.{List}
-use Prim.Native.Nat.{ℕ, ◌<◌}
-use borrow.Author.Tests.{lt-ltb}
+use Prim.Native.Nat.{ℕ, ◌≤◌, ◌<◌}
+use borrow.Author.Tests.{lt-ltb, le-ltb}
 use Rattle.refusals.specs.declared.Refusal.{Refusal}
+use Rattle.refusals.specs.declared.Refusal.TheVariants.{PointNumber}
 use Rattle.refusals.proofs.Passing.{result_passed}
 use Rattle.numbering.specs.Point.{at}
 use Rattle.shapes.specs.declared.Shape.{Shape}
@@ -27,6 +28,15 @@ module _ (s : Shape) (p : ℕ) where
   pub shape_refused : (r : Refusal) → check_shape s ≡ Err r → point_of_number s p ≡ Err r
   unfolding point_of_number
   shape_refused r e = rw e
+
+  -- Of an accepted shape: from the count on the number is refused, below it the point is answered.
+  pub number_refused : check_shape s ≡ Ok tt → points_of s ≤ p → point_of_number s p ≡ Err PointNumber
+  unfolding point_of_number
+  number_refused e h = rw (e, le-ltb p (points_of s) h)
+
+  pub number_found : check_shape s ≡ Ok tt → p < points_of s → point_of_number s p ≡ Ok (point_at s p)
+  unfolding point_of_number
+  number_found e h = rw (e, lt-ltb p (points_of s) h)
 
   -- The point by the sort of the shape.
   pub point_plain : s.border ≡ false → point_of unmarked (level_at s.axes s.level p) (index_at s.axes s.level p) ≡ point_at s p

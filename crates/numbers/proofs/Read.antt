@@ -8,12 +8,13 @@ use native.Mathlib.Omega.{arith}
 use lib.ListN.{length}
 use Rattle.naturals.specs.Sum.{sum_to}
 use Rattle.naturals.proofs.Cases.{le_or_lt}
+use Rattle.naturals.proofs.Sums.{sum_to_cong}
 use Rattle.numbering.specs.Count.{vectors, shell, points}
 use Rattle.numbering.specs.Point.{at}
 use Rattle.numbering.specs.Inverse.{sum_at, within, level_of, level_at, index_of, index_at}
 use Rattle.numbering.proofs.Block.{block_le}
 use Rattle.numbering.proofs.Unrank.{level_past, sum_of_level}
-use Rattle.numbering.proofs.Numbering.{rank_within, index_in, index_cong, index_zero}
+use Rattle.numbering.proofs.Numbering.{rank_within, index_in, index_cong, index_zero, point_of_number_lem}
 use Rattle.points.specs.Points.{eight, bare_point}
 use Rattle.points.proofs.Eight.{eight_length, eight_at, eight_whole, eight_cong}
 use Rattle.vectors.specs.Steps.{VectorIn}
@@ -56,6 +57,11 @@ sum_few d n p = block_le (shell d) n p
 module _ (d n p : ℕ) (high : d ≤ 8) (lt : p < points d n) {levels : List ℕ} (made : levels ≡ eight (level_at d n p)) where
   level_at_lem : (t : ℕ) → t < 8 → at levels t ≡ level_at d n p t
   level_at_lem t h = rw made (eight_at (level_at d n p) t h)
+
+  -- The levels add up to at most the top level.
+  pub levels_few : sum_to (at levels) d ≤ n
+  levels_few =
+      omega (arith, sum_to_cong (at levels) (level_at d n p) d (λ t h. level_at_lem t (omega arith)), (point_of_number_lem d n p lt).sum)
 
   module _ (q : ℕ) (low : q ≡ within d n p % 2 ^ sum_at d n p) where
     index_found : (t : ℕ) → t < 8 → indices_of d (at levels) q t ≡ index_at d n p t

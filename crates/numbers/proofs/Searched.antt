@@ -21,7 +21,7 @@ searched_starts f m r h =
     record { place = omega arith; inside = h; rest = omega (arith, sum_to_zero f) }
 
 module _ {f : ℕ → ℕ} {m r j left size : ℕ} (searched : Searched f m r j left) (is : size ≡ f j) where
-  searched_before : size ≤ left → j < m
+  pub searched_before : size ≤ left → j < m
   searched_before h =
       le_or_lt m j
       (λ past. omega (arith, searched.rest, searched.inside, sum_to_suc f j, sum_to_mono f (suc m) (suc j) (omega arith)))

@@ -1,7 +1,8 @@
 -- The numerator of a neighbour as the code reads it. The two tests are those of the border; within the borders the 32 bits hold the numerator, so their
 -- trailing zeros are its factors of two, of which there are no more than the level.
 -- Assumes nothing.
-use mathlib.Core.Path.{◌≡◌, ap}
+use mathlib.Core.Bool.{true}
+use mathlib.Core.Path.{◌≡◌, ap, sym, ◌∙◌}
 use Prim.Native.Nat.{ℕ, suc, ◌-◌, ◌*◌, ◌/◌, ◌%◌, ◌^◌, ◌≤◌}
 use native.Mathlib.Omega.{arith}
 use lib.Count.{count_trailing_zeros}
@@ -10,8 +11,11 @@ use lib.Pow.{pow_mono}
 use borrow.Author.Tests.{ne_eqb}
 use Rattle.numbering.specs.Parent.{is_border, twos, parent_level, parent_index}
 use Rattle.numbering.proofs.Twos.{twos_are}
-use Rattle.numbering.proofs.Parents.{Inside, twos_le}
+use Rattle.numbering.proofs.Parents.{border_low, Inside, twos_le}
 use Rattle.points.proofs.PointTest.{shifted}
+
+pub at_zero : (l m : ℕ) → m ≡ 0 → true ≡ is_border l m
+at_zero l m e = sym (ap (is_border l) e ∙ border_low l)
 
 pub past_zero : (l m : ℕ) → l ≤ 8 → (m ≡ 0 → ⊥) → eqb m (2 * 2 ^ l % 2 ^ 32) ≡ is_border l m
 unfolding is_border

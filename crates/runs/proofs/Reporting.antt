@@ -6,19 +6,25 @@ use Rattle.refusals.specs.Checks.{Verdict}
 use Rattle.refusals.specs.declared.Refusal.{Refusal}
 use mathlib.Core.Path.{◌≡◌, refl, ap, ap₂, sym, ◌∙◌}
 use mathlib.Core.List.{List, [], ◌∷◌, ◌++◌, map, append-nil, map-append}
-use Prim.Native.Nat.{ℕ, suc, ◌+◌, ◌≤◌, ◌<◌}
+use Prim.Native.Nat.{ℕ, zero, suc, ◌+◌, ◌≤◌, ◌<◌}
 use native.Mathlib.Numerals.{add-one}
 use native.Mathlib.Omega.{arith}
 use lib.IntN.{ℤ}
-use lib.ListN.{length, get_or, take, drop, set, length-append, length-map}
+use lib.ListN.{length, get_or, take, drop, set, length-append, length-map, length-drop}
 use lib.Seq.{take-suc, take-length, drop-length, drop-cons, length-take-le, append_snoc, set_at}
 use Rattle.hierarchy.specs.declared.Turn.{Turn}
+use Rattle.hierarchy.specs.declared.Turn.TheVariants.{Back}
 use Rattle.states.specs.declared.State.{State}
 use Rattle.states.specs.After.{after}
 use Rattle.states.specs.States.{check_state}
 use Rattle.runs.specs.Runs.{carried_out, handed_on, verdict_of, Ran, run}
 use Rattle.runs.specs.Calls.{turn_of, calls_of, number_in, place_in, report, report_of, run_calls}
 use Rattle.runs.proofs.Appending.{run_snoc, calls_append, Matched, matched_runs}
+
+-- Each direction but 0 is back.
+pub back_turn_lem : (direction axis : ℕ) → (direction ≡ 0 → ⊥) → turn_of direction axis ≡ Back axis
+back_turn_lem zero axis ne = absurd (ne refl)
+back_turn_lem (suc k) axis ne = refl
 
 -- The first i calls.
 abbrev pub calls_to : List ℕ → List ℕ → ℕ → List Turn
@@ -53,6 +59,9 @@ answers_long (call ∷ calls) s xs =
 module _ (f : Verdict → ℕ) where
   abbrev pub answered : List Verdict → List ℕ → List ℕ
   answered answers ns = map f answers ++ drop (length answers) ns
+
+  answered_long : (answers : List Verdict) (ns : List ℕ) → length answers ≤ length ns → length (answered answers ns) ≡ length ns
+  answered_long answers ns h = simp (length-append, length-map, length-drop) (omega arith)
 
   answered_all : (answers : List Verdict) (ns : List ℕ) → length answers ≡ length ns → answered answers ns ≡ map f answers
   answered_all answers ns e = rw (e, drop-length, append-nil)
@@ -89,6 +98,13 @@ module _ (s : State) (xs : List ℤ) (directions axes ns ps : List ℕ) where
         ∙ calls_long (take i directions) (take i axes)
         (length-take-le i axes (omega (arith, r.matched.axes_long, r.within)) ∙ sym (length-take-le i directions r.within))
         ∙ length-take-le i directions r.within
+
+    -- The lists of the answers stay as long.
+    pub numbers_kept : length numbers ≡ length ns
+    numbers_kept = ap length r.numbered ∙ answered_long number_in (ran_to i).answers ns (omega (arith, count_is, r.within, r.matched.numbers_long))
+
+    pub places_kept : length places ≡ length ps
+    places_kept = ap length r.placed ∙ answered_long place_in (ran_to i).answers ps (omega (arith, count_is, r.within, r.matched.places_long))
 
     pub reporting_ends : length directions ≤ i → report (Ok reached) table numbers places ≡ run_calls s xs directions axes ns ps
     reporting_ends h =

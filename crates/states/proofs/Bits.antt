@@ -1,4 +1,4 @@
--- One byte as a set of axes: a bit is tested by shift and mask, and changed by exclusive or, and the other bits stay. True since the
+-- One byte as a set of axes: a bit is tested by shift and mask, set by or and changed by exclusive or, and the other bits stay. True since the
 -- bit of weight 2^t is the parity of the byte over 2^t.
 -- Assumes nothing.
 use mathlib.Core.Path.{◌≡◌, ap, sym, ◌∙◌}
@@ -7,9 +7,9 @@ use Prim.Native.Nat.{ℕ, zero, suc, ◌+◌, ◌-◌, ◌*◌, ◌/◌, ◌%◌
 use native.Mathlib.Nat.{one-mul, zero-mul, pow-suc, add-mul-div_right, add-div_right, mod-eq_of_lt, div-eq_of_lt, sub-add_cancel, div-lt_iff_lt-mul, div-add-mod', mod-lt, mul-le-mul_right, add-mul, zero-div}
 use native.Mathlib.Numerals.{one-add}
 use native.Mathlib.Omega.{arith}
-use lib.Bits.{bit_and, bit_xor, and_mask, and_high, xor_add_and}
+use lib.Bits.{bit_and, bit_or, bit_xor, and_mask, and_high, or_add_and, xor_add_and}
 use lib.Dec.{eqb}
-use lib.Pow.{pow_pos, pow-add, mod-pow-add, shr-shr, ones_split, ones_lt, high}
+use lib.Pow.{pow_pos, pow_mono, pow-add, mod-pow-add, shr-shr, ones_split, ones_lt, high}
 use borrow.Author.Tests.{eq-eqb, ne_eqb, eqb-true, eqb-false}
 use Rattle.naturals.proofs.Cases.{eq_or_not, le_or_lt, true_or_false}
 use Rattle.states.specs.declared.State.{State}
@@ -34,6 +34,16 @@ mask_bit n t =
     let e : 2 ^ (1 + t) - 2 ^ t ≡ 2 ^ t = omega (arith, pow-add 2 1 t) in
     ap (bit_and n) (sym e) ∙ and_high n 1 t
 
+pub or_sets : (n t : ℕ) → has n t ≡ false → bit_or n (2 ^ t) ≡ n + 2 ^ t
+or_sets n t e =
+    omega (
+      arith,
+      or_add_and n (2 ^ t),
+      mask_bit n t,
+      ap (λ (x : ℕ). x * 2 ^ t) (clear_bit n t e),
+      zero-mul (2 ^ t),
+    )
+
 xor_sets : (n t : ℕ) → has n t ≡ false → bit_xor n (2 ^ t) ≡ n + 2 ^ t
 xor_sets n t e =
     omega (
@@ -44,7 +54,7 @@ xor_sets n t e =
       zero-mul (2 ^ t),
     )
 
-xor_clears : (n t : ℕ) → has n t ≡ true → bit_xor n (2 ^ t) ≡ n - 2 ^ t
+pub xor_clears : (n t : ℕ) → has n t ≡ true → bit_xor n (2 ^ t) ≡ n - 2 ^ t
 xor_clears n t e =
     omega (
       arith,
@@ -159,7 +169,7 @@ low_bits n (suc d) none =
 pub no_axis_lem : (n d : ℕ) → ((t : ℕ) → t < d → has n t ≡ false) → n < 2 ^ d → n ≡ 0
 no_axis_lem n d none small = sym (mod-eq_of_lt small) ∙ low_bits n d none
 
--- A byte with all of the first d bits.
+-- A byte with all of the first d bits, and none from there on.
 pub all_bits_in : (d t : ℕ) → t < d → has (2 ^ d - 1) t ≡ true
 unfolding has
 all_bits_in d t h =
@@ -169,3 +179,9 @@ all_bits_in d t h =
     (ap (λ (x : ℕ). x / 2 ^ t % 2) e
     ∙ ap (λ (x : ℕ). x % 2) (high (2 ^ suc k - 1) t (ones_lt t))
     ∙ omega (arith, pow-suc 2 k, pow_pos k))
+
+pub all_bits_out : (d t : ℕ) → d ≤ t → has (2 ^ d - 1) t ≡ false
+unfolding has
+all_bits_out d t h =
+    let small : 2 ^ d - 1 < 2 ^ t = omega (arith, pow_mono {i = d} {j = t} h, pow_pos d) in
+    ap (λ (x : ℕ). eqb (x % 2) 1) (div-eq_of_lt small)

@@ -5,7 +5,7 @@
 use Rattle.std.specs.Prelude.{None}
 use mathlib.Core.Bool.{Bool, true, false}
 use mathlib.Core.List.{List}
-use mathlib.Core.Path.{◌≡◌, ap, ◌∙◌}
+use mathlib.Core.Path.{◌≡◌, ap, sym, ◌∙◌}
 use Prim.Native.Nat.{ℕ, suc, ◌^◌, ◌≤◌, ◌<◌}
 use native.Mathlib.Nat.{pow-suc}
 use native.Mathlib.Omega.{arith}
@@ -18,10 +18,14 @@ use Rattle.numbering.proofs.Numbering.{points_is, start_mono}
 use Rattle.numbering.proofs.Subspaces.{first_is, number_from_first}
 use Rattle.numbering.proofs.Succession.{first_position}
 use Rattle.vectors.specs.declared.LevelVector.{LevelVector}
-use Rattle.vectors.specs.Steps.{NextVector}
+use Rattle.vectors.specs.Steps.{VectorIn, NextVector}
 use Rattle.points.specs.Steps.{PointIn}
 use Rattle.successor.specs.Steps.{StepsIndices, next_inner}
 use Rattle.successor.proofs.Reached.{reached, reaches, ended}
+
+-- The levels of a point in eight places are a level vector of their sum.
+pub vector_of : {d n : ℕ} {ls is : List ℕ} → PointIn d n ls is → (sum : ℕ) → sum ≡ sum_to (at ls) d → VectorIn d sum ls
+vector_of p sum e = record { long = p.long_levels; total = sym e; rest = p.no_level }
 
 module _ {d n : ℕ} {ls is js : List ℕ} {past : Bool} (p : PointIn d n ls is) (turned : StepsIndices d ls is past js) where
   pub next_index : past ≡ false → reached ls js ≡ next_inner d n (number d (at ls) (at is))

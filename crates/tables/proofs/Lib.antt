@@ -1,3 +1,4 @@
+pub mod Above
 pub mod Mapping
 pub mod Quotients
 pub mod Checking

@@ -1,15 +1,15 @@
 -- The decimal digits of the report are the text that the library makes of a number, and there are at most 20.
 -- Assumes nothing.
 use mathlib.Core.Path.{◌≡◌, refl, sym, ap}
-use mathlib.Core.Bool.{Bool, true, false}
+use mathlib.Core.Bool.{Bool, true, false, false≢true}
 use mathlib.Core.List.{List, [], ◌∷◌}
 use Prim.Native.Nat.{ℕ, zero, suc, ◌+◌, ◌/◌, ◌%◌, ◌^◌, ◌≤◌, ◌<◌}
 use native.Mathlib.Omega.{arith}
 use lib.Dec.{ltb}
-use lib.IntN.{ℤ, pos, negsuc}
+use lib.IntN.{ℤ, pos, negsuc, nat_abs}
 use lib.ListN.{length, length-append}
-use lib.Signed.{mag}
-use borrow.Author.Tests.{lt-ltb, le-ltb}
+use lib.Signed.{mag, lt_z}
+use borrow.Author.Tests.{lt-ltb, le-ltb, ltb-true}
 use Rattle.std.specs.Fmt as printed
 use Rattle.std.proofs.lemmas.Fmt.{AppendsLastDigit, decimal_from_appends, length-decimal-le}
 use Rattle.texts.specs.Text.{digit, digits_of, decimal, signed}
@@ -46,3 +46,14 @@ pub signed_length : (v : ℤ) → length (signed v) ≤ 21
 unfolding signed
 signed_length (pos n) = omega (arith, decimal_length n)
 signed_length (negsuc n) = omega (arith, decimal_length (suc n))
+
+-- The digits of a whole number are those of its distance from zero.
+pub signed_below : (v : ℤ) → lt_z v (pos 0) ≡ true → 45 ∷ decimal (nat_abs v) ≡ signed v
+unfolding signed
+signed_below (pos n) e = absurd (omega (arith, ltb-true n 0 e))
+signed_below (negsuc n) e = refl
+
+pub signed_not_below : (v : ℤ) → lt_z v (pos 0) ≡ false → decimal (nat_abs v) ≡ signed v
+unfolding signed
+signed_not_below (pos n) e = refl
+signed_not_below (negsuc n) e = absurd (false≢true (sym e))

@@ -4,7 +4,7 @@
 use mathlib.Core.Path.{◌≡◌, ap, ap₂, sym, ◌∙◌}
 use mathlib.Core.Bool.{Bool, true, false}
 use mathlib.Core.List.{List}
-use Prim.Native.Nat.{ℕ, ◌-◌}
+use Prim.Native.Nat.{ℕ, ◌-◌, ◌<◌}
 use lib.IntN.{ℤ}
 use lib.ListN.{length}
 use Rattle.std.specs.Prelude.{Ok, Err}
@@ -19,6 +19,8 @@ use Rattle.grids.specs.Turned.{turned_table, former_table}
 use Rattle.turns.specs.Turns.{is_accepted, check_turn, forward_turn, back_turn}
 use Rattle.turns.specs.Steps.{tried, tried_on, marked_as, turn_on}
 use Rattle.grids.proofs.Turned.{former_length}
+use Rattle.lists.specs.Steps.{OnAxis}
+use Rattle.turns.proofs.Checking.{MayTurn}
 use Rattle.turns.proofs.Accepting.{in_limits, before_refuses, after_refuses}
 use Rattle.turns.proofs.Trying.{forward_was_done, forward_was_refused, back_was_done, back_was_refused}
 use Rattle.turns.proofs.Undoing.{turned_of_former}
@@ -60,6 +62,10 @@ module _ (s : State) (xs : List ℤ) (axis : ℕ) where
         back_turn s xs axis ≡ after (Ok (cleared s (axis - 1))) (former_table s.shape (axis - 1) xs)
     unfolding back_turn
     back_done h a = rw (e, h, a)
+
+-- What the passed checks tell the steps of a turn, on any axis of the shape.
+pub on_axis : {s : State} {xs : List ℤ} {axis t : ℕ} → MayTurn s (length xs) axis → t < s.shape.axes → OnAxis s.shape t xs
+on_axis m place = record { few = m.range.high; low = m.range.top; place = place; long = m.long }
 
 -- ---- in either direction
 

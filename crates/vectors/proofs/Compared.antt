@@ -26,6 +26,15 @@ module _ (l m : ℕ → ℕ) (d : ℕ) where
   unfolding order_of_levels
   sum_decides r e unequal = unequal_decides (sum_to l d) (sum_to m d) (by_levels l m d Equal) r e unequal
 
+  -- So the smaller sum is the smaller vector's.
+  pub smaller_sum : sum_to l d < sum_to m d → order_of_levels d l m Equal ≡ Less
+  unfolding order_of_levels
+  smaller_sum h = by_less (sum_to l d) (sum_to m d) (by_levels l m d Equal) h
+
+  pub larger_sum : sum_to m d < sum_to l d → order_of_levels d l m Equal ≡ Greater
+  unfolding order_of_levels
+  larger_sum h = by_more (sum_to l d) (sum_to m d) (by_levels l m d Equal) h
+
   pub compared_starts : sum_to l d ≡ sum_to m d → Compared l m d d
   unfolding order_of_levels
   compared_starts e =
@@ -39,6 +48,13 @@ module _ {l m : ℕ → ℕ} {d t : ℕ} (state : Compared l m d t) (more : 0 < 
 
   pub level_decides : (r : Ordering) → r ≡ nat_cmp (l (t - 1)) (m (t - 1)) → (r ≡ Equal → ⊥) → order_of_levels d l m Equal ≡ r
   level_decides r e unequal = turned ∙ unequal_decides (l (t - 1)) (m (t - 1)) (by_levels l m (t - 1) Equal) r e unequal
+
+  -- So the smaller level on the last axis that decides is the smaller vector's.
+  pub smaller_level : l (t - 1) < m (t - 1) → order_of_levels d l m Equal ≡ Less
+  smaller_level h = turned ∙ by_less (l (t - 1)) (m (t - 1)) (by_levels l m (t - 1) Equal) h
+
+  pub larger_level : m (t - 1) < l (t - 1) → order_of_levels d l m Equal ≡ Greater
+  larger_level h = turned ∙ by_more (l (t - 1)) (m (t - 1)) (by_levels l m (t - 1) Equal) h
 
   pub compared_steps : l (t - 1) ≡ m (t - 1) → Compared l m d (t - 1)
   compared_steps e =

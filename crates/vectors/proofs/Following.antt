@@ -84,7 +84,7 @@ unfolding vectors_before
 before_is d l = refl
 
 module _ {d sum : ℕ} {ls : List ℕ} (here : VectorIn d sum ls) where
-  here_first : first_of d (at ls) ≡ start d sum + 2 ^ sum * rank (at ls) d
+  pub here_first : first_of d (at ls) ≡ start d sum + 2 ^ sum * rank (at ls) d
   here_first = first_is d (at ls) ∙ ap (λ (s : ℕ). start d s + 2 ^ s * rank (at ls) d) here.total
 
   here_before : vectors_before d (at ls) ≡ sum_to (vectors d) sum + rank (at ls) d

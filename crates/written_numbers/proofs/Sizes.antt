@@ -23,6 +23,11 @@ reached_so n bound h = rw (le-leb bound n h)
 reached_not : (n bound : ℕ) → n < bound → reached n bound ≡ 0
 reached_not n bound h = rw (lt-leb bound n h)
 
+-- A number counts once for each bound.
+pub reached_most : (n bound : ℕ) → reached n bound ≤ 1
+reached_most n bound =
+    le_or_lt bound n (λ h. omega (arith, reached_so n bound h)) (λ h. omega (arith, reached_not n bound h))
+
 -- What is left of a number reaches a bound where the number reaches 128 times as much.
 deeper : (n bound more : ℕ) → more ≡ 128 * bound → reached (n / 128) bound ≡ reached n more
 deeper n bound more is =
