@@ -106,9 +106,10 @@ fn turn<D: Turning>(state: State, table: &mut [i64], axis: u32) -> Result<State,
     if !integers::all_in_limit(table) {
         return Err(Refusal::Contents);
     }
+    let place = axis - 1;
     let line = Line {
         shape: state.shape,
-        place: axis - 1,
+        place,
     };
     if !try_on::<D>(line, table) {
         return Err(Refusal::Contents);

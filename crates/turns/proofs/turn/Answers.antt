@@ -55,13 +55,13 @@ returns-then-not-all_in_limit g c =
     (turn_past a.state a.table.now a.axis (passed g seen.In_ok-check_turn) (may g seen.In_ok-check_turn).long g.D.Direction.ahead (marks g seen.In_ok-marked)
     (sym c.all_in_limit.ensures ∙ c.if-not-all_in_limit.true))
 
-pub overflow_sub-line : goal.overflow_sub-line
-overflow_sub-line g c = (may g (goal.at.overflow_sub-line g c).In_ok-check_turn).first
+pub overflow_sub-place : goal.overflow_sub-place
+overflow_sub-place g c = (may g (goal.at.overflow_sub-place g c).In_ok-check_turn).first
 
 pub invariant_of-line : goal.invariant_of-line
 invariant_of-line g c =
     let m = may g (goal.at.invariant_of-line g c).In_ok-check_turn in
-    record { few = m.range.high; top = m.range.top; most = m.range.most; small = m.range.small; axis = place_of m }
+    record { few = m.range.high; top = m.range.top; most = m.range.most; small = m.range.small; axis = omega (arith, place_of m) }
 
 pub try_on-requires : goal.try_on-requires
 try_on-requires g c =
